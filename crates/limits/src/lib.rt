@@ -1,0 +1,76 @@
+// Every ceiling of document 01 ("Ceilings"), once, under its name. Code cites the constants; definitions cite the numerals of
+// specs/Ceilings; `Limits::agree` ties each constant to its numeral.
+ghost use mathlib.Core.Path.{_≡_};
+ghost use lib.IntN.{pos, negsuc};
+ghost use Rattle.limits.specs.Ceilings.{
+  modesMost,
+  arcsMost,
+  coloursMost,
+  boundMost,
+  productMost,
+  planMost,
+  weightLeast,
+  weightMost,
+  workWords,
+  workLevels,
+  planLevels,
+  programMost,
+};
+
+pub struct Limits;
+
+impl Limits {
+    // The most modes of a model: n is 1 to 64.
+    pub const MODES: u32 = 64;
+
+    // The most arcs of a model: m is 0 to 255.
+    pub const ARCS: usize = 255;
+
+    // The most colours of a model: k is 0 to 4.
+    pub const COLOURS: u32 = 4;
+
+    // The highest bound: b is 0 to 8,191.
+    pub const BOUND: u32 = 8191;
+
+    // The highest product n × (b + 1) that search takes.
+    pub const PRODUCT: u32 = 8192;
+
+    // The longest plan that judging takes.
+    pub const PLAN: usize = 65535;
+
+    // The least weight of an arc.
+    pub const WEIGHT_LEAST: i16 = -10000;
+
+    // The greatest weight of an arc.
+    pub const WEIGHT_MOST: i16 = 10000;
+
+    // Working space of search: 4 × (k + 1) × n × (b + 1) words. The words of one entry.
+    pub const WORK_WORDS: usize = 4;
+
+    // The levels of the working space beyond k.
+    pub const WORK_LEVELS: usize = 1;
+
+    // Plan buffer of search: (k + 2) × n × (b + 1) bytes. The levels of the plan buffer beyond k.
+    pub const PLAN_LEVELS: usize = 2;
+
+    // The highest (k + 1) × n × (b + 1) that the supplied program keeps space for.
+    pub const PROGRAM: u32 = 8192;
+
+    // Every constant is the numeral of specs/Ceilings: changing one side alone is refused.
+    pub fn agree() -> bool
+        ensures modes { λ _. do ⌜ (← ⟦Limits::MODES⟧ .entry) ≡ modesMost ⌝ }
+        ensures arcs { λ _. do ⌜ (← ⟦Limits::ARCS⟧ .entry) ≡ arcsMost ⌝ }
+        ensures colours { λ _. do ⌜ (← ⟦Limits::COLOURS⟧ .entry) ≡ coloursMost ⌝ }
+        ensures bound { λ _. do ⌜ (← ⟦Limits::BOUND⟧ .entry) ≡ boundMost ⌝ }
+        ensures product { λ _. do ⌜ (← ⟦Limits::PRODUCT⟧ .entry) ≡ productMost ⌝ }
+        ensures plan { λ _. do ⌜ (← ⟦Limits::PLAN⟧ .entry) ≡ planMost ⌝ }
+        ensures weight_least { λ _. do ⌜ (← ⟦Limits::WEIGHT_LEAST⟧ .entry) ≡ weightLeast ⌝ }
+        ensures weight_most { λ _. do ⌜ (← ⟦Limits::WEIGHT_MOST⟧ .entry) ≡ weightMost ⌝ }
+        ensures work_words { λ _. do ⌜ (← ⟦Limits::WORK_WORDS⟧ .entry) ≡ workWords ⌝ }
+        ensures work_levels { λ _. do ⌜ (← ⟦Limits::WORK_LEVELS⟧ .entry) ≡ workLevels ⌝ }
+        ensures plan_levels { λ _. do ⌜ (← ⟦Limits::PLAN_LEVELS⟧ .entry) ≡ planLevels ⌝ }
+        ensures program { λ _. do ⌜ (← ⟦Limits::PROGRAM⟧ .entry) ≡ programMost ⌝ }
+    {
+        true
+    }
+}

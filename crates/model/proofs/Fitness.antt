@@ -1,0 +1,217 @@
+-- What the verdicts mean: fitness is yes exactly for four equal lists and a fit model, levels exactly for c ≤ b ≤ 8,191; and the model that
+-- the code holds is the model of the lists. Assumes nothing.
+use mathlib.Core.Path.{_≡_, refl, sym, ap, _∙_}
+use mathlib.Core.Bool.{Bool, true, false, not, _||_}
+use mathlib.Core.List.{List, [], _∷_}
+use mathlib.Core.Logic.{_↔_}
+use Prim.Native.Nat.{ℕ, zero, suc, _+_, _-_, _^_, _≤_, _<_}
+use native.Mathlib.Omega.{arith}
+use lib.Dec.{T, leb, ltb, eqb}
+use lib.IntN.{ℤ}
+use lib.ListN.{length, getD, take}
+use lib.Signed.{ltZ, _≤ℤ_, ltZ-no, clashℤ, ltZ-yes}
+use borrow.Author.Tests.{ltb-false, leb-false, eqb-false, eqb-true, not-false, le-ltb, lt-leb, eq-eqb, ne-eqb}
+use Rattle.limits.specs.Ceilings.{modesMost, arcsMost, coloursMost, boundMost, weightLeast, weightMost}
+use Rattle.model.specs.declared.Arc.{Arc}
+use Rattle.model.specs.declared.Refusal.{Refusal}
+use Rattle.model.specs.declared.Refusal.the-variants.{UnfitArc, ModeCount, StartMode, ArcLists, ColourCount, Levels}
+use Rattle.model.specs.declared.Verdict.{Verdict}
+use Rattle.model.specs.declared.Verdict.the-variants.{Yes, Refused}
+use Rattle.model.specs.Automaton.{Automaton, noArc, arcAt}
+use Rattle.model.specs.Refusals.{refuse}
+use Rattle.model.specs.Lists.{Lists, arcsFrom, automatonOf, modelOf, blankModel, held}
+use Rattle.model.specs.Fitness.{unfitLists, header, unfitArc, arcsVerdict, andThen, fitness, fittedIf, fittedArcs, fittedOf, levelsOf, EqualLists, Header, ArcFits, Fit}
+use Rattle.model.proofs.Marks.{colours-below}
+use Rattle.model.proofs.Arcs.{arcs-length, arcs-take}
+
+clash : {X : Type 0} → _≡_ {A = ℕ} 0 1 → X
+clash e = absurd (omega arith)
+
+-- a row of the table that lets a call through
+pub refuse-yes : (t : Bool) (r : Refusal) (v : Verdict) → (refuse t r v ≡ Yes) ↔ ((t ≡ false) × (v ≡ Yes))
+refuse-yes true r v = (λ e. clash (cc), λ e. clash (cc))
+refuse-yes false r v = (λ e. (refl, e), λ e. e .1)
+
+pub and-then-yes : (u v : Verdict) → (andThen u v ≡ Yes) ↔ ((u ≡ Yes) × (v ≡ Yes))
+and-then-yes Yes v = (λ e. (refl, e), λ e. e .1)
+and-then-yes (Refused r) v = (λ e. clash (cc), λ e. clash (cc))
+
+or-no : (s t : Bool) → ((s || t) ≡ false) ↔ ((s ≡ false) × (t ≡ false))
+or-no true t = (λ e. clash (cc), λ e. clash (cc))
+or-no false t = (λ e. (refl, e), λ e. e .1)
+
+lt-no : (m n : ℕ) → (ltb m n ≡ false) ↔ (n ≤ m)
+lt-no m n = (ltb-false m n, le-ltb m n)
+
+le-no : (m n : ℕ) → (leb m n ≡ false) ↔ (n < m)
+le-no m n = (leb-false m n, lt-leb m n)
+
+differ-no : (m n : ℕ) → (not (eqb m n) ≡ false) ↔ (m ≡ n)
+differ-no m n = (λ e. eqb-true m n (not-false (eqb m n) e), λ e. rw (eq-eqb m n e) refl)
+
+ltZ-false : (a b : ℤ) → (ltZ a b ≡ false) ↔ (b ≤ℤ a)
+ltZ-false a b = (λ e. ltZ-no (rw e tt), λ h. go (ltZ a b) refl h)
+  where
+    go : (t : Bool) → ltZ a b ≡ t → b ≤ℤ a → ltZ a b ≡ false
+    go true e h = clashℤ (ltZ-yes (rw e tt)) h
+    go false e h = e
+
+-- none of four, none of five
+or4-no : (a b c d : Bool) → ((a || b || c || d) ≡ false) ↔ ((a ≡ false) × (b ≡ false) × (c ≡ false) × (d ≡ false))
+or4-no false false false d = (λ e. (refl, refl, refl, e), λ e. e .3)
+or4-no true b c d = (λ e. clash (cc), λ e. clash (cc))
+or4-no false true c d = (λ e. clash (cc), λ e. clash (cc))
+or4-no false false true d = (λ e. clash (cc), λ e. clash (cc))
+
+or5-no : (a b c d e : Bool) → ((a || b || c || d || e) ≡ false) ↔ ((a ≡ false) × (b ≡ false) × (c ≡ false) × (d ≡ false) × (e ≡ false))
+or5-no a b c d e = (
+  λ q. let r = or-no (a || b || c || d) e .0 q in let t = or4-no a b c d .0 (r .0) in (t .0, t .1, t .2, t .3, r .1),
+  λ t. or-no (a || b || c || d) e .1 (or4-no a b c d .1 (t .0, t .1, t .2, t .3), t .4),
+)
+
+-- an arc that is not unfit
+pub unfit-no : (n k : ℕ) (a : Arc) → (unfitArc n (2 ^ k) a ≡ false) ↔ ArcFits n k a
+unfolding unfitArc
+unfit-no n k a =
+    let five = or5-no (leb n (a .source)) (leb n (a .target)) (ltZ (a .weight) weightLeast) (ltZ weightMost (a .weight)) (leb (2 ^ k) (a .colours)) in (
+      λ e.
+          let t = five .0 e in
+          record {
+            source = le-no n (a .source) .0 (t .0);
+            target = le-no n (a .target) .0 (t .1);
+            weight-least = ltZ-false (a .weight) weightLeast .0 (t .2);
+            weight-most = ltZ-false weightMost (a .weight) .0 (t .3);
+            colours = colours-below (a .colours) k .0 (le-no (2 ^ k) (a .colours) .0 (t .4));
+          },
+      λ f.
+          five .1 (
+            le-no n (a .source) .1 (f .source),
+            le-no n (a .target) .1 (f .target),
+            ltZ-false (a .weight) weightLeast .1 (f .weight-least),
+            ltZ-false weightMost (a .weight) .1 (f .weight-most),
+            le-no (2 ^ k) (a .colours) .1 (colours-below (a .colours) k .1 (f .colours)),
+          ),
+    )
+
+-- none of 1 to 4 applies
+pub header-yes : (n s k : ℕ) (l : Lists)
+    → (header n s k (length (l .sources)) (length (l .targets)) (length (l .weights)) (length (l .colours)) ≡ Yes) ↔ Header n s k l
+unfolding header unfitLists
+header-yes n s k l =
+    let m = length (l .sources) in
+    let four = or4-no (not (eqb (length (l .targets)) m)) (not (eqb (length (l .weights)) m)) (not (eqb (length (l .colours)) m)) (ltb arcsMost m) in (
+      λ e.
+          let r1 = refuse-yes (eqb n 0 || ltb modesMost n) ModeCount _ .0 e in
+          let o1 = or-no (eqb n 0) (ltb modesMost n) .0 (r1 .0) in
+          let r2 = refuse-yes (leb n s) StartMode _ .0 (r1 .1) in
+          let r3 = refuse-yes _ ArcLists _ .0 (r2 .1) in
+          let o3 = four .0 (r3 .0) in
+          let r4 = refuse-yes (ltb coloursMost k) ColourCount _ .0 (r3 .1) in
+          record {
+            some-mode = omega (arith, eqb-false n 0 (o1 .0));
+            few-modes = lt-no modesMost n .0 (o1 .1);
+            starts = le-no n s .0 (r2 .0);
+            equal =
+                record {
+                  targets = differ-no (length (l .targets)) m .0 (o3 .0);
+                  weights = differ-no (length (l .weights)) m .0 (o3 .1);
+                  colours = differ-no (length (l .colours)) m .0 (o3 .2);
+                };
+            few-arcs = lt-no arcsMost m .0 (o3 .3);
+            few-colours = lt-no coloursMost k .0 (r4 .0);
+          },
+      λ h.
+          refuse-yes (eqb n 0 || ltb modesMost n) ModeCount _ .1 (
+            or-no (eqb n 0) (ltb modesMost n) .1 (ne-eqb n 0 (λ z. omega (arith, h .some-mode)), lt-no modesMost n .1 (h .few-modes)),
+            refuse-yes (leb n s) StartMode _ .1 (
+              le-no n s .1 (h .starts),
+              refuse-yes _ ArcLists _ .1 (
+                four .1 (
+                  differ-no (length (l .targets)) m .1 (h .equal .targets),
+                  differ-no (length (l .weights)) m .1 (h .equal .weights),
+                  differ-no (length (l .colours)) m .1 (h .equal .colours),
+                  lt-no arcsMost m .1 (h .few-arcs),
+                ),
+                refuse-yes (ltb coloursMost k) ColourCount Yes .1 (lt-no coloursMost k .1 (h .few-colours), refl),
+              ),
+            ),
+          ),
+    )
+
+-- 5 does not apply: no arc of the list is unfit
+pub arcs-yes : (n marks : ℕ) (l : List Arc) (i : ℕ) → (arcsVerdict n marks l i ≡ Yes)
+    ↔ ((a : ℕ) → a < length l → unfitArc n marks (getD l a noArc) ≡ false)
+unfolding arcsVerdict
+arcs-yes n marks [] i = (λ e a h. absurd (omega arith), λ f. refl)
+arcs-yes n marks (x ∷ l) i =
+    let ih = arcs-yes n marks l (suc i) in
+    let row = refuse-yes (unfitArc n marks x) (UnfitArc i) (arcsVerdict n marks l (suc i)) in
+    (λ e. each (row .0 e .0) (ih .0 (row .0 e .1)), λ f. row .1 (f 0 (omega arith), ih .1 (λ a h. f (suc a) (omega arith))))
+  where
+    each : unfitArc n marks x ≡ false → ((a : ℕ) → a < length l → unfitArc n marks (getD l a noArc) ≡ false)
+        → (a : ℕ) → a < length (x ∷ l) → unfitArc n marks (getD (x ∷ l) a noArc) ≡ false
+    each e f zero h = e
+    each e f (suc a) h = f a (omega arith)
+
+-- the verdict is yes exactly for four equal lists and a fit model
+pub fitness-yes : (n s k : ℕ) (l : Lists) → (fitness n s k l ≡ Yes) ↔ (EqualLists l × Fit (automatonOf n s k l))
+unfolding fitness
+fitness-yes n s k l =
+    let arcs = arcsFrom l (length (l .sources)) 0 in
+    let both = and-then-yes (header n s k (length (l .sources)) (length (l .targets)) (length (l .weights)) (length (l .colours))) (arcsVerdict n (2 ^ k) arcs 0) in (
+      λ e.
+          let h = header-yes n s k l .0 (both .0 e .0) in
+          let f = arcs-yes n (2 ^ k) arcs 0 .0 (both .0 e .1) in (
+            h .equal,
+            record {
+              some-mode = h .some-mode;
+              few-modes = h .few-modes;
+              starts = h .starts;
+              few-arcs = omega (arith, h .few-arcs, arcs-length l (length (l .sources)) 0);
+              few-colours = h .few-colours;
+              arcs-fit = λ a q. unfit-no n k (getD arcs a noArc) .0 (f a q);
+            },
+          ),
+      λ (equal, f).
+          both .1 (
+            header-yes n s k l .1 (record {
+              some-mode = f .some-mode;
+              few-modes = f .few-modes;
+              starts = f .starts;
+              equal = equal;
+              few-arcs = omega (arith, f .few-arcs, arcs-length l (length (l .sources)) 0);
+              few-colours = f .few-colours;
+            }),
+            arcs-yes n (2 ^ k) arcs 0 .1 (λ a q. unfit-no n k (getD arcs a noArc) .1 (f .arcs-fit a q)),
+          ),
+    )
+
+-- the model that the code holds is the model of the lists
+pub held-model : (n s k : ℕ) (l : Lists) → length (l .sources) ≤ arcsMost → held (modelOf n s k l) ≡ automatonOf n s k l
+held-model n s k l h =
+    let e : length (l .sources) + (arcsMost - length (l .sources)) ≡ arcsMost = omega arith in
+    let q = arcs-take l (length (l .sources)) (arcsMost - length (l .sources)) 0 in
+    ap {B = Automaton} (λ x. record { modes = n; start = s; colours = k; arcs = x }) (rw e at q)
+
+-- 6 does not apply exactly where c is at most b, and b at most 8,191
+pub levels-yes : (c b : ℕ) → (levelsOf c b ≡ Yes) ↔ ((b ≤ boundMost) × (c ≤ b))
+unfolding levelsOf
+levels-yes c b =
+    let row = refuse-yes (ltb boundMost b || ltb b c) Levels Yes in
+    let two = or-no (ltb boundMost b) (ltb b c) in (
+      λ e. let t = two .0 (row .0 e .0) in (lt-no boundMost b .0 (t .0), lt-no b c .0 (t .1)),
+      λ h. row .1 (two .1 (lt-no boundMost b .1 (h .0), lt-no b c .1 (h .1)), refl),
+    )
+
+-- what is handed back, by the verdict on 1 to 4
+module _ (n s k : ℕ) (l : Lists) where
+  pub fitted-through : header n s k (length (l .sources)) (length (l .targets)) (length (l .weights)) (length (l .colours)) ≡ Yes
+      → fittedArcs n s k l ≡ fittedOf n s k l
+  unfolding fittedOf fitness
+  fitted-through e = rw e refl
+
+  pub fitted-stopped : (r : Refusal)
+      → header n s k (length (l .sources)) (length (l .targets)) (length (l .weights)) (length (l .colours)) ≡ Refused r
+      → fittedIf (Refused r) blankModel ≡ fittedOf n s k l
+  unfolding fittedOf fitness
+  fitted-stopped r e = rw e refl

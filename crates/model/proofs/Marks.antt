@@ -1,0 +1,45 @@
+-- Colour bytes: powers of two as the code makes them, and what it means that a byte has no bit at or above k. Assumes nothing.
+use mathlib.Core.Path.{_≡_, refl, sym, ap, _∙_}
+use mathlib.Core.Bool.{false}
+use mathlib.Core.Logic.{_↔_}
+use Prim.Native.Nat.{ℕ, zero, suc, _+_, _*_, _/_, _%_, _^_, _≤_, _<_}
+use native.Mathlib.Nat.{one-mul, mul-comm, add-zero, add-suc, two-pow-succ, one-le-pow, pow-le-pow-right, div-eq-of-lt, div-lt-iff-lt-mul}
+use native.Mathlib.Omega.{arith}
+use lib.Dec.{lit<}
+use lib.Pow.{shl-exact}
+use borrow.Author.Tests.{eqb-false, ne-eqb}
+use Rattle.model.specs.Automaton.{bit}
+
+-- 1 shifted within a word of 32 bits
+pub one-shl : (k : ℕ) → k ≤ 31 → 1 * 2 ^ k % 4294967296 ≡ 2 ^ k
+one-shl k h = shl-exact 1 k 32 (lit< tt) (omega arith) ∙ one-mul (2 ^ k)
+
+pow-pos : (k : ℕ) → 0 < 2 ^ k
+pow-pos k = one-le-pow k 2 (omega arith)
+
+below-pow : (x : ℕ) → x < 2 ^ x
+below-pow zero = pow-pos 0
+below-pow (suc x) = omega (arith, below-pow x, two-pow-succ x)
+
+-- a number below 2 ^ (j + 1) without bit j is below 2 ^ j
+top-bit : (x j : ℕ) → x < 2 ^ suc j → bit x j ≡ false → x < 2 ^ j
+top-bit x j h q =
+    let two : x / 2 ^ j < 2 = div-lt-iff-lt-mul (pow-pos j) .1 (omega (arith, two-pow-succ j)) in
+    let none : x / 2 ^ j < 1 = omega (arith, eqb-false (x / 2 ^ j % 2) 1 q) in
+    omega (arith, div-lt-iff-lt-mul {x = x} (pow-pos j) .0 none)
+
+cleared : (x k d : ℕ) → x < 2 ^ (k + d) → ((j : ℕ) → k ≤ j → bit x j ≡ false) → x < 2 ^ k
+cleared x k zero h f = rw (add-zero k) at h
+cleared x k (suc d) h f = cleared x k d (top-bit x (k + d) (rw (add-suc k d) at h) (f (k + d) (omega arith))) f
+
+-- no bit at or above k: below 2 ^ k
+pub colours-below : (x k : ℕ) → (x < 2 ^ k) ↔ ((j : ℕ) → k ≤ j → bit x j ≡ false)
+colours-below x k = (to, from)
+  where
+    to : x < 2 ^ k → (j : ℕ) → k ≤ j → bit x j ≡ false
+    to h j q =
+        let z : x / 2 ^ j ≡ 0 = div-eq-of-lt (omega (arith, h, pow-le-pow-right {n = 2} (omega arith) q)) in
+        rw z refl
+
+    from : ((j : ℕ) → k ≤ j → bit x j ≡ false) → x < 2 ^ k
+    from f = cleared x k x (omega (arith, below-pow x, pow-le-pow-right {n = 2} (omega arith) {i = x} {j = k + x} (omega arith))) f

@@ -1,0 +1,74 @@
+-- What the definitions of feasible and accepted come to: two rounds decide the first, and the second is document 001's acceptance of the
+-- infinite run. Assumes nothing.
+use mathlib.Core.Path.{_≡_, refl, sym, ap, _∙_, subst}
+use mathlib.Core.List.{List, [], _∷_, _++_, map, map-append, append-nil, append-assoc}
+use mathlib.Core.Logic.{_↔_}
+use Prim.Native.Nat.{ℕ, zero, suc, _+_, _≤_, _<_}
+use native.Mathlib.Omega.{arith}
+use lib.IntN.{ℤ}
+use lib.ListN.{length, drop, length-append}
+use lib.Seq.{drop-append-le, drop-append-seam}
+use Rattle.walks.specs.declared.Step.{Step}
+use Rattle.walks.specs.declared.Step.the-variants.{To, Impossible}
+use Rattle.walks.specs.Walk.{onward, walked, IsPossible, RoundsHold, times}
+use Rattle.walks.specs.Moves.{moveOf}
+use Rattle.walks.proofs.Weights.{walked-append, walked-to, map-times}
+use Rattle.walks.proofs.Charges.{charge-bound}
+use Rattle.walks.proofs.Rounds.{rounds-hold}
+use Rattle.model.specs.Automaton.{Automaton, arcAt, meets, weights}
+use Rattle.model.specs.Plans.{Plan, Feasible, SomeArc, Meets, Accepted}
+use Rattle.model.proofs.SomeArc.{some-right, some-times}
+
+module _ (g : Automaton) (b c : ℕ) (p : Plan) where
+  -- the walk of a plan with its cycle r times over is the walk of the prefix, and then that of the cycle repeated
+  plan-walked : (r : ℕ) → walked b (weights g (p .prefix ++ times r (p .cycle))) c
+      ≡ onward (walked b (weights g (p .prefix)) c) (walked b (times r (weights g (p .cycle))))
+  plan-walked r =
+      let arc : ℕ → ℤ = λ a. arcAt g a .weight in
+      ap (λ (l : List ℤ). walked b l c)
+      (map-append arc (p .prefix) (times r (p .cycle)) ∙ ap {B = List ℤ} (λ l. weights g (p .prefix) ++ l) (map-times arc r (p .cycle)))
+      ∙ walked-append b (weights g (p .prefix)) (times r (weights g (p .cycle))) c
+
+  -- feasible: the prefix ends at some charge e, from which the first round ends no lower than it began, or the second does
+  pub feasible-rounds : c ≤ b → Feasible g b c p ↔ ((e : ℕ) × (walked b (weights g (p .prefix)) c ≡ To e) × RoundsHold b (weights g (p .cycle)) e)
+  feasible-rounds h = (λ f. to (walked b (weights g (p .prefix)) c) refl (λ r. subst IsPossible (plan-walked r) (f r)), from)
+    where
+      bounded : (e : ℕ) → walked b (weights g (p .prefix)) c ≡ To e → e ≤ b
+      bounded e q = omega (arith, walked-to b (weights g (p .prefix)) c e q .1, charge-bound b (map moveOf (weights g (p .prefix))) c h)
+
+      to : (s : Step) → walked b (weights g (p .prefix)) c ≡ s
+          → ((r : ℕ) → IsPossible (onward (walked b (weights g (p .prefix)) c) (walked b (times r (weights g (p .cycle))))))
+          → (e : ℕ) × (walked b (weights g (p .prefix)) c ≡ To e) × RoundsHold b (weights g (p .cycle)) e
+      to (To e) q f = (e, q, rounds-hold b (weights g (p .cycle)) e (bounded e q) .0 (λ r. rw q at (f r)))
+      to Impossible q f = absurd (rw q at (f 0))
+
+      from : ((e : ℕ) × (walked b (weights g (p .prefix)) c ≡ To e) × RoundsHold b (weights g (p .cycle)) e) → Feasible g b c p
+      from (e, q, k) r = subst IsPossible (sym (plan-walked r)) (rw q (rounds-hold b (weights g (p .cycle)) e (bounded e q) .1 k r))
+
+-- the list repeated r times has at least r arcs, where it has one
+times-length : (w : List ℕ) → 0 < length w → (r : ℕ) → r ≤ length (times r w)
+times-length w h zero = omega arith
+times-length w h (suc r) = omega (arith, times-length w h r, length-append w (times r w))
+
+-- one more repetition stands at the end too
+times-last : (r : ℕ) (w : List ℕ) → times (suc r) w ≡ times r w ++ w
+times-last zero w = append-nil w
+times-last (suc r) w = ap {B = List ℕ} (λ l. w ++ l) (times-last r w) ∙ sym (append-assoc w (times r w) w)
+
+-- Accepted is document 001's acceptance: "all colors in M are seen infinitely often along" the run. After any n steps of the run, every
+-- colour is met again.
+pub accepted-buchi : (g : Automaton) (p : Plan) → 0 < length (p .cycle) → Accepted g p
+    ↔ ((j : ℕ) → j < g .colours → (n : ℕ) → (r : ℕ) × Meets g j (drop n (p .prefix ++ times r (p .cycle))))
+accepted-buchi g p h = (λ a j q n. (suc n, again j n (a j q)), λ f j q. once j (f j q (length (p .prefix))))
+  where
+    again : (j n : ℕ) → Meets g j (p .cycle) → Meets g j (drop n (p .prefix ++ times (suc n) (p .cycle)))
+    again j n m =
+        let u = p .prefix ++ times n (p .cycle) in
+        let e : p .prefix ++ times (suc n) (p .cycle) ≡ u ++ p .cycle =
+        ap {B = List ℕ} (λ l. p .prefix ++ l) (times-last n (p .cycle)) ∙ sym (append-assoc (p .prefix) (times n (p .cycle)) (p .cycle))
+        in
+        let long : n ≤ length u = omega (arith, times-length (p .cycle) h n, length-append (p .prefix) (times n (p .cycle))) in
+        rw (e, drop-append-le n u (p .cycle) long) (some-right (meets g j) (drop n u) (p .cycle) m)
+
+    once : (j : ℕ) → (r : ℕ) × Meets g j (drop (length (p .prefix)) (p .prefix ++ times r (p .cycle))) → Meets g j (p .cycle)
+    once j (r, m) = some-times (meets g j) r (p .cycle) (rw (drop-append-seam (p .prefix) (times r (p .cycle))) at m)

@@ -1,0 +1,46 @@
+-- `model::check_model` meets its contract: the verdict on 1 to 4 decides who answers. Assumes nothing.
+use mathlib.Core.Path.{sym, _∙_}
+use borrow.Author.Needs.{needs}
+use Rattle.model.specs.Lists.{lists}
+use Rattle.model.proofs.Fitness.{header-yes, fitted-through, fitted-stopped}
+use Rattle.model.proofs.check_model.Statement.{statement}
+use Rattle.model.proofs.check_model.Tie as tie
+
+check-header-requires : tie.Need-check-header-requires
+check-header-requires c κs = search needs
+
+enum-told : tie.Need-enum-told
+enum-told c = search needs
+
+check-arcs-requires : tie.Need-check-arcs-requires
+check-arcs-requires c κs =
+    let d = c .before .before in
+    let a = d .before .before .before .before .args in
+    header-yes (a .n) (a .start) (a .k) (lists (a .sources .now) (a .targets .now) (a .weights .now) (a .colours .now)) .0
+    (sym (d .check-header .ensures) ∙ c .enum-told .given .1)
+
+enum-known-header : tie.Need-enum-known-header
+enum-known-header c = search needs
+
+refused-requires : tie.Need-refused-requires
+refused-requires c κs = search needs
+
+returns : tie.Need-returns
+returns c =
+    let d = c .before .before .before in
+    let a = d .before .before .before .before .args in
+    c .check-arcs .ensures
+    ∙ fitted-through (a .n) (a .start) (a .k) (lists (a .sources .now) (a .targets .now) (a .weights .now) (a .colours .now))
+    (sym (d .check-header .ensures) ∙ c .before .enum-told .given .1)
+
+returns-2 : tie.Need-returns-2
+returns-2 c =
+    let d = c .before .before .before .before in
+    let a = d .before .before .before .before .args in
+    c .refused .ensures
+    ∙ fitted-stopped (a .n) (a .start) (a .k) (lists (a .sources .now) (a .targets .now) (a .weights .now) (a .colours .now)) _
+    (sym (d .check-header .ensures) ∙ c .before .before .header .given .1)
+
+pub check-model-spec : {M : Type 1} → statement M
+check-model-spec =
+    tie.close (tie.spec check-header-requires enum-told check-arcs-requires enum-known-header refused-requires returns returns-2)

@@ -1,0 +1,57 @@
+-- `model::unfit_arc` meets its contract: each way out is one of the tests, after those before it. Assumes nothing.
+use borrow.Author.Needs.{needs}
+use borrow.Author.Tests.{le-leb, lt-leb}
+use mir.Facts.{toZ-ofZ}
+use mir.Syntax.{w16}
+use Rattle.model.specs.Fitness.{unfitArc}
+use Rattle.model.proofs.unfit_arc.Statement.{statement}
+use Rattle.model.proofs.unfit_arc.Tie as tie
+
+cast-if1 : tie.Need-cast-if1
+cast-if1 c = search needs
+
+returns : tie.Need-returns
+unfolding unfitArc
+returns c = simp (le-leb _ _ (c .if1 .taken))
+
+cast-if2 : tie.Need-cast-if2
+cast-if2 c = search needs
+
+returns-2 : tie.Need-returns-2
+unfolding unfitArc
+returns-2 c = simp (lt-leb _ _ (c .before .before .if1 .left), le-leb _ _ (c .if2 .taken))
+
+returns-3 : tie.Need-returns-3
+unfolding unfitArc
+returns-3 c =
+    let d = c .before .before .before in
+    let told = d .before .before .struct-told .given in
+    let back = toZ-ofZ {w = w16} {z = d .before .before .before .args .arc .weight} (record { sfits = told .1 .1 .0 .1 }) in
+    simp (lt-leb _ _ (d .if1 .left), lt-leb _ _ (c .before .if2 .left), simp back at (c .if3 .taken))
+
+returns-4 : tie.Need-returns-4
+unfolding unfitArc
+returns-4 c =
+    let d = c .before .before .before .before in
+    let told = d .before .before .struct-told .given in
+    let back = toZ-ofZ {w = w16} {z = d .before .before .before .args .arc .weight} (record { sfits = told .1 .1 .0 .1 }) in
+    simp (lt-leb _ _ (d .if1 .left), lt-leb _ _ (c .before .before .if2 .left), simp back at (c .before .if3 .left), simp back at (c .if4 .taken))
+
+cast-result : tie.Need-cast-result
+cast-result c = search needs
+
+returns-5 : tie.Need-returns-5
+unfolding unfitArc
+returns-5 c =
+    let d = c .before .before .before .before .before in
+    let told = d .before .before .struct-told .given in
+    let back = toZ-ofZ {w = w16} {z = d .before .before .before .args .arc .weight} (record { sfits = told .1 .1 .0 .1 }) in
+    simp (
+      lt-leb _ _ (d .if1 .left),
+      lt-leb _ _ (c .before .before .before .if2 .left),
+      simp back at (c .before .before .if3 .left),
+      simp back at (c .before .if4 .left),
+    )
+
+pub unfit-arc-spec : {M : Type 1} → statement M
+unfit-arc-spec = tie.close (tie.spec cast-if1 returns cast-if2 returns-2 returns-3 returns-4 cast-result returns-5)

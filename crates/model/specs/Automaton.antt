@@ -1,0 +1,36 @@
+-- The model. Document 01, "The model and the charge": "A model has n modes, 0 to n−1, a start mode, k colours (duties), and m arcs, numbered
+-- from 0 in the order given." Document 001, Definition 2.1: a weighted, transition-based, generalised Büchi automaton.
+use Prim.Native.Nat.{ℕ, _/_, _%_, _^_}
+use mathlib.Core.Bool.{Bool}
+use mathlib.Core.List.{List, map}
+use lib.Dec.{eqb}
+use lib.IntN.{ℤ, pos}
+use lib.ListN.{length, getD}
+use Rattle.model.specs.declared.Arc.{Arc}
+
+-- modes: document 01's n; colours: its k; arcs: the m arcs, in the order given
+pub record Automaton : Type 0 where
+  pub modes : ℕ
+  pub start : ℕ
+  pub colours : ℕ
+  pub arcs : List Arc
+
+-- what stands for an arc that is not there
+abbrev pub noArc : Arc
+noArc = record { source = 0; target = 0; weight = pos 0; colours = 0 }
+
+-- the arc with number a
+abbrev pub arcAt : Automaton → ℕ → Arc
+arcAt g a = getD (g .arcs) a noArc
+
+-- bit j of a number
+abbrev pub bit : ℕ → ℕ → Bool
+bit x j = eqb (x / 2 ^ j % 2) 1
+
+-- "a colour byte whose bit j (j below k) says that the arc meets colour j"
+abbrev pub meets : Automaton → ℕ → ℕ → Bool
+meets g j a = bit (arcAt g a .colours) j
+
+-- the weights of the arcs with these numbers
+abbrev pub weights : Automaton → List ℕ → List ℤ
+weights g w = map (λ a. arcAt g a .weight) w

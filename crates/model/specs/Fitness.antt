@@ -1,0 +1,101 @@
+-- Fitness, refusals 1 to 5, and levels, refusal 6. Document 01, "Where each call stops", rows "model" and "levels".
+use Prim.Native.Nat.{ℕ, suc, _≤_, _<_, _^_}
+use mathlib.Core.Bool.{Bool, true, false, not, _||_}
+use mathlib.Core.List.{List, [], _∷_}
+use mathlib.Core.Path.{_≡_}
+use lib.Dec.{leb, ltb, eqb}
+use lib.ListN.{length}
+use lib.Signed.{ltZ, _≤ℤ_}
+use Rattle.limits.specs.Ceilings.{modesMost, arcsMost, coloursMost, boundMost, weightLeast, weightMost}
+use Rattle.model.specs.declared.Arc.{Arc}
+use Rattle.model.specs.declared.Model.{Model}
+use Rattle.model.specs.declared.Fitted.{Fitted}
+use Rattle.model.specs.declared.Refusal.the-variants.{ModeCount, StartMode, ArcLists, ColourCount, UnfitArc, Levels}
+use Rattle.model.specs.declared.Verdict.{Verdict}
+use Rattle.model.specs.declared.Verdict.the-variants.{Yes, Refused}
+use Rattle.model.specs.Refusals.{refuse}
+use Rattle.model.specs.Automaton.{Automaton, arcAt, bit}
+use Rattle.model.specs.Lists.{Lists, arcsFrom, modelOf, blankModel}
+
+-- "arc lists unequal or longer than 255", by the lengths of the four
+unfoldable pub unfitLists : ℕ → ℕ → ℕ → ℕ → Bool
+unfitLists sources targets weights colours =
+    not (eqb targets sources) || not (eqb weights sources) || not (eqb colours sources) || ltb arcsMost sources
+
+-- 1 to 4, by the numbers and the lengths of the four lists
+unfoldable pub header : ℕ → ℕ → ℕ → ℕ → ℕ → ℕ → ℕ → Verdict
+header n s k sources targets weights colours =
+    refuse (eqb n 0 || ltb modesMost n) ModeCount
+    (refuse (leb n s) StartMode
+    (refuse (unfitLists sources targets weights colours) ArcLists
+    (refuse (ltb coloursMost k) ColourCount
+    Yes)))
+
+-- "an arc's source or target not below n, weight outside its range, or a colour bit at or above k". A byte has a bit at or above k where
+-- it is at least marks, 2 ^ k: the law colours-below.
+unfoldable pub unfitArc : ℕ → ℕ → Arc → Bool
+unfitArc n marks a =
+    leb n (a .source) || leb n (a .target) || ltZ (a .weight) weightLeast || ltZ weightMost (a .weight) || leb marks (a .colours)
+
+-- 5, with the lowest such arc; the list's first arc has the number i
+unfoldable pub arcsVerdict : ℕ → ℕ → List Arc → ℕ → Verdict
+arcsVerdict n marks [] i = Yes
+arcsVerdict n marks (a ∷ l) i = refuse (unfitArc n marks a) (UnfitArc i) (arcsVerdict n marks l (suc i))
+
+abbrev pub andThen : Verdict → Verdict → Verdict
+andThen Yes v = v
+andThen (Refused r) v = Refused r
+
+-- 1 to 5, for any numbers and lists
+unfoldable pub fitness : ℕ → ℕ → ℕ → Lists → Verdict
+fitness n s k l =
+    andThen (header n s k (length (l .sources)) (length (l .targets)) (length (l .weights)) (length (l .colours)))
+    (arcsVerdict n (2 ^ k) (arcsFrom l (length (l .sources)) 0) 0)
+
+-- what the code hands back: the verdict, with the model where it is yes and a blank one where it is not
+abbrev pub fittedIf : Verdict → Model → Fitted
+fittedIf Yes g = record { verdict = Yes; model = g }
+fittedIf (Refused r) g = record { verdict = Refused r; model = blankModel }
+
+unfoldable pub fittedOf : ℕ → ℕ → ℕ → Lists → Fitted
+fittedOf n s k l = fittedIf (fitness n s k l) (modelOf n s k l)
+
+-- the same where 1 to 4 let the model through
+abbrev pub fittedArcs : ℕ → ℕ → ℕ → Lists → Fitted
+fittedArcs n s k l = fittedIf (arcsVerdict n (2 ^ k) (arcsFrom l (length (l .sources)) 0) 0) (modelOf n s k l)
+
+-- 6: "b above 8,191, or c above b"
+unfoldable pub levelsOf : ℕ → ℕ → Verdict
+levelsOf c b = refuse (ltb boundMost b || ltb b c) Levels Yes
+
+-- What is fit, as facts. "Arcs come as four lent lists of equal length."
+pub record EqualLists (l : Lists) : Type 0 where
+  pub targets : length (l .targets) ≡ length (l .sources)
+  pub weights : length (l .weights) ≡ length (l .sources)
+  pub colours : length (l .colours) ≡ length (l .sources)
+
+-- none of 1 to 4 applies
+pub record Header (n s k : ℕ) (l : Lists) : Type 0 where
+  pub some-mode : 0 < n
+  pub few-modes : n ≤ modesMost
+  pub starts : s < n
+  pub equal : EqualLists l
+  pub few-arcs : length (l .sources) ≤ arcsMost
+  pub few-colours : k ≤ coloursMost
+
+-- 5 does not apply to an arc
+pub record ArcFits (n k : ℕ) (a : Arc) : Type 0 where
+  pub source : a .source < n
+  pub target : a .target < n
+  pub weight-least : weightLeast ≤ℤ a .weight
+  pub weight-most : a .weight ≤ℤ weightMost
+  pub colours : (j : ℕ) → k ≤ j → bit (a .colours) j ≡ false
+
+-- "A model is fit where none of the numbers 1 to 5 below applies to it." (Theorem fitness-yes.)
+pub record Fit (g : Automaton) : Type 0 where
+  pub some-mode : 0 < g .modes
+  pub few-modes : g .modes ≤ modesMost
+  pub starts : g .start < g .modes
+  pub few-arcs : length (g .arcs) ≤ arcsMost
+  pub few-colours : g .colours ≤ coloursMost
+  pub arcs-fit : (a : ℕ) → a < length (g .arcs) → ArcFits (g .modes) (g .colours) (arcAt g a)

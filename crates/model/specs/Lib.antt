@@ -1,0 +1,6 @@
+-- What a reader must believe of models and plans.
+pub mod Refusals
+pub mod Automaton
+pub mod Lists
+pub mod Fitness
+pub mod Plans

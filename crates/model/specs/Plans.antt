@@ -1,0 +1,53 @@
+-- Plans. Document 01, "The model and the charge": plan, feasible, accepted. "In 'a plan of any length' p and q are whole numbers without a
+-- ceiling."
+use Prim.Native.Nat.{ℕ, _<_}
+use mathlib.Core.Path.{_≡_}
+use mathlib.Core.Bool.{Bool, true}
+use mathlib.Core.List.{List, [], _∷_, _++_}
+use mathlib.Core.Logic.{_⊎_}
+use lib.ListN.{length}
+use Rattle.walks.specs.Walk.{walked, IsPossible, times}
+use Rattle.model.specs.Automaton.{Automaton, arcAt, meets, weights}
+
+-- arc numbers. prefix: document 01's run-in, of length p; cycle: its round, of length q. Document 001 calls the two a lasso.
+pub record Plan : Type 0 where
+  pub prefix : List ℕ
+  pub cycle : List ℕ
+
+-- these are arcs of the model, "each arc leaves the mode that the one before entered", the first leaves s and the last enters t
+abbrev pub Leads : Automaton → ℕ → List ℕ → ℕ → Type 0
+Leads g s [] t = s ≡ t
+Leads g s (a ∷ w) t = (a < length (g .arcs)) × (arcAt g a .source ≡ s) × Leads g (arcAt g a .target) w t
+
+-- "It begins in the start mode, .. and the round ends in the mode where it began"; "round q (at least 1)"
+pub record IsPlan (g : Automaton) (p : Plan) : Type 0 where
+  pub mode : ℕ
+  pub leads-in : Leads g (g .start) (p .prefix) mode
+  pub leads-round : Leads g mode (p .cycle) mode
+  pub some-arc : 0 < length (p .cycle)
+
+-- "Feasible: with the round repeated any number of times, every step is possible."
+abbrev pub Feasible : Automaton → ℕ → ℕ → Plan → Type 0
+Feasible g b c p = (r : ℕ) → IsPossible (walked b (weights g (p .prefix ++ times r (p .cycle))) c)
+
+-- some arc of the list passes the test
+abbrev pub SomeArc : (ℕ → Bool) → List ℕ → Type 0
+SomeArc test [] = ⊥
+SomeArc test (a ∷ w) = (test a ≡ true) ⊎ SomeArc test w
+
+-- colour j stands on some arc of the list
+abbrev pub Meets : Automaton → ℕ → List ℕ → Type 0
+Meets g j w = SomeArc (meets g j) w
+
+-- "Accepted: each of the k colours stands on some arc of the round. With k = 0 every plan is accepted."
+abbrev pub Accepted : Automaton → Plan → Type 0
+Accepted g p = (j : ℕ) → j < g .colours → Meets g j (p .cycle)
+
+-- a plan of the model that is feasible and accepted, from credit c under the bound b
+pub record Serves (g : Automaton) (b c : ℕ) (p : Plan) : Type 0 where
+  pub plan : IsPlan g p
+  pub feasible : Feasible g b c p
+  pub accepted : Accepted g p
+
+abbrev pub SomePlan : Automaton → ℕ → ℕ → Type 0
+SomePlan g b c = (p : Plan) × Serves g b c p

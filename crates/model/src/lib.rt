@@ -1,0 +1,347 @@
+// The model of a knee as one value, the refusals, and the checks that every call begins with: fitness (1 to 5) and levels (6).
+ghost use mathlib.Core.Path.{_≡_};
+ghost use Prim.Native.Nat.{ℕ, _≤_, _^_};
+ghost use Rattle.limits.specs.Ceilings.{coloursMost};
+ghost use Rattle.model.specs.Lists.{lists, blankModel};
+ghost use Rattle.model.specs.Refusals.{entry, answerOf};
+ghost use Rattle.model.specs.Fitness.{unfitLists, header, unfitArc, Header, fittedIf, fittedArcs, fittedOf, levelsOf};
+use limits::Limits;
+
+// An arc: its two modes, its weight, and its colour byte, whose bit j says that the arc meets colour j.
+pub struct Arc {
+    pub source: u8,
+    pub target: u8,
+    pub weight: i16,
+    pub colours: u8,
+}
+
+// A model by value. The first `count` arcs are the model's; the others are blank.
+pub struct Model {
+    pub modes: u8,
+    pub start: u8,
+    pub colours: u8,
+    pub count: u8,
+    pub arcs: [Arc; Limits::ARCS],
+}
+
+// Where a call stops: a case for each number of document 01's table, with its detail where the table names one.
+pub enum Refusal {
+    ModeCount,
+    StartMode,
+    ArcLists,
+    ColourCount,
+    UnfitArc(u32),
+    Levels,
+    Product,
+    WorkingSpace,
+    PlanBuffer,
+    NoPlan,
+    PlanLength,
+    ArcNumber(u32),
+    OtherMode(u32),
+    OpenCycle,
+    ImpossibleStep(u32),
+    FallingCycle,
+    MissingColour(u32),
+    NoSuchColour,
+}
+
+// A number of document 01's table and its detail, 0 where the table names none.
+pub struct Answer {
+    pub number: u8,
+    pub detail: u32,
+}
+
+impl Refusal {
+    // The number in document 01's table, with the detail.
+    pub fn answer(self) -> Answer
+        ensures { λ r. ⌜ r ≡ entry self ⌝ }
+    {
+        match self {
+            Refusal::ModeCount => Answer {
+                number: 1,
+                detail: 0,
+            },
+            Refusal::StartMode => Answer {
+                number: 2,
+                detail: 0,
+            },
+            Refusal::ArcLists => Answer {
+                number: 3,
+                detail: 0,
+            },
+            Refusal::ColourCount => Answer {
+                number: 4,
+                detail: 0,
+            },
+            Refusal::UnfitArc(arc) => Answer {
+                number: 5,
+                detail: arc,
+            },
+            Refusal::Levels => Answer {
+                number: 6,
+                detail: 0,
+            },
+            Refusal::Product => Answer {
+                number: 7,
+                detail: 0,
+            },
+            Refusal::WorkingSpace => Answer {
+                number: 8,
+                detail: 0,
+            },
+            Refusal::PlanBuffer => Answer {
+                number: 9,
+                detail: 0,
+            },
+            Refusal::NoPlan => Answer {
+                number: 10,
+                detail: 0,
+            },
+            Refusal::PlanLength => Answer {
+                number: 11,
+                detail: 0,
+            },
+            Refusal::ArcNumber(position) => Answer {
+                number: 12,
+                detail: position,
+            },
+            Refusal::OtherMode(position) => Answer {
+                number: 13,
+                detail: position,
+            },
+            Refusal::OpenCycle => Answer {
+                number: 14,
+                detail: 0,
+            },
+            Refusal::ImpossibleStep(step) => Answer {
+                number: 15,
+                detail: step,
+            },
+            Refusal::FallingCycle => Answer {
+                number: 16,
+                detail: 0,
+            },
+            Refusal::MissingColour(colour) => Answer {
+                number: 17,
+                detail: colour,
+            },
+            Refusal::NoSuchColour => Answer {
+                number: 18,
+                detail: 0,
+            },
+        }
+    }
+}
+
+// What a check says.
+pub enum Verdict {
+    Yes,
+    Refused(Refusal),
+}
+
+impl Verdict {
+    // 0 for yes, else the refusal's number, with the detail.
+    pub fn answer(self) -> Answer
+        ensures { λ r. ⌜ r ≡ answerOf self ⌝ }
+    {
+        match self {
+            Verdict::Yes => Answer {
+                number: 0,
+                detail: 0,
+            },
+            Verdict::Refused(refusal) => refusal.answer(),
+        }
+    }
+}
+
+// The verdict of fitness, and the model where it is yes; else a blank model.
+pub struct Fitted {
+    pub verdict: Verdict,
+    pub model: Model,
+}
+
+// Refusal 3, from the lengths of the four lists.
+fn unfit_lists(sources: usize, targets: usize, weights: usize, colours: usize) -> bool
+    ensures { λ r. ⌜ r ≡ unfitLists sources targets weights colours ⌝ }
+{
+    if targets != sources {
+        return true;
+    }
+    if weights != sources {
+        return true;
+    }
+    if colours != sources {
+        return true;
+    }
+    sources > Limits::ARCS
+}
+
+// Refusals 1 to 4, from the numbers and the lengths of the four lists.
+fn check_header(
+    n: u32,
+    start: u32,
+    k: u32,
+    sources: usize,
+    targets: usize,
+    weights: usize,
+    colours: usize,
+) -> Verdict
+    ensures { λ r. ⌜ r ≡ header n start k sources targets weights colours ⌝ }
+{
+    if n == 0 {
+        return Verdict::Refused(Refusal::ModeCount);
+    }
+    if n > Limits::MODES {
+        return Verdict::Refused(Refusal::ModeCount);
+    }
+    if start >= n {
+        return Verdict::Refused(Refusal::StartMode);
+    }
+    if unfit_lists(sources, targets, weights, colours) {
+        return Verdict::Refused(Refusal::ArcLists);
+    }
+    if k > Limits::COLOURS {
+        return Verdict::Refused(Refusal::ColourCount);
+    }
+    Verdict::Yes
+}
+
+// Refusal 6: the bound is above its ceiling, or the credit above the bound.
+pub fn check_levels(c: u32, b: u32) -> Verdict
+    ensures { λ r. ⌜ r ≡ levelsOf c b ⌝ }
+{
+    if b > Limits::BOUND {
+        return Verdict::Refused(Refusal::Levels);
+    }
+    if c > b {
+        return Verdict::Refused(Refusal::Levels);
+    }
+    Verdict::Yes
+}
+
+// Whether an arc is unfit for n modes, where `marks` is 2 to the number of colours.
+fn unfit_arc(arc: Arc, n: u32, marks: u32) -> bool
+    ensures { λ r. ⌜ r ≡ unfitArc n marks arc ⌝ }
+{
+    let weight = arc.weight;
+    if (arc.source as u32) >= n {
+        return true;
+    }
+    if (arc.target as u32) >= n {
+        return true;
+    }
+    if weight < Limits::WEIGHT_LEAST {
+        return true;
+    }
+    if weight > Limits::WEIGHT_MOST {
+        return true;
+    }
+    (arc.colours as u32) >= marks
+}
+
+// 2 to the number of colours: the least number that has a bit at or above k.
+fn marks_of(k: u32) -> u32
+    requires { ⌜ k ≤ coloursMost ⌝ }
+    ensures { λ r. ⌜ r ≡ 2 ^ k ⌝ }
+{
+    1u32 << k
+}
+
+// A refused model: the refusal, and a blank model.
+fn refused(refusal: Refusal) -> Fitted
+    ensures { λ r. ⌜ r ≡ fittedIf (Verdict.Refused refusal) blankModel ⌝ }
+{
+    let none = Arc {
+        source: 0,
+        target: 0,
+        weight: 0,
+        colours: 0,
+    };
+    let model = Model {
+        modes: 0,
+        start: 0,
+        colours: 0,
+        count: 0,
+        arcs: [none; Limits::ARCS],
+    };
+    Fitted {
+        verdict: Verdict::Refused(refusal),
+        model,
+    }
+}
+
+// Refusal 5, and the model, from numbers and lists that 1 to 4 let through: one pass that checks each arc and copies it.
+fn check_arcs(
+    n: u32,
+    start: u32,
+    k: u32,
+    sources: &[u8],
+    targets: &[u8],
+    weights: &[i16],
+    colours: &[u8],
+) -> Fitted
+    requires { ⌜ Header n start k (lists (now sources) (now targets) (now weights) (now colours)) ⌝ }
+    ensures { λ r. ⌜ r ≡ fittedArcs n start k (lists (now (sources .entry)) (now (targets .entry)) (now (weights .entry)) (now (colours .entry))) ⌝ }
+{
+    let marks = marks_of(k);
+    let none = Arc {
+        source: 0,
+        target: 0,
+        weight: 0,
+        colours: 0,
+    };
+    let mut arcs = [none; Limits::ARCS];
+    let mut i = 0;
+    while i < sources.len() {
+        let arc = Arc {
+            source: sources[i],
+            target: targets[i],
+            weight: weights[i],
+            colours: colours[i],
+        };
+        if unfit_arc(arc, n, marks) {
+            return refused(Refusal::UnfitArc(i as u32));
+        }
+        arcs[i] = arc;
+        i += 1;
+    }
+    let model = Model {
+        modes: n as u8,
+        start: start as u8,
+        colours: k as u8,
+        count: sources.len() as u8,
+        arcs,
+    };
+    Fitted {
+        verdict: Verdict::Yes,
+        model,
+    }
+}
+
+// Fitness of a model that comes as numbers and four lists: the first of 1 to 5 that applies, or the model. For all numbers and lists.
+pub fn check_model(
+    n: u32,
+    start: u32,
+    k: u32,
+    sources: &[u8],
+    targets: &[u8],
+    weights: &[i16],
+    colours: &[u8],
+) -> Fitted
+    ensures { λ r. ⌜ r ≡ fittedOf n start k (lists (now (sources .entry)) (now (targets .entry)) (now (weights .entry)) (now (colours .entry))) ⌝ }
+{
+    let header = check_header(
+        n,
+        start,
+        k,
+        sources.len(),
+        targets.len(),
+        weights.len(),
+        colours.len(),
+    );
+    match header {
+        Verdict::Yes => check_arcs(n, start, k, sources, targets, weights, colours),
+        Verdict::Refused(refusal) => refused(refusal),
+    }
+}

@@ -1,0 +1,9 @@
+-- The laws of nets, one idea a file; Whole says them of models, in the words of the papers.
+pub mod Leads
+pub mod Cycles
+pub mod Levels
+pub mod Tables
+pub mod Criterion
+pub mod Decides
+pub mod GraphOf
+pub mod Whole

@@ -1,0 +1,1 @@
+// Theory alone: specs/ and proofs/.

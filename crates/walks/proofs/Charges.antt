@@ -1,0 +1,30 @@
+-- The charge along a list of moves: append, at most the bound, monotone. For every list. Assumes nothing.
+use mathlib.Core.Path.{_≡_, refl}
+use mathlib.Core.List.{List, [], _∷_, _++_}
+use mathlib.Core.Logic.{_↔_}
+use Prim.Native.Nat.{ℕ, _+_, _-_, _≤_, min}
+use native.Mathlib.Omega.{arith}
+use Rattle.walks.specs.Moves.{Move, after, charge, Possible}
+
+module _ (b : ℕ) where
+  pub charge-append : (u v : List Move) (e : ℕ) → charge b (u ++ v) e ≡ charge b v (charge b u e)
+  charge-append [] v e = refl
+  charge-append (m ∷ u) v e = charge-append u v (after b m e)
+
+  pub possible-append : (u v : List Move) (e : ℕ) → Possible b (u ++ v) e ↔ (Possible b u e × Possible b v (charge b u e))
+  possible-append [] v e = (λ h. (tt, h), λ h. h .1)
+  possible-append (m ∷ u) v e =
+      let ih = possible-append u v (after b m e) in
+      (λ h. ((h .0, ih .0 (h .1) .0), ih .0 (h .1) .1), λ h. (h .0 .0, ih .1 (h .0 .1, h .1)))
+
+  pub charge-bound : (ms : List Move) (e : ℕ) → e ≤ b → charge b ms e ≤ b
+  charge-bound [] e h = h
+  charge-bound (m ∷ ms) e h = charge-bound ms (after b m e) (omega arith)
+
+  pub charge-mono : (ms : List Move) (e e′ : ℕ) → e ≤ e′ → charge b ms e ≤ charge b ms e′
+  charge-mono [] e e′ h = h
+  charge-mono (m ∷ ms) e e′ h = charge-mono ms (after b m e) (after b m e′) (omega arith)
+
+  pub possible-mono : (ms : List Move) (e e′ : ℕ) → e ≤ e′ → Possible b ms e → Possible b ms e′
+  possible-mono [] e e′ h p = tt
+  possible-mono (m ∷ ms) e e′ h p = (omega arith, possible-mono ms (after b m e) (after b m e′) (omega arith) (p .1))

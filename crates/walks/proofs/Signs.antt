@@ -1,0 +1,42 @@
+-- What a signed weight draws and gains, by its sign, as the code computes it. Assumes nothing.
+use mathlib.Core.Path.{_≡_, refl}
+use mathlib.Core.Bool.{true, false}
+use Prim.Native.Nat.{ℕ, suc, _≤_, _<_}
+use native.Mathlib.Nat.{zero-add}
+use native.Mathlib.Omega.{arith}
+use borrow.Author.Tests.{ltb-true}
+use lib.Dec.{T}
+use lib.IntN.{ℤ, pos, negsuc, natAbs, _-ℤ_}
+use lib.Signed.{ltZ, nonNeg}
+use mir.Syntax.{w16, w32}
+use mir.Val.{Fits, SFits}
+use Rattle.walks.specs.Moves.{drawOf, gainOf}
+
+pub gain-negative : (z : ℤ) → ltZ z (pos 0) ≡ true → 0 ≡ gainOf z
+gain-negative (pos n) h = omega (arith, ltb-true n 0 h)
+gain-negative (negsuc n) h = refl
+
+pub gain-positive : (z : ℤ) → ltZ z (pos 0) ≡ false → natAbs z ≡ gainOf z
+gain-positive (pos n) h = refl
+gain-positive (negsuc n) h = let k : _≡_ {A = ℕ} 0 1 = cc in omega arith
+
+pub positive-fits : (z : ℤ) → ltZ z (pos 0) ≡ false → SFits w16 z → T (nonNeg z) × Fits w16 (natAbs z)
+positive-fits (pos n) h f = (tt, record { fits = omega (arith, f .sfits) })
+positive-fits (negsuc n) h f = let k : _≡_ {A = ℕ} 0 1 = cc in absurd (omega arith)
+
+pub draw-positive : (z : ℤ) → ltZ z (pos 0) ≡ false → 0 ≡ drawOf z
+draw-positive (pos n) h = refl
+draw-positive (negsuc n) h = let k : _≡_ {A = ℕ} 0 1 = cc in omega arith
+
+pub draw-negative : (z : ℤ) → ltZ z (pos 0) ≡ true → natAbs (pos 0 -ℤ z) ≡ drawOf z
+draw-negative (pos n) h = absurd (omega (arith, ltb-true n 0 h))
+draw-negative (negsuc n) h = zero-add (suc n)
+
+-- a negative weight turned round fits: a signed word of 32 bits first, then an unsigned one of 16
+pub negative-sfits : (z : ℤ) → ltZ z (pos 0) ≡ true → SFits w16 z → SFits w32 (pos 0 -ℤ z)
+negative-sfits (pos n) h f = absurd (omega (arith, ltb-true n 0 h))
+negative-sfits (negsuc n) h f = record { sfits = omega (arith, f .sfits) }
+
+pub negative-fits : (z : ℤ) → ltZ z (pos 0) ≡ true → SFits w16 z → T (nonNeg (pos 0 -ℤ z)) × Fits w16 (natAbs (pos 0 -ℤ z))
+negative-fits (pos n) h f = absurd (omega (arith, ltb-true n 0 h))
+negative-fits (negsuc n) h f = (tt, record { fits = omega (arith, f .sfits) })

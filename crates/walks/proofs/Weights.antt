@@ -1,0 +1,95 @@
+-- The one law that turns weights into moves: the step and the walk over the integers are those by what the weights draw and gain, on
+-- naturals. Assumes nothing.
+use mathlib.Core.Path.{_≡_, refl, sym, ap, _∙_}
+use mathlib.Core.Bool.{Bool, true, false}
+use mathlib.Core.List.{List, [], _∷_, _++_, map, map-append}
+use mathlib.Core.Logic.{_⊎_, inl, inr, ⊎-elim, _↔_}
+use Prim.Native.Nat.{ℕ, zero, suc, zero-le, min, _+_, _-_, _≤_, _<_}
+use native.Mathlib.Nat.{add-zero}
+use native.Mathlib.Omega.{arith}
+use native.Mathlib.Decide.{decLe}
+use borrow.Author.Tests.{lt-ltb, le-ltb, le-leb, lt-leb}
+use lib.IntN.{ℤ, pos, negsuc, _+ℤ_}
+use Rattle.walks.specs.declared.Step.{Step}
+use Rattle.walks.specs.declared.Step.the-variants.{To, Impossible}
+use Rattle.walks.specs.BoundedStep.{clipped, stepped}
+use Rattle.walks.specs.Walk.{onward, walked, IsPossible, times}
+use Rattle.walks.specs.Moves.{Move, moveOf, after, moved, possibleIf, charge, Possible}
+
+-- the step with weight w is the step by its move
+pub stepped-moved : (b : ℕ) (w : ℤ) (e : ℕ) → stepped b w e ≡ moved b (moveOf w) e
+unfolding stepped moved
+stepped-moved b (pos x) e =
+    let s : e - 0 + x ≡ e + x = omega arith in
+    simp (le-leb 0 e zero-le, s)
+stepped-moved b (negsuc x) e =
+    elim (decLe (suc x) e) [
+      | yes h ↦ simp (le-leb (suc x) e h, le-ltb e (suc x) h, add-zero)
+      | no h ↦ simp (lt-leb (suc x) e (omega arith), lt-ltb e (suc x) (omega arith))
+    ]
+
+-- a move that is possible leads to the charge after it, and any other leads nowhere
+pub moved-possible : (b : ℕ) (m : Move) (e : ℕ) → m .draw ≤ e → moved b m e ≡ To (after b m e)
+unfolding moved
+moved-possible b m e h = rw (le-leb (m .draw) e h)
+
+pub moved-impossible : (b : ℕ) (m : Move) (e : ℕ) → e < m .draw → moved b m e ≡ Impossible
+unfolding moved
+moved-impossible b m e h = rw (lt-leb (m .draw) e h)
+
+-- what the theory says of a walk of moves, about the walk of weights
+pub record Walks (b : ℕ) (ws : List ℤ) (e : ℕ) : Type 0 where
+  pub possible : IsPossible (walked b ws e) ↔ Possible b (map moveOf ws) e
+  pub leads : Possible b (map moveOf ws) e → walked b ws e ≡ To (charge b (map moveOf ws) e)
+
+module _ (b : ℕ) (w : ℤ) (ws : List ℤ) (e : ℕ) where
+  step-on : moveOf w .draw ≤ e → walked b (w ∷ ws) e ≡ walked b ws (after b (moveOf w) e)
+  unfolding walked
+  step-on h = rw (stepped-moved b w e, moved-possible b (moveOf w) e h)
+
+  step-off : e < moveOf w .draw → walked b (w ∷ ws) e ≡ Impossible
+  unfolding walked
+  step-off h = rw (stepped-moved b w e, moved-impossible b (moveOf w) e h)
+
+  walks-more : Walks b ws (after b (moveOf w) e) → Walks b (w ∷ ws) e
+  walks-more k =
+      elim (decLe (moveOf w .draw) e) [
+        | yes h ↦
+            record {
+              possible = rw (step-on h) (λ p. (h, k .possible .0 p), λ p. k .possible .1 (p .1));
+              leads = λ p. step-on h ∙ k .leads (p .1);
+            }
+        | no h ↦
+            record {
+              possible = rw (step-off (omega arith)) (λ p. absurd p, λ p. absurd (h (p .0)));
+              leads = λ p. absurd (h (p .0));
+            }
+      ]
+
+-- the walk of the weights is the walk of their moves
+pub walked-moves : (b : ℕ) (ws : List ℤ) (e : ℕ) → Walks b ws e
+unfolding walked
+walked-moves b [] e = record { possible = (λ p. p, λ p. p); leads = λ p. refl }
+walked-moves b (w ∷ ws) e = walks-more b w ws e (walked-moves b ws (after b (moveOf w) e))
+
+-- a walk of weights that ends at x: its moves are possible, and their charge is x
+pub walked-to : (b : ℕ) (ws : List ℤ) (e x : ℕ) → walked b ws e ≡ To x → Possible b (map moveOf ws) e × (charge b (map moveOf ws) e ≡ x)
+walked-to b ws e x q =
+    let k = walked-moves b ws e in
+    let p = k .possible .0 (rw q tt) in
+    (p, cc (k .leads p))
+
+onward-assoc : (s : Step) (f g h : ℕ → Step) → ((e : ℕ) → f e ≡ onward (g e) h) → onward s f ≡ onward (onward s g) h
+onward-assoc (To e) f g h k = k e
+onward-assoc Impossible f g h k = refl
+
+-- a walk of two lists is the one, and then the other
+pub walked-append : (b : ℕ) (u v : List ℤ) (e : ℕ) → walked b (u ++ v) e ≡ onward (walked b u e) (walked b v)
+unfolding walked
+walked-append b [] v e = refl
+walked-append b (w ∷ u) v e = onward-assoc (stepped b w e) (walked b (u ++ v)) (walked b u) (walked b v) (walked-append b u v)
+
+-- a list mapped and repeated
+pub map-times : {A B : Type 0} (f : A → B) (r : ℕ) (l : List A) → map f (times r l) ≡ times r (map f l)
+map-times {B = B} f zero l = refl
+map-times {B = B} f (suc r) l = map-append f l (times r l) ∙ ap {B = List B} (λ x. map f l ++ x) (map-times f r l)

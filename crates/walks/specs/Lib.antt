@@ -1,0 +1,4 @@
+-- What a reader must believe of the charge: the bounded step and walks of weights (BoundedStep, Walk), and the words of the theory (Moves).
+pub mod BoundedStep
+pub mod Walk
+pub mod Moves

@@ -1,0 +1,52 @@
+// The bounded step: a signed weight added to an unsigned charge under a bound. It takes plain numbers and answers an enum.
+ghost use mathlib.Core.Path.{_≡_};
+ghost use Rattle.walks.specs.BoundedStep.{stepped};
+ghost use Rattle.walks.specs.Moves.{drawOf, gainOf, moved};
+
+// The charge that a step leads to, or that it is not possible.
+pub enum Step {
+    To(u16),
+    Impossible,
+}
+
+// What a weight takes from the charge: −w where w is negative, else 0.
+pub fn draw(weight: i16) -> u16
+    ensures { λ r. ⌜ r ≡ drawOf weight ⌝ }
+{
+    if weight < 0 {
+        return (0 - (weight as i32)) as u16;
+    }
+    0
+}
+
+// What a weight gives to the charge: w where w is not negative, else 0.
+pub fn gain(weight: i16) -> u16
+    ensures { λ r. ⌜ r ≡ gainOf weight ⌝ }
+{
+    if weight < 0 {
+        return 0;
+    }
+    weight as u16
+}
+
+// A move from a charge: the draw first, then the gain, cut off at the bound.
+pub fn bounded_move(charge: u16, draw: u16, gain: u16, bound: u16) -> Step
+    ensures { λ r. ⌜ r ≡ moved bound (record { draw = draw; gain = gain }) charge ⌝ }
+{
+    if charge < draw {
+        return Step::Impossible;
+    }
+    let sum = ((charge - draw) as u32) + (gain as u32);
+    if sum < (bound as u32) {
+        return Step::To(sum as u16);
+    }
+    Step::To(bound)
+}
+
+// A step on an arc with this weight: to the smaller of charge + weight and the bound, possible only where charge + weight is at
+// least 0. For all charges, weights and bounds.
+pub fn bounded_step(charge: u16, weight: i16, bound: u16) -> Step
+    ensures { λ r. ⌜ r ≡ stepped bound weight charge ⌝ }
+{
+    bounded_move(charge, draw(weight), gain(weight), bound)
+}
