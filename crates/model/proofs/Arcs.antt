@@ -12,12 +12,12 @@ use lib.ListN.{length, getD, set, take, replicate, length-set, length-replicate,
 use lib.Seq.{getD-set-same, getD-set-other, ext-getD}
 use Rattle.limits.specs.Ceilings.{arcsMost}
 use Rattle.model.specs.declared.Arc.{Arc}
-use Rattle.model.specs.declared.Verdict.{Verdict}
-use Rattle.model.specs.declared.Verdict.the-variants.{Yes, Refused}
-use Rattle.model.specs.declared.Refusal.{Refusal}
-use Rattle.model.specs.declared.Refusal.the-variants.{UnfitArc}
+use Rattle.refusals.specs.declared.Verdict.{Verdict}
+use Rattle.refusals.specs.declared.Verdict.the-variants.{Yes, Refused}
+use Rattle.refusals.specs.declared.Refusal.{Refusal}
+use Rattle.refusals.specs.declared.Refusal.the-variants.{UnfitArc}
 use Rattle.model.specs.Automaton.{Automaton, noArc, arcAt}
-use Rattle.model.specs.Refusals.{refuse}
+use Rattle.refusals.specs.Refusals.{refuse}
 use Rattle.model.specs.Lists.{Lists, arcOf, arcsFrom, automatonOf, modelOf, blankModel, held}
 use Rattle.model.specs.Fitness.{unfitArc, arcsVerdict, EqualLists, fittedIf, fittedArcs}
 

@@ -13,28 +13,19 @@ use lib.Signed.{ltZ, _≤ℤ_, ltZ-no, clashℤ, ltZ-yes}
 use borrow.Author.Tests.{ltb-false, leb-false, eqb-false, eqb-true, not-false, le-ltb, lt-leb, eq-eqb, ne-eqb}
 use Rattle.limits.specs.Ceilings.{modesMost, arcsMost, coloursMost, boundMost, weightLeast, weightMost}
 use Rattle.model.specs.declared.Arc.{Arc}
-use Rattle.model.specs.declared.Refusal.{Refusal}
-use Rattle.model.specs.declared.Refusal.the-variants.{UnfitArc, ModeCount, StartMode, ArcLists, ColourCount, Levels}
-use Rattle.model.specs.declared.Verdict.{Verdict}
-use Rattle.model.specs.declared.Verdict.the-variants.{Yes, Refused}
+use Rattle.refusals.specs.declared.Refusal.{Refusal}
+use Rattle.refusals.specs.declared.Refusal.the-variants.{UnfitArc, ModeCount, StartMode, ArcLists, ColourCount, Levels}
+use Rattle.refusals.specs.declared.Verdict.{Verdict}
+use Rattle.refusals.specs.declared.Verdict.the-variants.{Yes, Refused}
 use Rattle.model.specs.Automaton.{Automaton, noArc, arcAt}
-use Rattle.model.specs.Refusals.{refuse}
+use Rattle.refusals.proofs.Verdicts.{refuse-yes, and-then-yes}
 use Rattle.model.specs.Lists.{Lists, arcsFrom, automatonOf, modelOf, blankModel, held}
-use Rattle.model.specs.Fitness.{unfitLists, header, unfitArc, arcsVerdict, andThen, fitness, fittedIf, fittedArcs, fittedOf, levelsOf, EqualLists, Header, ArcFits, Fit}
+use Rattle.model.specs.Fitness.{unfitLists, header, unfitArc, arcsVerdict, fitness, fittedIf, fittedArcs, fittedOf, levelsOf, EqualLists, Header, ArcFits, Fit}
 use Rattle.model.proofs.Marks.{colours-below}
 use Rattle.model.proofs.Arcs.{arcs-length, arcs-take}
 
 clash : {X : Type 0} → _≡_ {A = ℕ} 0 1 → X
 clash e = absurd (omega arith)
-
--- a row of the table that lets a call through
-pub refuse-yes : (t : Bool) (r : Refusal) (v : Verdict) → (refuse t r v ≡ Yes) ↔ ((t ≡ false) × (v ≡ Yes))
-refuse-yes true r v = (λ e. clash (cc), λ e. clash (cc))
-refuse-yes false r v = (λ e. (refl, e), λ e. e .1)
-
-pub and-then-yes : (u v : Verdict) → (andThen u v ≡ Yes) ↔ ((u ≡ Yes) × (v ≡ Yes))
-and-then-yes Yes v = (λ e. (refl, e), λ e. e .1)
-and-then-yes (Refused r) v = (λ e. clash (cc), λ e. clash (cc))
 
 or-no : (s t : Bool) → ((s || t) ≡ false) ↔ ((s ≡ false) × (t ≡ false))
 or-no true t = (λ e. clash (cc), λ e. clash (cc))

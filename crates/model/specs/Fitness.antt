@@ -10,10 +10,10 @@ use Rattle.limits.specs.Ceilings.{modesMost, arcsMost, coloursMost, boundMost, 
 use Rattle.model.specs.declared.Arc.{Arc}
 use Rattle.model.specs.declared.Model.{Model}
 use Rattle.model.specs.declared.Fitted.{Fitted}
-use Rattle.model.specs.declared.Refusal.the-variants.{ModeCount, StartMode, ArcLists, ColourCount, UnfitArc, Levels}
-use Rattle.model.specs.declared.Verdict.{Verdict}
-use Rattle.model.specs.declared.Verdict.the-variants.{Yes, Refused}
-use Rattle.model.specs.Refusals.{refuse}
+use Rattle.refusals.specs.declared.Refusal.the-variants.{ModeCount, StartMode, ArcLists, ColourCount, UnfitArc, Levels}
+use Rattle.refusals.specs.declared.Verdict.{Verdict}
+use Rattle.refusals.specs.declared.Verdict.the-variants.{Yes, Refused}
+use Rattle.refusals.specs.Refusals.{refuse, andThen}
 use Rattle.model.specs.Automaton.{Automaton, arcAt, bit}
 use Rattle.model.specs.Lists.{Lists, arcsFrom, modelOf, blankModel}
 
@@ -41,10 +41,6 @@ unfitArc n marks a =
 unfoldable pub arcsVerdict : ℕ → ℕ → List Arc → ℕ → Verdict
 arcsVerdict n marks [] i = Yes
 arcsVerdict n marks (a ∷ l) i = refuse (unfitArc n marks a) (UnfitArc i) (arcsVerdict n marks l (suc i))
-
-abbrev pub andThen : Verdict → Verdict → Verdict
-andThen Yes v = v
-andThen (Refused r) v = Refused r
 
 -- 1 to 5, for any numbers and lists
 unfoldable pub fitness : ℕ → ℕ → ℕ → Lists → Verdict

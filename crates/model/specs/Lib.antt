@@ -1,5 +1,4 @@
 -- What a reader must believe of models and plans.
-pub mod Refusals
 pub mod Automaton
 pub mod Lists
 pub mod Fitness

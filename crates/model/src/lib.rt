@@ -1,11 +1,12 @@
-// The model of a knee as one value, the refusals, and the checks that every call begins with: fitness (1 to 5) and levels (6).
+// The model as one value, and the checks that every call begins with: fitness (1 to 5) and levels (6).
 ghost use mathlib.Core.Path.{_≡_};
 ghost use Prim.Native.Nat.{ℕ, _≤_, _^_};
 ghost use Rattle.limits.specs.Ceilings.{coloursMost};
 ghost use Rattle.model.specs.Lists.{lists, blankModel};
-ghost use Rattle.model.specs.Refusals.{entry, answerOf};
 ghost use Rattle.model.specs.Fitness.{unfitLists, header, unfitArc, Header, fittedIf, fittedArcs, fittedOf, levelsOf};
 use limits::Limits;
+use refusals::Refusal;
+use refusals::Verdict;
 
 // An arc: its two modes, its weight, and its colour byte, whose bit j says that the arc meets colour j.
 pub struct Arc {
@@ -22,137 +23,6 @@ pub struct Model {
     pub colours: u8,
     pub count: u8,
     pub arcs: [Arc; Limits::ARCS],
-}
-
-// Where a call stops: a case for each number of document 01's table, with its detail where the table names one.
-pub enum Refusal {
-    ModeCount,
-    StartMode,
-    ArcLists,
-    ColourCount,
-    UnfitArc(u32),
-    Levels,
-    Product,
-    WorkingSpace,
-    PlanBuffer,
-    NoPlan,
-    PlanLength,
-    ArcNumber(u32),
-    OtherMode(u32),
-    OpenCycle,
-    ImpossibleStep(u32),
-    FallingCycle,
-    MissingColour(u32),
-    NoSuchColour,
-}
-
-// A number of document 01's table and its detail, 0 where the table names none.
-pub struct Answer {
-    pub number: u8,
-    pub detail: u32,
-}
-
-impl Refusal {
-    // The number in document 01's table, with the detail.
-    pub fn answer(self) -> Answer
-        ensures { λ r. ⌜ r ≡ entry self ⌝ }
-    {
-        match self {
-            Refusal::ModeCount => Answer {
-                number: 1,
-                detail: 0,
-            },
-            Refusal::StartMode => Answer {
-                number: 2,
-                detail: 0,
-            },
-            Refusal::ArcLists => Answer {
-                number: 3,
-                detail: 0,
-            },
-            Refusal::ColourCount => Answer {
-                number: 4,
-                detail: 0,
-            },
-            Refusal::UnfitArc(arc) => Answer {
-                number: 5,
-                detail: arc,
-            },
-            Refusal::Levels => Answer {
-                number: 6,
-                detail: 0,
-            },
-            Refusal::Product => Answer {
-                number: 7,
-                detail: 0,
-            },
-            Refusal::WorkingSpace => Answer {
-                number: 8,
-                detail: 0,
-            },
-            Refusal::PlanBuffer => Answer {
-                number: 9,
-                detail: 0,
-            },
-            Refusal::NoPlan => Answer {
-                number: 10,
-                detail: 0,
-            },
-            Refusal::PlanLength => Answer {
-                number: 11,
-                detail: 0,
-            },
-            Refusal::ArcNumber(position) => Answer {
-                number: 12,
-                detail: position,
-            },
-            Refusal::OtherMode(position) => Answer {
-                number: 13,
-                detail: position,
-            },
-            Refusal::OpenCycle => Answer {
-                number: 14,
-                detail: 0,
-            },
-            Refusal::ImpossibleStep(step) => Answer {
-                number: 15,
-                detail: step,
-            },
-            Refusal::FallingCycle => Answer {
-                number: 16,
-                detail: 0,
-            },
-            Refusal::MissingColour(colour) => Answer {
-                number: 17,
-                detail: colour,
-            },
-            Refusal::NoSuchColour => Answer {
-                number: 18,
-                detail: 0,
-            },
-        }
-    }
-}
-
-// What a check says.
-pub enum Verdict {
-    Yes,
-    Refused(Refusal),
-}
-
-impl Verdict {
-    // 0 for yes, else the refusal's number, with the detail.
-    pub fn answer(self) -> Answer
-        ensures { λ r. ⌜ r ≡ answerOf self ⌝ }
-    {
-        match self {
-            Verdict::Yes => Answer {
-                number: 0,
-                detail: 0,
-            },
-            Verdict::Refused(refusal) => refusal.answer(),
-        }
-    }
 }
 
 // The verdict of fitness, and the model where it is yes; else a blank model.

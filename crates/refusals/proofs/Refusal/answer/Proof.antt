@@ -1,9 +1,9 @@
 -- `Refusal::answer` meets its contract: each arm of the match is one row of the table. Assumes nothing.
 use mathlib.Core.Path.{sym, ap}
 use borrow.Author.Needs.{needs}
-use Rattle.model.specs.Refusals.{entry}
-use Rattle.model.proofs.Refusal.answer.Statement.{statement}
-use Rattle.model.proofs.Refusal.answer.Tie as tie
+use Rattle.refusals.specs.Refusals.{entry}
+use Rattle.refusals.proofs.Refusal.answer.Statement.{statement}
+use Rattle.refusals.proofs.Refusal.answer.Tie as tie
 
 enum-told : tie.Need-enum-told
 enum-told c = search needs

@@ -1,11 +1,11 @@
 -- The number and the detail of each refusal. Document 01, "Where each call stops": the table, "with one detail (0 where none is named)".
 use Prim.Native.Nat.{ℕ}
 use mathlib.Core.Bool.{Bool, true, false}
-use Rattle.model.specs.declared.Answer.{Answer}
-use Rattle.model.specs.declared.Refusal.{Refusal}
-use Rattle.model.specs.declared.Refusal.the-variants.{ModeCount, StartMode, ArcLists, ColourCount, UnfitArc, Levels, Product, WorkingSpace, PlanBuffer, NoPlan, PlanLength, ArcNumber, OtherMode, OpenCycle, ImpossibleStep, FallingCycle, MissingColour, NoSuchColour}
-use Rattle.model.specs.declared.Verdict.{Verdict}
-use Rattle.model.specs.declared.Verdict.the-variants.{Yes, Refused}
+use Rattle.refusals.specs.declared.Answer.{Answer}
+use Rattle.refusals.specs.declared.Refusal.{Refusal}
+use Rattle.refusals.specs.declared.Refusal.the-variants.{ModeCount, StartMode, ArcLists, ColourCount, UnfitArc, Levels, Product, WorkingSpace, PlanBuffer, NoPlan, PlanLength, ArcNumber, OtherMode, OpenCycle, ImpossibleStep, FallingCycle, MissingColour, NoSuchColour}
+use Rattle.refusals.specs.declared.Verdict.{Verdict}
+use Rattle.refusals.specs.declared.Verdict.the-variants.{Yes, Refused}
 
 -- number and detail
 abbrev pub answer : ℕ → ℕ → Answer
@@ -41,3 +41,8 @@ answerOf (Refused r) = entry r
 abbrev pub refuse : Bool → Refusal → Verdict → Verdict
 refuse true r v = Refused r
 refuse false r v = v
+
+-- two checks, one after the other
+abbrev pub andThen : Verdict → Verdict → Verdict
+andThen Yes v = v
+andThen (Refused r) v = Refused r

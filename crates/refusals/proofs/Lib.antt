@@ -1,0 +1,2 @@
+-- Laws of verdicts.
+pub mod Verdicts

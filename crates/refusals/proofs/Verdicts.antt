@@ -1,0 +1,22 @@
+-- When a check that goes top to bottom says yes: no row applies. Assumes nothing.
+use mathlib.Core.Path.{_≡_, refl}
+use mathlib.Core.Bool.{Bool, true, false}
+use mathlib.Core.Logic.{_↔_}
+use Prim.Native.Nat.{ℕ}
+use native.Mathlib.Omega.{arith}
+use Rattle.refusals.specs.declared.Refusal.{Refusal}
+use Rattle.refusals.specs.declared.Verdict.{Verdict}
+use Rattle.refusals.specs.declared.Verdict.the-variants.{Yes, Refused}
+use Rattle.refusals.specs.Refusals.{refuse, andThen}
+
+clash : {X : Type 0} → _≡_ {A = ℕ} 0 1 → X
+clash e = absurd (omega arith)
+
+-- a row of the table that lets a call through
+pub refuse-yes : (t : Bool) (r : Refusal) (v : Verdict) → (refuse t r v ≡ Yes) ↔ ((t ≡ false) × (v ≡ Yes))
+refuse-yes true r v = (λ e. clash (cc), λ e. clash (cc))
+refuse-yes false r v = (λ e. (refl, e), λ e. e .1)
+
+pub and-then-yes : (u v : Verdict) → (andThen u v ≡ Yes) ↔ ((u ≡ Yes) × (v ≡ Yes))
+and-then-yes Yes v = (λ e. (refl, e), λ e. e .1)
+and-then-yes (Refused r) v = (λ e. clash (cc), λ e. clash (cc))

@@ -1,0 +1,2 @@
+-- What a reader must believe of refusals: the table of numbers and details.
+pub mod Refusals
