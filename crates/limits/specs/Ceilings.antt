@@ -1,38 +1,56 @@
+-- The ceilings. Document 01, "Ceilings": "Every ceiling here is kept in one place under its name." `Limits::agree` ties each numeral to the
+-- constant of the code.
 use Prim.Native.Nat.{ℕ, _+_, _*_}
-use lib.IntN.{ℤ, pos, negsuc, negℤ}
+use lib.IntN.{ℤ, pos, negℤ}
 
+-- "n 1 to 64"
 abbrev pub modesMost : ℕ
 modesMost = 64
 
+-- "m 0 to 255"
 abbrev pub arcsMost : ℕ
 arcsMost = 255
 
+-- "k 0 to 4"
 abbrev pub coloursMost : ℕ
 coloursMost = 4
 
+-- "b 0 to 8,191"
 abbrev pub boundMost : ℕ
 boundMost = 8191
 
+-- "for search n × (b+1) at most 8,192"
 abbrev pub productMost : ℕ
 productMost = 8192
 
+-- "plan length for judging at most 65,535"
 abbrev pub planMost : ℕ
 planMost = 65535
 
+-- "a weight from −10,000 to 10,000"
 abbrev pub weightLeast : ℤ
 weightLeast = negℤ (pos 10000)
 
 abbrev pub weightMost : ℤ
 weightMost = pos 10000
 
+-- "Working space: 4 × (k+1) × n × (b+1) words."
 abbrev pub workWords : ℕ
 workWords = 4
 
 abbrev pub workLevels : ℕ
 workLevels = 1
 
+abbrev pub workSpace : ℕ → ℕ → ℕ → ℕ
+workSpace k n b = workWords * (k + workLevels) * n * (b + 1)
+
+-- "Plan buffer: (k+2) × n × (b+1) bytes."
 abbrev pub planLevels : ℕ
 planLevels = 2
 
+abbrev pub planBuffer : ℕ → ℕ → ℕ → ℕ
+planBuffer k n b = (k + planLevels) * n * (b + 1)
+
+-- "The supplied program keeps space for (k+1) × n × (b+1) up to 8,192."
 abbrev pub programMost : ℕ
 programMost = 8192

@@ -11,9 +11,8 @@ use lib.Seq.{drop-append-le, drop-append-seam}
 use Rattle.walks.specs.declared.Step.{Step}
 use Rattle.walks.specs.declared.Step.the-variants.{To, Impossible}
 use Rattle.walks.specs.Walk.{onward, walked, IsPossible, RoundsHold, times}
-use Rattle.walks.specs.Moves.{moveOf}
-use Rattle.walks.proofs.Weights.{walked-append, walked-to, map-times}
-use Rattle.walks.proofs.Charges.{charge-bound}
+use Rattle.walks.proofs.Weights.{walked-append, map-times}
+use Rattle.walks.proofs.Charges.{walked-bound}
 use Rattle.walks.proofs.Rounds.{rounds-hold}
 use Rattle.model.specs.Automaton.{Automaton, arcAt, meets, weights}
 use Rattle.model.specs.Plans.{Plan, Feasible, SomeArc, Meets, Accepted}
@@ -34,7 +33,7 @@ module _ (g : Automaton) (b c : ℕ) (p : Plan) where
   feasible-rounds h = (λ f. to (walked b (weights g (p .prefix)) c) refl (λ r. subst IsPossible (plan-walked r) (f r)), from)
     where
       bounded : (e : ℕ) → walked b (weights g (p .prefix)) c ≡ To e → e ≤ b
-      bounded e q = omega (arith, walked-to b (weights g (p .prefix)) c e q .1, charge-bound b (map moveOf (weights g (p .prefix))) c h)
+      bounded e q = walked-bound b (weights g (p .prefix)) c e h q
 
       to : (s : Step) → walked b (weights g (p .prefix)) c ≡ s
           → ((r : ℕ) → IsPossible (onward (walked b (weights g (p .prefix)) c) (walked b (times r (weights g (p .cycle))))))
@@ -72,3 +71,7 @@ accepted-buchi g p h = (λ a j q n. (suc n, again j n (a j q)), λ f j q. once j
 
     once : (j : ℕ) → (r : ℕ) × Meets g j (drop (length (p .prefix)) (p .prefix ++ times r (p .cycle))) → Meets g j (p .cycle)
     once j (r, m) = some-times (meets g j) r (p .cycle) (rw (drop-append-seam (p .prefix) (times r (p .cycle))) at m)
+
+-- "With k = 0 every plan is accepted."
+pub accepted-none : (g : Automaton) (p : Plan) → g .colours ≡ 0 → Accepted g p
+accepted-none g p e j h = absurd (omega arith)

@@ -1,10 +1,14 @@
 -- The charge along a list of moves: append, at most the bound, monotone. For every list. Assumes nothing.
 use mathlib.Core.Path.{_≡_, refl}
-use mathlib.Core.List.{List, [], _∷_, _++_}
+use mathlib.Core.List.{List, [], _∷_, _++_, map}
 use mathlib.Core.Logic.{_↔_}
 use Prim.Native.Nat.{ℕ, _+_, _-_, _≤_, min}
 use native.Mathlib.Omega.{arith}
-use Rattle.walks.specs.Moves.{Move, after, charge, Possible}
+use lib.IntN.{ℤ}
+use Rattle.walks.specs.declared.Step.the-variants.{To}
+use Rattle.walks.specs.Walk.{walked}
+use Rattle.walks.specs.Moves.{Move, moveOf, after, charge, Possible}
+use Rattle.walks.proofs.Weights.{walked-moves, walked-to}
 
 module _ (b : ℕ) where
   pub charge-append : (u v : List Move) (e : ℕ) → charge b (u ++ v) e ≡ charge b v (charge b u e)
@@ -28,3 +32,14 @@ module _ (b : ℕ) where
   pub possible-mono : (ms : List Move) (e e′ : ℕ) → e ≤ e′ → Possible b ms e → Possible b ms e′
   possible-mono [] e e′ h p = tt
   possible-mono (m ∷ ms) e e′ h p = (omega arith, possible-mono ms (after b m e) (after b m e′) (omega arith) (p .1))
+
+-- the same of walks of weights: at most the bound ..
+pub walked-bound : (b : ℕ) (ws : List ℤ) (e x : ℕ) → e ≤ b → walked b ws e ≡ To x → x ≤ b
+walked-bound b ws e x h q = omega (arith, walked-to b ws e x q .1, charge-bound b (map moveOf ws) e h)
+
+-- .. and monotone: a walk that is possible is possible from more, and ends no lower
+pub walked-mono : (b : ℕ) (ws : List ℤ) (e e′ x : ℕ) → e ≤ e′ → walked b ws e ≡ To x → (x′ : ℕ) × (walked b ws e′ ≡ To x′) × (x ≤ x′)
+walked-mono b ws e e′ x h q =
+    let ms = map moveOf ws in
+    let (p, i) = walked-to b ws e x q in
+    (charge b ms e′, walked-moves b ws e′ .leads (possible-mono b ms e e′ h p), omega (arith, charge-mono b ms e e′ h))
