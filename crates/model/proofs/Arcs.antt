@@ -89,58 +89,58 @@ module _ (l : Lists) where
         | no p ↦ f .done a (omega arith) ∙ sym (arcs-here arcsMost a q)
       ]
 
-  module _ (n marks : ℕ) where
+  module _ (n power : ℕ) where
     -- what is left of the arcs from i on, by one arc
-    pub verdict-more : (m i : ℕ) → i < m → arcsVerdict n marks (arcsFrom l (m - i) i) i
-        ≡ refuse (unfitArc n marks (arcOf l i)) (UnfitArc i) (arcsVerdict n marks (arcsFrom l (m - (i + 1)) (i + 1)) (i + 1))
+    pub verdict-more : (m i : ℕ) → i < m → arcsVerdict n power (arcsFrom l (m - i) i) i
+        ≡ refuse (unfitArc n power (arcOf l i)) (UnfitArc i) (arcsVerdict n power (arcsFrom l (m - (i + 1)) (i + 1)) (i + 1))
     unfolding arcsVerdict
     verdict-more m i h =
         let e : m - i ≡ suc (m - (i + 1)) = omega arith in
         rw (e, add-one i) refl
 
-    pub verdict-none : (m i : ℕ) → m ≤ i → arcsVerdict n marks (arcsFrom l (m - i) i) i ≡ Yes
+    pub verdict-none : (m i : ℕ) → m ≤ i → arcsVerdict n power (arcsFrom l (m - i) i) i ≡ Yes
     unfolding arcsVerdict
     verdict-none m i h = let e : m - i ≡ 0 = omega arith in rw e refl
 
 -- the state of the one pass at arc i: i arcs are copied, and the verdict is that on the others
-pub record Copying (n marks : ℕ) (l : Lists) (arcs : List Arc) (i : ℕ) : Type 0 where
+pub record Copying (n power : ℕ) (l : Lists) (arcs : List Arc) (i : ℕ) : Type 0 where
   pub within : i ≤ length (l .sources)
   pub filled : Filled l i arcs
-  pub verdict : arcsVerdict n marks (arcsFrom l (length (l .sources)) 0) 0 ≡ arcsVerdict n marks (arcsFrom l (length (l .sources) - i) i) i
+  pub verdict : arcsVerdict n power (arcsFrom l (length (l .sources)) 0) 0 ≡ arcsVerdict n power (arcsFrom l (length (l .sources) - i) i) i
 
-module _ (n marks : ℕ) (l : Lists) where
-  pub copying-none : Copying n marks l (replicate arcsMost noArc) 0
+module _ (n power : ℕ) (l : Lists) where
+  pub copying-none : Copying n power l (replicate arcsMost noArc) 0
   copying-none = record { within = omega arith; filled = filled-none l; verdict = let e : length (l .sources) - 0 ≡ length (l .sources) = omega arith in rw e refl }
 
-  module _ (arcs : List Arc) (i : ℕ) (state : Copying n marks l arcs i) where
+  module _ (arcs : List Arc) (i : ℕ) (state : Copying n power l arcs i) where
     -- an arc that is fit is copied
-    pub copying-more : (x : Arc) → i < length (l .sources) → length (l .sources) ≤ arcsMost → x ≡ arcOf l i → unfitArc n marks x ≡ false
-        → Copying n marks l (set arcs i x) (i + 1)
+    pub copying-more : (x : Arc) → i < length (l .sources) → length (l .sources) ≤ arcsMost → x ≡ arcOf l i → unfitArc n power x ≡ false
+        → Copying n power l (set arcs i x) (i + 1)
     copying-more x h few e fit =
         record {
           within = omega arith;
           filled = filled-more l i arcs x (omega arith) e (state .filled);
-          verdict = state .verdict ∙ verdict-more l n marks (length (l .sources)) i h ∙ rw (sym e, fit) refl;
+          verdict = state .verdict ∙ verdict-more l n power (length (l .sources)) i h ∙ rw (sym e, fit) refl;
         }
 
     -- the first that is unfit is the verdict
-    pub copying-unfit : (x : Arc) → i < length (l .sources) → x ≡ arcOf l i → unfitArc n marks x ≡ true
-        → arcsVerdict n marks (arcsFrom l (length (l .sources)) 0) 0 ≡ Refused (UnfitArc i)
-    copying-unfit x h e unfit = state .verdict ∙ verdict-more l n marks (length (l .sources)) i h ∙ rw (sym e, unfit) refl
+    pub copying-unfit : (x : Arc) → i < length (l .sources) → x ≡ arcOf l i → unfitArc n power x ≡ true
+        → arcsVerdict n power (arcsFrom l (length (l .sources)) 0) 0 ≡ Refused (UnfitArc i)
+    copying-unfit x h e unfit = state .verdict ∙ verdict-more l n power (length (l .sources)) i h ∙ rw (sym e, unfit) refl
 
     -- past the last arc the verdict is yes, and the array has every arc
     pub copying-done : length (l .sources) ≤ i → EqualLists l
-        → (arcsVerdict n marks (arcsFrom l (length (l .sources)) 0) 0 ≡ Yes) × (arcs ≡ arcsFrom l arcsMost 0)
+        → (arcsVerdict n power (arcsFrom l (length (l .sources)) 0) 0 ≡ Yes) × (arcs ≡ arcsFrom l arcsMost 0)
     copying-done h equal =
         let e : i ≡ length (l .sources) = omega (arith, state .within) in
-        (state .verdict ∙ verdict-none l n marks (length (l .sources)) i h, filled-all l arcs equal (rw e at (state .filled)))
+        (state .verdict ∙ verdict-none l n power (length (l .sources)) i h, filled-all l arcs equal (rw e at (state .filled)))
 
 -- what the pass hands back is what the definition says
-module _ (n s k marks : ℕ) (l : Lists) (power : marks ≡ 2 ^ k) where
-  pub fitted-refused : (r : Refusal) → arcsVerdict n marks (arcsFrom l (length (l .sources)) 0) 0 ≡ Refused r
+module _ (n s k power : ℕ) (l : Lists) (two-to-k : power ≡ 2 ^ k) where
+  pub fitted-refused : (r : Refusal) → arcsVerdict n power (arcsFrom l (length (l .sources)) 0) 0 ≡ Refused r
       → fittedIf (Refused r) blankModel ≡ fittedArcs n s k l
-  fitted-refused r e = rw (← power, e) refl
+  fitted-refused r e = rw (← two-to-k, e) refl
 
-  pub fitted-yes : (arcs : List Arc) → arcsVerdict n marks (arcsFrom l (length (l .sources)) 0) 0 ≡ Yes → arcs ≡ arcsFrom l arcsMost 0
+  pub fitted-yes : (arcs : List Arc) → arcsVerdict n power (arcsFrom l (length (l .sources)) 0) 0 ≡ Yes → arcs ≡ arcsFrom l arcsMost 0
       → fittedIf Yes (record { modes = n; start = s; colours = k; count = length (l .sources); arcs = arcs }) ≡ fittedArcs n s k l
-  fitted-yes arcs e f = rw (← power, e, f) refl
+  fitted-yes arcs e f = rw (← two-to-k, e, f) refl

@@ -21,7 +21,7 @@ use Rattle.model.specs.Automaton.{Automaton, noArc, arcAt}
 use Rattle.refusals.proofs.Verdicts.{refuse-yes, and-then-yes}
 use Rattle.model.specs.Lists.{Lists, arcsFrom, automatonOf, modelOf, blankModel, held}
 use Rattle.model.specs.Fitness.{unfitLists, header, unfitArc, arcsVerdict, fitness, fittedIf, fittedArcs, fittedOf, levelsOf, EqualLists, Header, ArcFits, Fit}
-use Rattle.model.proofs.Marks.{colours-below}
+use Rattle.model.proofs.Bits.{colours-below}
 use Rattle.model.proofs.Arcs.{arcs-length, arcs-take}
 
 clash : {X : Type 0} → _≡_ {A = ℕ} 0 1 → X
@@ -130,17 +130,17 @@ header-yes n s k l =
     )
 
 -- 5 does not apply: no arc of the list is unfit
-pub arcs-yes : (n marks : ℕ) (l : List Arc) (i : ℕ) → (arcsVerdict n marks l i ≡ Yes)
-    ↔ ((a : ℕ) → a < length l → unfitArc n marks (getD l a noArc) ≡ false)
+pub arcs-yes : (n power : ℕ) (l : List Arc) (i : ℕ) → (arcsVerdict n power l i ≡ Yes)
+    ↔ ((a : ℕ) → a < length l → unfitArc n power (getD l a noArc) ≡ false)
 unfolding arcsVerdict
-arcs-yes n marks [] i = (λ e a h. absurd (omega arith), λ f. refl)
-arcs-yes n marks (x ∷ l) i =
-    let ih = arcs-yes n marks l (suc i) in
-    let row = refuse-yes (unfitArc n marks x) (UnfitArc i) (arcsVerdict n marks l (suc i)) in
+arcs-yes n power [] i = (λ e a h. absurd (omega arith), λ f. refl)
+arcs-yes n power (x ∷ l) i =
+    let ih = arcs-yes n power l (suc i) in
+    let row = refuse-yes (unfitArc n power x) (UnfitArc i) (arcsVerdict n power l (suc i)) in
     (λ e. each (row .0 e .0) (ih .0 (row .0 e .1)), λ f. row .1 (f 0 (omega arith), ih .1 (λ a h. f (suc a) (omega arith))))
   where
-    each : unfitArc n marks x ≡ false → ((a : ℕ) → a < length l → unfitArc n marks (getD l a noArc) ≡ false)
-        → (a : ℕ) → a < length (x ∷ l) → unfitArc n marks (getD (x ∷ l) a noArc) ≡ false
+    each : unfitArc n power x ≡ false → ((a : ℕ) → a < length l → unfitArc n power (getD l a noArc) ≡ false)
+        → (a : ℕ) → a < length (x ∷ l) → unfitArc n power (getD (x ∷ l) a noArc) ≡ false
     each e f zero h = e
     each e f (suc a) h = f a (omega arith)
 

@@ -1,5 +1,5 @@
--- Laws of models and plans, one idea a file; Arcs and Marks serve the proofs of the code too.
-pub mod Marks
+-- Laws of models and plans, one idea a file; Arcs and Bits serve the proofs of the code too.
+pub mod Bits
 pub mod Arcs
 pub mod Fitness
 pub mod SomeArc

@@ -32,15 +32,15 @@ header n s k sources targets weights colours =
     Yes)))
 
 -- "an arc's source or target not below n, weight outside its range, or a colour bit at or above k". A byte has a bit at or above k where
--- it is at least marks, 2 ^ k: the law colours-below.
+-- it is at least power, 2 ^ k: the law colours-below.
 unfoldable pub unfitArc : ℕ → ℕ → Arc → Bool
-unfitArc n marks a =
-    leb n (a .source) || leb n (a .target) || ltZ (a .weight) weightLeast || ltZ weightMost (a .weight) || leb marks (a .colours)
+unfitArc n power a =
+    leb n (a .source) || leb n (a .target) || ltZ (a .weight) weightLeast || ltZ weightMost (a .weight) || leb power (a .colours)
 
 -- 5, with the lowest such arc; the list's first arc has the number i
 unfoldable pub arcsVerdict : ℕ → ℕ → List Arc → ℕ → Verdict
-arcsVerdict n marks [] i = Yes
-arcsVerdict n marks (a ∷ l) i = refuse (unfitArc n marks a) (UnfitArc i) (arcsVerdict n marks l (suc i))
+arcsVerdict n power [] i = Yes
+arcsVerdict n power (a ∷ l) i = refuse (unfitArc n power a) (UnfitArc i) (arcsVerdict n power l (suc i))
 
 -- 1 to 5, for any numbers and lists
 unfoldable pub fitness : ℕ → ℕ → ℕ → Lists → Verdict

@@ -16,6 +16,14 @@ pub struct Arc {
     pub colours: u8,
 }
 
+// What stands where no arc is.
+const NO_ARC: Arc = Arc {
+    source: 0,
+    target: 0,
+    weight: 0,
+    colours: 0,
+};
+
 // A model by value. The first `count` arcs are the model's; the others are blank.
 pub struct Model {
     pub modes: u8,
@@ -90,9 +98,9 @@ pub fn check_levels(c: u32, b: u32) -> Verdict
     Verdict::Yes
 }
 
-// Whether an arc is unfit for n modes, where `marks` is 2 to the number of colours.
-fn unfit_arc(arc: Arc, n: u32, marks: u32) -> bool
-    ensures { λ r. ⌜ r ≡ unfitArc n marks arc ⌝ }
+// Whether an arc is unfit for n modes and k colours, where `power` is 2 to the k.
+fn unfit_arc(arc: Arc, n: u32, power: u32) -> bool
+    ensures { λ r. ⌜ r ≡ unfitArc n power arc ⌝ }
 {
     let weight = arc.weight;
     if (arc.source as u32) >= n {
@@ -107,11 +115,11 @@ fn unfit_arc(arc: Arc, n: u32, marks: u32) -> bool
     if weight > Limits::WEIGHT_MOST {
         return true;
     }
-    (arc.colours as u32) >= marks
+    (arc.colours as u32) >= power
 }
 
-// 2 to the number of colours: the least number that has a bit at or above k.
-fn marks_of(k: u32) -> u32
+// 2 to the k: the least number that has a bit at or above k.
+fn two_to(k: u32) -> u32
     requires { ⌜ k ≤ coloursMost ⌝ }
     ensures { λ r. ⌜ r ≡ 2 ^ k ⌝ }
 {
@@ -122,18 +130,12 @@ fn marks_of(k: u32) -> u32
 fn refused(refusal: Refusal) -> Fitted
     ensures { λ r. ⌜ r ≡ fittedIf (Verdict.Refused refusal) blankModel ⌝ }
 {
-    let none = Arc {
-        source: 0,
-        target: 0,
-        weight: 0,
-        colours: 0,
-    };
     let model = Model {
         modes: 0,
         start: 0,
         colours: 0,
         count: 0,
-        arcs: [none; Limits::ARCS],
+        arcs: [NO_ARC; Limits::ARCS],
     };
     Fitted {
         verdict: Verdict::Refused(refusal),
@@ -154,14 +156,8 @@ fn check_arcs(
     requires { ⌜ Header n start k (lists (now sources) (now targets) (now weights) (now colours)) ⌝ }
     ensures { λ r. ⌜ r ≡ fittedArcs n start k (lists (now (sources .entry)) (now (targets .entry)) (now (weights .entry)) (now (colours .entry))) ⌝ }
 {
-    let marks = marks_of(k);
-    let none = Arc {
-        source: 0,
-        target: 0,
-        weight: 0,
-        colours: 0,
-    };
-    let mut arcs = [none; Limits::ARCS];
+    let power = two_to(k);
+    let mut arcs = [NO_ARC; Limits::ARCS];
     let mut i = 0;
     while i < sources.len() {
         let arc = Arc {
@@ -170,7 +166,7 @@ fn check_arcs(
             weight: weights[i],
             colours: colours[i],
         };
-        if unfit_arc(arc, n, marks) {
+        if unfit_arc(arc, n, power) {
             return refused(Refusal::UnfitArc(i as u32));
         }
         arcs[i] = arc;

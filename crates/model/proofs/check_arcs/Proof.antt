@@ -14,26 +14,26 @@ use Rattle.model.proofs.check_arcs.Statement.{statement}
 use Rattle.model.proofs.check_arcs.Tie as tie
 use Rattle.model.proofs.check_arcs.Reads as reads
 use Rattle.model.proofs.check_arcs.Lts as lts
-use Rattle.model.proofs.marks_of.Reads as marks-of-reads
+use Rattle.model.proofs.two_to.Reads as two-to-reads
 use Rattle.model.proofs.refused.Reads as refused-reads
 use Rattle.model.proofs.unfit_arc.Reads as unfit-arc-reads
 
 abbrev Inv-loop : tie.InvT-loop
-Inv-loop n start k sources targets weights colours marks arcs₀ i₀ arcs i =
-    Copying n marks (lists sources targets weights colours) arcs i
+Inv-loop n start k sources targets weights colours power arcs₀ i₀ arcs i =
+    Copying n power (lists sources targets weights colours) arcs i
 
 abbrev μ-loop : tie.MeasureT-loop
-μ-loop n start k sources targets weights colours marks arcs₀ i₀ arcs i = length sources - i
+μ-loop n start k sources targets weights colours power arcs₀ i₀ arcs i = length sources - i
 
 -- src/lib.rt:287:9
-marks-of-requires : tie.Need-marks-of-requires Inv-loop μ-loop
-marks-of-requires c κs = search needs
+two-to-requires : tie.Need-two-to-requires Inv-loop μ-loop
+two-to-requires c κs = search needs
 
 -- src/lib.rt:296:5
 loop-holds : tie.Need-loop-holds Inv-loop μ-loop
 loop-holds c =
     let a = c .before .before .before .before .args in
-    copying-none (a .n) (c .marks-of .result) (lists (a .sources .now) (a .targets .now) (a .weights .now) (a .colours .now))
+    copying-none (a .n) (c .two-to .result) (lists (a .sources .now) (a .targets .now) (a .weights .now) (a .colours .now))
 
 -- src/lib.rt:298:21
 shared-slice-read-t17 : tie.Need-shared-slice-read-t17 Inv-loop μ-loop
@@ -75,8 +75,8 @@ returns c =
     let l = lists (a .sources .now) (a .targets .now) (a .weights .now) (a .colours .now) in
     let fits : SFits w16 (getD (a .weights .now) (d .loop .i) (pos 0)) = sfits-of (c .before .before .before .before .t21 .given) in
     c .refused .ensures
-    ∙ fitted-refused (a .n) (a .start) (a .k) (d .before .marks-of .result) l (d .before .marks-of .ensures) _
-    (copying-unfit (a .n) (d .before .marks-of .result) l (d .loop .arcs) (d .loop .i) (d .loop .inv) _ (omega arith) (simp (toZ-ofZ fits))
+    ∙ fitted-refused (a .n) (a .start) (a .k) (d .before .two-to .result) l (d .before .two-to .ensures) _
+    (copying-unfit (a .n) (d .before .two-to .result) l (d .loop .arcs) (d .loop .i) (d .loop .inv) _ (omega arith) (simp (toZ-ofZ fits))
     (sym (c .before .before .unfit-arc .ensures) ∙ c .before .if1 .taken))
 
 -- src/lib.rt:306:9
@@ -102,7 +102,7 @@ loop-again c =
     let a = d .before .before .before .before .before .args in
     let h = d .before .before .before .before .before .pre in
     let fits : SFits w16 (getD (a .weights .now) (d .loop .i) (pos 0)) = sfits-of (c .before .before .before .t21 .given) in
-    copying-more (a .n) (d .before .marks-of .result) (lists (a .sources .now) (a .targets .now) (a .weights .now) (a .colours .now))
+    copying-more (a .n) (d .before .two-to .result) (lists (a .sources .now) (a .targets .now) (a .weights .now) (a .colours .now))
     (d .loop .arcs) (d .loop .i) (d .loop .inv) _ (omega arith) (h .few-arcs) (simp (toZ-ofZ fits)) (sym (c .before .unfit-arc .ensures) ∙ c .if1 .left)
 
 -- src/lib.rt:310:16
@@ -128,8 +128,8 @@ returns-2 c =
     let a = d .before .before .before .before .before .args in
     let h = d .before .before .before .before .before .pre in
     let l = lists (a .sources .now) (a .targets .now) (a .weights .now) (a .colours .now) in
-    let (e, f) = copying-done (a .n) (d .before .marks-of .result) l (d .loop .arcs) (d .loop .i) (d .loop .inv) (c .loop-test .left) (h .equal) in
-    fitted-yes (a .n) (a .start) (a .k) (d .before .marks-of .result) l (d .before .marks-of .ensures) (d .loop .arcs) e f
+    let (e, f) = copying-done (a .n) (d .before .two-to .result) l (d .loop .arcs) (d .loop .i) (d .loop .inv) (c .loop-test .left) (h .equal) in
+    fitted-yes (a .n) (a .start) (a .k) (d .before .two-to .result) l (d .before .two-to .ensures) (d .loop .arcs) e f
 
 pub check-arcs-spec : {M : Type 1} → statement M
 check-arcs-spec =
@@ -137,7 +137,7 @@ check-arcs-spec =
     (tie.spec
     Inv-loop
     μ-loop
-    marks-of-requires
+    two-to-requires
     loop-holds
     shared-slice-read-t17
     shared-slice-read-t19
