@@ -1,7 +1,7 @@
-// Every ceiling of document 01 ("Ceilings"), once, under its name. Code cites the constants; definitions cite the numerals of
+// Every ceiling of document 01 ("Ceilings"), each under its name. Code cites the constants; definitions cite the numerals of
 // specs/Ceilings; `Limits::agree` ties each constant to its numeral.
 ghost use mathlib.Core.Path.{_≡_};
-ghost use lib.IntN.{pos, negsuc};
+ghost use mathlib.Core.Bool.{true};
 ghost use Rattle.limits.specs.Ceilings.{
   modesMost,
   arcsMost,
@@ -47,10 +47,10 @@ impl Limits {
     // Working space of search: 4 × (k + 1) × n × (b + 1) words. The words of one entry.
     pub const WORK_WORDS: usize = 4;
 
-    // The levels of the working space beyond k.
+    // What is added to k in the size of the working space.
     pub const WORK_LEVELS: usize = 1;
 
-    // Plan buffer of search: (k + 2) × n × (b + 1) bytes. The levels of the plan buffer beyond k.
+    // Plan buffer of search: (k + 2) × n × (b + 1) bytes. What is added to k.
     pub const PLAN_LEVELS: usize = 2;
 
     // The highest (k + 1) × n × (b + 1) that the supplied program keeps space for.
@@ -58,6 +58,7 @@ impl Limits {
 
     // Every constant is the numeral of specs/Ceilings: changing one side alone is refused.
     pub fn agree() -> bool
+        ensures yes { λ r. ⌜ r ≡ true ⌝ }
         ensures modes { λ _. do ⌜ (← ⟦Limits::MODES⟧ .entry) ≡ modesMost ⌝ }
         ensures arcs { λ _. do ⌜ (← ⟦Limits::ARCS⟧ .entry) ≡ arcsMost ⌝ }
         ensures colours { λ _. do ⌜ (← ⟦Limits::COLOURS⟧ .entry) ≡ coloursMost ⌝ }

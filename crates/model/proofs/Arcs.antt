@@ -1,7 +1,7 @@
 -- The arcs of four lists: as a list, as the array that is filled from it, and the verdict on them. Assumes nothing.
 use mathlib.Core.Path.{_≡_, refl, sym, ap, _∙_}
 use mathlib.Core.Bool.{true, false}
-use mathlib.Core.List.{List, [], _∷_}
+use mathlib.Core.List.{List, _∷_}
 use Prim.Native.Nat.{ℕ, zero, suc, _+_, _-_, _^_, _≤_, _<_}
 use native.Mathlib.Nat.{add-zero}
 use native.Mathlib.Numerals.{add-one}
@@ -12,14 +12,13 @@ use lib.ListN.{length, getD, set, take, replicate, length-set, length-replicate,
 use lib.Seq.{getD-set-same, getD-set-other, ext-getD}
 use Rattle.limits.specs.Ceilings.{arcsMost}
 use Rattle.model.specs.declared.Arc.{Arc}
-use Rattle.refusals.specs.declared.Verdict.{Verdict}
 use Rattle.refusals.specs.declared.Verdict.the-variants.{Yes, Refused}
 use Rattle.refusals.specs.declared.Refusal.{Refusal}
 use Rattle.refusals.specs.declared.Refusal.the-variants.{UnfitArc}
-use Rattle.model.specs.Automaton.{Automaton, noArc, arcAt}
+use Rattle.model.specs.Automaton.{noArc}
 use Rattle.refusals.specs.Refusals.{refuse}
-use Rattle.model.specs.Lists.{Lists, arcOf, arcsFrom, automatonOf, modelOf, blankModel, held}
-use Rattle.model.specs.Fitness.{unfitArc, arcsVerdict, EqualLists, fittedIf, fittedArcs}
+use Rattle.model.specs.Lists.{Lists, arcOf, arcsFrom, blankModel}
+use Rattle.model.specs.Fitness.{unfitArc, arcsVerdict, arcsFitness, EqualLists, fittedIf, fittedArcs}
 
 module _ (l : Lists) where
   pub arcs-length : (m i : ℕ) → length (arcsFrom l m i) ≡ m
@@ -106,7 +105,7 @@ module _ (l : Lists) where
 pub record Copying (n power : ℕ) (l : Lists) (arcs : List Arc) (i : ℕ) : Type 0 where
   pub within : i ≤ length (l .sources)
   pub filled : Filled l i arcs
-  pub verdict : arcsVerdict n power (arcsFrom l (length (l .sources)) 0) 0 ≡ arcsVerdict n power (arcsFrom l (length (l .sources) - i) i) i
+  pub verdict : arcsFitness n power l ≡ arcsVerdict n power (arcsFrom l (length (l .sources) - i) i) i
 
 module _ (n power : ℕ) (l : Lists) where
   pub copying-none : Copying n power l (replicate arcsMost noArc) 0
@@ -125,22 +124,22 @@ module _ (n power : ℕ) (l : Lists) where
 
     -- the first that is unfit is the verdict
     pub copying-unfit : (x : Arc) → i < length (l .sources) → x ≡ arcOf l i → unfitArc n power x ≡ true
-        → arcsVerdict n power (arcsFrom l (length (l .sources)) 0) 0 ≡ Refused (UnfitArc i)
+        → arcsFitness n power l ≡ Refused (UnfitArc i)
     copying-unfit x h e unfit = state .verdict ∙ verdict-more l n power (length (l .sources)) i h ∙ rw (sym e, unfit) refl
 
     -- past the last arc the verdict is yes, and the array has every arc
     pub copying-done : length (l .sources) ≤ i → EqualLists l
-        → (arcsVerdict n power (arcsFrom l (length (l .sources)) 0) 0 ≡ Yes) × (arcs ≡ arcsFrom l arcsMost 0)
+        → (arcsFitness n power l ≡ Yes) × (arcs ≡ arcsFrom l arcsMost 0)
     copying-done h equal =
         let e : i ≡ length (l .sources) = omega (arith, state .within) in
         (state .verdict ∙ verdict-none l n power (length (l .sources)) i h, filled-all l arcs equal (rw e at (state .filled)))
 
 -- what the pass hands back is what the definition says
 module _ (n s k power : ℕ) (l : Lists) (two-to-k : power ≡ 2 ^ k) where
-  pub fitted-refused : (r : Refusal) → arcsVerdict n power (arcsFrom l (length (l .sources)) 0) 0 ≡ Refused r
+  pub fitted-refused : (r : Refusal) → arcsFitness n power l ≡ Refused r
       → fittedIf (Refused r) blankModel ≡ fittedArcs n s k l
   fitted-refused r e = rw (← two-to-k, e) refl
 
-  pub fitted-yes : (arcs : List Arc) → arcsVerdict n power (arcsFrom l (length (l .sources)) 0) 0 ≡ Yes → arcs ≡ arcsFrom l arcsMost 0
+  pub fitted-yes : (arcs : List Arc) → arcsFitness n power l ≡ Yes → arcs ≡ arcsFrom l arcsMost 0
       → fittedIf Yes (record { modes = n; start = s; colours = k; count = length (l .sources); arcs = arcs }) ≡ fittedArcs n s k l
   fitted-yes arcs e f = rw (← two-to-k, e, f) refl

@@ -1,13 +1,13 @@
 -- Colour bytes: powers of two as the code makes them, and what it means that a byte has no bit at or above k. Assumes nothing.
-use mathlib.Core.Path.{_≡_, refl, sym, ap, _∙_}
+use mathlib.Core.Path.{_≡_, refl, _∙_}
 use mathlib.Core.Bool.{false}
 use mathlib.Core.Logic.{_↔_}
 use Prim.Native.Nat.{ℕ, zero, suc, _+_, _*_, _/_, _%_, _^_, _≤_, _<_}
-use native.Mathlib.Nat.{one-mul, mul-comm, add-zero, add-suc, two-pow-succ, one-le-pow, pow-le-pow-right, div-eq-of-lt, div-lt-iff-lt-mul}
+use native.Mathlib.Nat.{one-mul, add-zero, add-suc, two-pow-succ, one-le-pow, pow-le-pow-right, div-eq-of-lt, div-lt-iff-lt-mul}
 use native.Mathlib.Omega.{arith}
 use lib.Dec.{lit<}
 use lib.Pow.{shl-exact}
-use borrow.Author.Tests.{eqb-false, ne-eqb}
+use borrow.Author.Tests.{eqb-false}
 use Rattle.model.specs.Automaton.{bit}
 
 -- 1 shifted within a word of 32 bits

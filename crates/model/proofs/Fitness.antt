@@ -1,14 +1,14 @@
 -- What the verdicts mean: fitness is yes exactly for four equal lists and a fit model, levels exactly for c ≤ b ≤ 8,191; and the model that
 -- the code holds is the model of the lists. Assumes nothing.
-use mathlib.Core.Path.{_≡_, refl, sym, ap, _∙_}
+use mathlib.Core.Path.{_≡_, refl, ap}
 use mathlib.Core.Bool.{Bool, true, false, not, _||_}
 use mathlib.Core.List.{List, [], _∷_}
 use mathlib.Core.Logic.{_↔_}
 use Prim.Native.Nat.{ℕ, zero, suc, _+_, _-_, _^_, _≤_, _<_}
 use native.Mathlib.Omega.{arith}
-use lib.Dec.{T, leb, ltb, eqb}
+use lib.Dec.{leb, ltb, eqb}
 use lib.IntN.{ℤ}
-use lib.ListN.{length, getD, take}
+use lib.ListN.{length, getD}
 use lib.Signed.{ltZ, _≤ℤ_, ltZ-no, clashℤ, ltZ-yes}
 use borrow.Author.Tests.{ltb-false, leb-false, eqb-false, eqb-true, not-false, le-ltb, lt-leb, eq-eqb, ne-eqb}
 use Rattle.limits.specs.Ceilings.{modesMost, arcsMost, coloursMost, boundMost, weightLeast, weightMost}
@@ -17,15 +17,12 @@ use Rattle.refusals.specs.declared.Refusal.{Refusal}
 use Rattle.refusals.specs.declared.Refusal.the-variants.{UnfitArc, ModeCount, StartMode, ArcLists, ColourCount, Levels}
 use Rattle.refusals.specs.declared.Verdict.{Verdict}
 use Rattle.refusals.specs.declared.Verdict.the-variants.{Yes, Refused}
-use Rattle.model.specs.Automaton.{Automaton, noArc, arcAt}
-use Rattle.refusals.proofs.Verdicts.{refuse-yes, and-then-yes}
-use Rattle.model.specs.Lists.{Lists, arcsFrom, automatonOf, modelOf, blankModel, held}
-use Rattle.model.specs.Fitness.{unfitLists, header, unfitArc, arcsVerdict, fitness, fittedIf, fittedArcs, fittedOf, levelsOf, EqualLists, Header, ArcFits, Fit}
+use Rattle.model.specs.Automaton.{Automaton, noArc}
+use Rattle.refusals.proofs.Verdicts.{clash, refuse-yes, and-then-yes}
+use Rattle.model.specs.Lists.{Lists, arcsOf, automatonOf, modelOf, blankModel, held}
+use Rattle.model.specs.Fitness.{unfitLists, header, headerOf, arcsFitness, unfitArc, arcsVerdict, fitness, fittedIf, fittedArcs, fittedOf, levelsOf, EqualLists, Header, ArcFits, Fit}
 use Rattle.model.proofs.Bits.{colours-below}
 use Rattle.model.proofs.Arcs.{arcs-length, arcs-take}
-
-clash : {X : Type 0} → _≡_ {A = ℕ} 0 1 → X
-clash e = absurd (omega arith)
 
 or-no : (s t : Bool) → ((s || t) ≡ false) ↔ ((s ≡ false) × (t ≡ false))
 or-no true t = (λ e. clash (cc), λ e. clash (cc))
@@ -86,7 +83,7 @@ unfit-no n k a =
 
 -- none of 1 to 4 applies
 pub header-yes : (n s k : ℕ) (l : Lists)
-    → (header n s k (length (l .sources)) (length (l .targets)) (length (l .weights)) (length (l .colours)) ≡ Yes) ↔ Header n s k l
+    → (headerOf n s k l ≡ Yes) ↔ Header n s k l
 unfolding header unfitLists
 header-yes n s k l =
     let m = length (l .sources) in
@@ -148,8 +145,8 @@ arcs-yes n power (x ∷ l) i =
 pub fitness-yes : (n s k : ℕ) (l : Lists) → (fitness n s k l ≡ Yes) ↔ (EqualLists l × Fit (automatonOf n s k l))
 unfolding fitness
 fitness-yes n s k l =
-    let arcs = arcsFrom l (length (l .sources)) 0 in
-    let both = and-then-yes (header n s k (length (l .sources)) (length (l .targets)) (length (l .weights)) (length (l .colours))) (arcsVerdict n (2 ^ k) arcs 0) in (
+    let arcs = arcsOf l in
+    let both = and-then-yes (headerOf n s k l) (arcsFitness n (2 ^ k) l) in (
       λ e.
           let h = header-yes n s k l .0 (both .0 e .0) in
           let f = arcs-yes n (2 ^ k) arcs 0 .0 (both .0 e .1) in (
@@ -185,9 +182,9 @@ held-model n s k l h =
     ap {B = Automaton} (λ x. record { modes = n; start = s; colours = k; arcs = x }) (rw e at q)
 
 -- 6 does not apply exactly where c is at most b, and b at most 8,191
-pub levels-yes : (c b : ℕ) → (levelsOf c b ≡ Yes) ↔ ((b ≤ boundMost) × (c ≤ b))
+pub levels-yes : (b c : ℕ) → (levelsOf b c ≡ Yes) ↔ ((b ≤ boundMost) × (c ≤ b))
 unfolding levelsOf
-levels-yes c b =
+levels-yes b c =
     let row = refuse-yes (ltb boundMost b || ltb b c) Levels Yes in
     let two = or-no (ltb boundMost b) (ltb b c) in (
       λ e. let t = two .0 (row .0 e .0) in (lt-no boundMost b .0 (t .0), lt-no b c .0 (t .1)),
@@ -196,13 +193,27 @@ levels-yes c b =
 
 -- what is handed back, by the verdict on 1 to 4
 module _ (n s k : ℕ) (l : Lists) where
-  pub fitted-through : header n s k (length (l .sources)) (length (l .targets)) (length (l .weights)) (length (l .colours)) ≡ Yes
+  pub fitted-through : headerOf n s k l ≡ Yes
       → fittedArcs n s k l ≡ fittedOf n s k l
   unfolding fittedOf fitness
   fitted-through e = rw e refl
 
   pub fitted-stopped : (r : Refusal)
-      → header n s k (length (l .sources)) (length (l .targets)) (length (l .weights)) (length (l .colours)) ≡ Refused r
+      → headerOf n s k l ≡ Refused r
       → fittedIf (Refused r) blankModel ≡ fittedOf n s k l
   unfolding fittedOf fitness
   fitted-stopped r e = rw e refl
+
+-- What a caller of check_model learns: its verdict is fitness, and where that is yes, the model that it holds is the model of the lists.
+pub fitted-verdict : (n s k : ℕ) (l : Lists) → fittedOf n s k l .verdict ≡ fitness n s k l
+unfolding fittedOf
+fitted-verdict n s k l = go (fitness n s k l)
+  where
+    go : (v : Verdict) → fittedIf v (modelOf n s k l) .verdict ≡ v
+    go Yes = refl
+    go (Refused r) = refl
+
+pub fitted-held : (n s k : ℕ) (l : Lists) → fitness n s k l ≡ Yes → held (fittedOf n s k l .model) ≡ automatonOf n s k l
+unfolding fittedOf
+fitted-held n s k l e =
+    rw e (held-model n s k l (omega (arith, fitness-yes n s k l .0 e .1 .few-arcs, arcs-length l (length (l .sources)) 0)))

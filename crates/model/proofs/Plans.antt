@@ -1,27 +1,25 @@
 -- What the definitions of feasible and accepted come to: two rounds decide the first, and the second is document 001's acceptance of the
 -- infinite run. Assumes nothing.
 use mathlib.Core.Path.{_≡_, refl, sym, ap, _∙_, subst}
-use mathlib.Core.List.{List, [], _∷_, _++_, map, map-append, append-nil, append-assoc}
+use mathlib.Core.List.{List, _++_, map-append, append-nil, append-assoc}
 use mathlib.Core.Logic.{_↔_}
-use Prim.Native.Nat.{ℕ, zero, suc, _+_, _≤_, _<_}
+use Prim.Native.Nat.{ℕ, zero, suc, _≤_, _<_}
 use native.Mathlib.Omega.{arith}
 use lib.IntN.{ℤ}
 use lib.ListN.{length, drop, length-append}
 use lib.Seq.{drop-append-le, drop-append-seam}
-use Rattle.walks.specs.declared.Step.{Step}
-use Rattle.walks.specs.declared.Step.the-variants.{To, Impossible}
-use Rattle.walks.specs.Walk.{onward, walked, IsPossible, RoundsHold, times}
+use Rattle.walks.specs.Walk.{End, Ends, Blocked, afterWalk, walked, IsPossible, RoundsHold, times}
 use Rattle.walks.proofs.Weights.{walked-append, map-times}
 use Rattle.walks.proofs.Charges.{walked-bound}
 use Rattle.walks.proofs.Rounds.{rounds-hold}
 use Rattle.model.specs.Automaton.{Automaton, arcAt, meets, weights}
-use Rattle.model.specs.Plans.{Plan, Feasible, SomeArc, Meets, Accepted}
+use Rattle.model.specs.Plans.{Plan, Feasible, Meets, Accepted}
 use Rattle.model.proofs.SomeArc.{some-right, some-times}
 
 module _ (g : Automaton) (b c : ℕ) (p : Plan) where
   -- the walk of a plan with its cycle r times over is the walk of the prefix, and then that of the cycle repeated
   plan-walked : (r : ℕ) → walked b (weights g (p .prefix ++ times r (p .cycle))) c
-      ≡ onward (walked b (weights g (p .prefix)) c) (walked b (times r (weights g (p .cycle))))
+      ≡ afterWalk (walked b (weights g (p .prefix)) c) (walked b (times r (weights g (p .cycle))))
   plan-walked r =
       let arc : ℕ → ℤ = λ a. arcAt g a .weight in
       ap (λ (l : List ℤ). walked b l c)
@@ -29,19 +27,19 @@ module _ (g : Automaton) (b c : ℕ) (p : Plan) where
       ∙ walked-append b (weights g (p .prefix)) (times r (weights g (p .cycle))) c
 
   -- feasible: the prefix ends at some charge e, from which the first round ends no lower than it began, or the second does
-  pub feasible-rounds : c ≤ b → Feasible g b c p ↔ ((e : ℕ) × (walked b (weights g (p .prefix)) c ≡ To e) × RoundsHold b (weights g (p .cycle)) e)
+  pub feasible-rounds : c ≤ b → Feasible g b c p ↔ ((e : ℕ) × (walked b (weights g (p .prefix)) c ≡ Ends e) × RoundsHold b (weights g (p .cycle)) e)
   feasible-rounds h = (λ f. to (walked b (weights g (p .prefix)) c) refl (λ r. subst IsPossible (plan-walked r) (f r)), from)
     where
-      bounded : (e : ℕ) → walked b (weights g (p .prefix)) c ≡ To e → e ≤ b
+      bounded : (e : ℕ) → walked b (weights g (p .prefix)) c ≡ Ends e → e ≤ b
       bounded e q = walked-bound b (weights g (p .prefix)) c e h q
 
-      to : (s : Step) → walked b (weights g (p .prefix)) c ≡ s
-          → ((r : ℕ) → IsPossible (onward (walked b (weights g (p .prefix)) c) (walked b (times r (weights g (p .cycle))))))
-          → (e : ℕ) × (walked b (weights g (p .prefix)) c ≡ To e) × RoundsHold b (weights g (p .cycle)) e
-      to (To e) q f = (e, q, rounds-hold b (weights g (p .cycle)) e (bounded e q) .0 (λ r. rw q at (f r)))
-      to Impossible q f = absurd (rw q at (f 0))
+      to : (s : End) → walked b (weights g (p .prefix)) c ≡ s
+          → ((r : ℕ) → IsPossible (afterWalk (walked b (weights g (p .prefix)) c) (walked b (times r (weights g (p .cycle))))))
+          → (e : ℕ) × (walked b (weights g (p .prefix)) c ≡ Ends e) × RoundsHold b (weights g (p .cycle)) e
+      to (Ends e) q f = (e, q, rounds-hold b (weights g (p .cycle)) e (bounded e q) .0 (λ r. rw q at (f r)))
+      to Blocked q f = absurd (rw q at (f 0))
 
-      from : ((e : ℕ) × (walked b (weights g (p .prefix)) c ≡ To e) × RoundsHold b (weights g (p .cycle)) e) → Feasible g b c p
+      from : ((e : ℕ) × (walked b (weights g (p .prefix)) c ≡ Ends e) × RoundsHold b (weights g (p .cycle)) e) → Feasible g b c p
       from (e, q, k) r = subst IsPossible (sym (plan-walked r)) (rw q (rounds-hold b (weights g (p .cycle)) e (bounded e q) .1 k r))
 
 -- the list repeated r times has at least r arcs, where it has one

@@ -1,6 +1,6 @@
 -- Fitness, refusals 1 to 5, and levels, refusal 6. Document 01, "Where each call stops", rows "model" and "levels".
 use Prim.Native.Nat.{ℕ, suc, _≤_, _<_, _^_}
-use mathlib.Core.Bool.{Bool, true, false, not, _||_}
+use mathlib.Core.Bool.{Bool, false, not, _||_}
 use mathlib.Core.List.{List, [], _∷_}
 use mathlib.Core.Path.{_≡_}
 use lib.Dec.{leb, ltb, eqb}
@@ -15,7 +15,7 @@ use Rattle.refusals.specs.declared.Verdict.{Verdict}
 use Rattle.refusals.specs.declared.Verdict.the-variants.{Yes, Refused}
 use Rattle.refusals.specs.Refusals.{refuse, andThen}
 use Rattle.model.specs.Automaton.{Automaton, arcAt, bit}
-use Rattle.model.specs.Lists.{Lists, arcsFrom, modelOf, blankModel}
+use Rattle.model.specs.Lists.{Lists, arcsOf, modelOf, blankModel}
 
 -- "arc lists unequal or longer than 255", by the lengths of the four
 unfoldable pub unfitLists : ℕ → ℕ → ℕ → ℕ → Bool
@@ -42,11 +42,17 @@ unfoldable pub arcsVerdict : ℕ → ℕ → List Arc → ℕ → Verdict
 arcsVerdict n power [] i = Yes
 arcsVerdict n power (a ∷ l) i = refuse (unfitArc n power a) (UnfitArc i) (arcsVerdict n power l (suc i))
 
+-- 1 to 4, of the lists
+abbrev pub headerOf : ℕ → ℕ → ℕ → Lists → Verdict
+headerOf n s k l = header n s k (length (l .sources)) (length (l .targets)) (length (l .weights)) (length (l .colours))
+
+-- 5, of the lists
+abbrev pub arcsFitness : ℕ → ℕ → Lists → Verdict
+arcsFitness n power l = arcsVerdict n power (arcsOf l) 0
+
 -- 1 to 5, for any numbers and lists
 unfoldable pub fitness : ℕ → ℕ → ℕ → Lists → Verdict
-fitness n s k l =
-    andThen (header n s k (length (l .sources)) (length (l .targets)) (length (l .weights)) (length (l .colours)))
-    (arcsVerdict n (2 ^ k) (arcsFrom l (length (l .sources)) 0) 0)
+fitness n s k l = andThen (headerOf n s k l) (arcsFitness n (2 ^ k) l)
 
 -- what the code hands back: the verdict, with the model where it is yes and a blank one where it is not
 abbrev pub fittedIf : Verdict → Model → Fitted
@@ -58,11 +64,11 @@ fittedOf n s k l = fittedIf (fitness n s k l) (modelOf n s k l)
 
 -- the same where 1 to 4 let the model through
 abbrev pub fittedArcs : ℕ → ℕ → ℕ → Lists → Fitted
-fittedArcs n s k l = fittedIf (arcsVerdict n (2 ^ k) (arcsFrom l (length (l .sources)) 0) 0) (modelOf n s k l)
+fittedArcs n s k l = fittedIf (arcsFitness n (2 ^ k) l) (modelOf n s k l)
 
--- 6: "b above 8,191, or c above b"
+-- 6: "b above 8,191, or c above b"; as everywhere in the definitions, the bound stands before the credit
 unfoldable pub levelsOf : ℕ → ℕ → Verdict
-levelsOf c b = refuse (ltb boundMost b || ltb b c) Levels Yes
+levelsOf b c = refuse (ltb boundMost b || ltb b c) Levels Yes
 
 -- What is fit, as facts. "Arcs come as four lent lists of equal length."
 pub record EqualLists (l : Lists) : Type 0 where

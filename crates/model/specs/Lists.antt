@@ -6,7 +6,7 @@ use lib.ListN.{length, getD, take}
 use Rattle.limits.specs.Ceilings.{arcsMost}
 use Rattle.model.specs.declared.Arc.{Arc}
 use Rattle.model.specs.declared.Model.{Model}
-use Rattle.model.specs.Automaton.{Automaton, noArc}
+use Rattle.model.specs.Automaton.{Automaton}
 
 pub record Lists : Type 0 where
   pub sources : List ℕ
@@ -26,9 +26,13 @@ abbrev pub arcsFrom : Lists → ℕ → ℕ → List Arc
 arcsFrom l zero a = []
 arcsFrom l (suc m) a = arcOf l a ∷ arcsFrom l m (suc a)
 
+-- the arcs of the lists, in the order given
+abbrev pub arcsOf : Lists → List Arc
+arcsOf l = arcsFrom l (length (l .sources)) 0
+
 -- the model that n, the start mode, k and the lists define
 abbrev pub automatonOf : ℕ → ℕ → ℕ → Lists → Automaton
-automatonOf n s k l = record { modes = n; start = s; colours = k; arcs = arcsFrom l (length (l .sources)) 0 }
+automatonOf n s k l = record { modes = n; start = s; colours = k; arcs = arcsOf l }
 
 -- the same as the code holds it: all places of the array are there, and those past the last arc are blank
 abbrev pub modelOf : ℕ → ℕ → ℕ → Lists → Model

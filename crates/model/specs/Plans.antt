@@ -6,7 +6,7 @@ use mathlib.Core.Bool.{Bool, true}
 use mathlib.Core.List.{List, [], _∷_, _++_}
 use mathlib.Core.Logic.{_⊎_}
 use lib.ListN.{length}
-use Rattle.walks.specs.Walk.{walked, IsPossible, times}
+use Rattle.walks.specs.Walk.{End, walked, IsPossible, times}
 use Rattle.model.specs.Automaton.{Automaton, arcAt, meets, weights}
 
 -- arc numbers. prefix: document 01's run-in, of length p; cycle: its round, of length q. Document 001 calls the two a lasso.
@@ -23,12 +23,16 @@ Leads g s (a ∷ w) t = (a < length (g .arcs)) × (arcAt g a .source ≡ s) × L
 pub record IsPlan (g : Automaton) (p : Plan) : Type 0 where
   pub mode : ℕ
   pub leads-in : Leads g (g .start) (p .prefix) mode
-  pub leads-round : Leads g mode (p .cycle) mode
+  pub leads-cycle : Leads g mode (p .cycle) mode
   pub some-arc : 0 < length (p .cycle)
+
+-- the walk of these arcs, one after the other, from charge e under the bound b
+abbrev pub walkedArcs : Automaton → ℕ → List ℕ → ℕ → End
+walkedArcs g b w e = walked b (weights g w) e
 
 -- "Feasible: with the round repeated any number of times, every step is possible."
 abbrev pub Feasible : Automaton → ℕ → ℕ → Plan → Type 0
-Feasible g b c p = (r : ℕ) → IsPossible (walked b (weights g (p .prefix ++ times r (p .cycle))) c)
+Feasible g b c p = (r : ℕ) → IsPossible (walkedArcs g b (p .prefix ++ times r (p .cycle)) c)
 
 -- some arc of the list passes the test
 abbrev pub SomeArc : (ℕ → Bool) → List ℕ → Type 0
@@ -43,7 +47,7 @@ Meets g j w = SomeArc (meets g j) w
 abbrev pub Accepted : Automaton → Plan → Type 0
 Accepted g p = (j : ℕ) → j < g .colours → Meets g j (p .cycle)
 
--- a plan of the model that is feasible and accepted, from credit c under the bound b
+-- a plan of the model that is feasible and accepted, under the bound b from credit c; in all definitions the bound stands first
 pub record Serves (g : Automaton) (b c : ℕ) (p : Plan) : Type 0 where
   pub plan : IsPlan g p
   pub feasible : Feasible g b c p

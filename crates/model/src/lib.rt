@@ -1,6 +1,6 @@
 // The model as one value, and the checks that every call begins with: fitness (1 to 5) and levels (6).
 ghost use mathlib.Core.Path.{_≡_};
-ghost use Prim.Native.Nat.{ℕ, _≤_, _^_};
+ghost use Prim.Native.Nat.{_≤_, _^_};
 ghost use Rattle.limits.specs.Ceilings.{coloursMost};
 ghost use Rattle.model.specs.Lists.{lists, blankModel};
 ghost use Rattle.model.specs.Fitness.{unfitLists, header, unfitArc, Header, fittedIf, fittedArcs, fittedOf, levelsOf};
@@ -87,7 +87,7 @@ fn check_header(
 
 // Refusal 6: the bound is above its ceiling, or the credit above the bound.
 pub fn check_levels(c: u32, b: u32) -> Verdict
-    ensures { λ r. ⌜ r ≡ levelsOf c b ⌝ }
+    ensures { λ r. ⌜ r ≡ levelsOf b c ⌝ }
 {
     if b > Limits::BOUND {
         return Verdict::Refused(Refusal::Levels);

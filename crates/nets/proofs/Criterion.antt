@@ -1,5 +1,5 @@
--- The criterion: a net has a lasso exactly where a cycle from some peak keeps the peak and meets every duty. So the repeated lowering of
--- document 001, Algorithm 1, lines 10 to 19, is not needed. Assumes nothing.
+-- The criterion: a net has an accepted feasible lasso exactly where a cycle from some peak keeps the peak and meets every duty. So the
+-- further iterations of document 001, Algorithm 1, lines 10 to 19, are not needed. Assumes nothing.
 use mathlib.Core.Path.{_≡_, refl}
 use mathlib.Core.List.{List, [], _∷_, _++_, map}
 use mathlib.Core.Logic.{⊎-elim, _↔_}
@@ -10,15 +10,15 @@ use Rattle.walks.proofs.Charges.{charge-bound}
 use Rattle.walks.proofs.Rounds.{keeps-forever, two-rounds}
 use Rattle.walks.proofs.Merge.{turned, keeps-above}
 use Rattle.nets.specs.Graph.{moves, Leads}
-use Rattle.nets.specs.Net.{Net, Usable, Fits, MeetsAll, Cycle, Lasso}
+use Rattle.nets.specs.Net.{Net, Usable, Fits, MeetsAll, Cycle, AcceptedLasso}
 use Rattle.nets.specs.Table.{level, Reached, Peaks, KeptCycle, PeakCycle}
 use Rattle.nets.proofs.Leads.{moves-append, leads-usable, leads-bound}
 use Rattle.nets.proofs.Cycles.{meets-turned, cycle-turned, lasso-possible}
 use Rattle.nets.proofs.Levels.{level-bound}
-use Rattle.nets.proofs.Tables.{below}
+use Rattle.nets.proofs.Tables.{charge-below}
 
 -- a walk to mode s with charge e, and a cycle from s that keeps e, are a lasso: the walk is its prefix
-unfoldable pub reached-lasso : (g : Net) (b c s e : ℕ) → Reached g (Usable g) 0 b (g .start) c 0 s e → KeptCycle g b s e → Lasso g b c
+unfoldable pub reached-lasso : (g : Net) (b c s e : ℕ) → Reached g (Usable g) 0 b (g .start) c 0 s e → KeptCycle g b s e → AcceptedLasso g b c
 reached-lasso g b c s e r k =
     record {
       prefix = r .arcs;
@@ -48,7 +48,7 @@ module _ (g : Net) (b c : ℕ) (high : ℕ → ℕ → ℕ) (fits : Fits g) (hc 
       → charge b (moves (g .graph) w) e < high 0 t
   below-peak w s t e d h p =
       let z : level g 0 0 w ≡ 0 = omega (arith, level-bound g 0 w 0 (omega arith)) in
-      rw z at (below g (Usable g) 0 b (g .start) c high (peaks .closed) w 0 s t e (omega arith) d h p)
+      rw z at (charge-below g (Usable g) 0 b (g .start) c high (peaks .closed) w 0 s t e (omega arith) d h p)
 
   -- no peak is above the bound
   peak-bound : (s : ℕ) → s < g .modes → high 0 s ≤ suc b
@@ -72,7 +72,7 @@ module _ (g : Net) (b c : ℕ) (high : ℕ → ℕ → ℕ) (fits : Fits g) (hc 
         mode = t;
         peak = b;
         bounded = ht;
-        entry = omega (arith, peak-bound t ht, below-peak v s t z (leads-usable g v s t d) (omega arith) pv);
+        listed = omega (arith, peak-bound t ht, below-peak v s t z (leads-usable g v s t d) (omega arith) pv);
         cycle =
             record { arcs = u ++ v; closed = k; meets = meets-turned g v u m; keeps = rw (moves-append (g .graph) u v) (pr, omega arith) };
       }
@@ -91,12 +91,12 @@ module _ (g : Net) (b c : ℕ) (high : ℕ → ℕ → ℕ) (fits : Fits g) (hc 
       → Keeps b (moves (g .graph) w) e → PeakCycle g b high
   from-kept s e z w hs h hz r m k =
       ⊎-elim
-      (λ k′. record { mode = s; peak = z; bounded = hs; entry = h; cycle = record { arcs = w; closed = r; meets = m; keeps = k′ } })
+      (λ k′. record { mode = s; peak = z; bounded = hs; listed = h; cycle = record { arcs = w; closed = r; meets = m; keeps = k′ } })
       (λ f. from-fall s z w hs h r m (f .0) (f .1) (f .2))
       (keeps-above b (moves (g .graph) w) e z k hz (omega (arith, peak-bound s hs)))
 
   -- the cycle of a lasso keeps a charge up to the peak, from its first round or from its second
-  to-peak : Lasso g b c → PeakCycle g b high
+  to-peak : AcceptedLasso g b c → PeakCycle g b high
   to-peak p =
       let u = p .prefix in
       let w = p .cycle in
@@ -113,10 +113,10 @@ module _ (g : Net) (b c : ℕ) (high : ℕ → ℕ → ℕ) (fits : Fits g) (hc 
       (t .1)
 
   -- a peak is reached by a walk: the prefix
-  from-peak : PeakCycle g b high → Lasso g b c
+  from-peak : PeakCycle g b high → AcceptedLasso g b c
   from-peak k =
-      reached-lasso g b c (k .mode) (k .peak) (peaks .attained 0 (k .mode) (k .peak) (omega arith) (k .bounded) (k .entry)) (k .cycle)
+      reached-lasso g b c (k .mode) (k .peak) (peaks .attained 0 (k .mode) (k .peak) (omega arith) (k .bounded) (k .listed)) (k .cycle)
 
-  -- a lasso is there exactly where a cycle from some peak keeps the peak and meets every duty
-  pub criterion : Lasso g b c ↔ PeakCycle g b high
+  -- an accepted feasible lasso is there exactly where a cycle from some peak keeps the peak and meets every duty
+  pub criterion : AcceptedLasso g b c ↔ PeakCycle g b high
   criterion = (to-peak, from-peak)

@@ -1,5 +1,5 @@
 -- The decision: a cycle from a mode that keeps a charge and meets every duty is there exactly where the tour has a hit; so, with the peaks
--- and the tours from them, a net has a lasso exactly where some tour has a hit. Assumes nothing.
+-- and the tours from them, a net has an accepted feasible lasso exactly where some tour has a hit. Assumes nothing.
 use mathlib.Core.Path.{_≡_, refl, _∙_}
 use mathlib.Core.List.{List, [], _∷_, _++_}
 use mathlib.Core.Logic.{_↔_}
@@ -11,7 +11,7 @@ use Rattle.walks.specs.Moves.{after, charge, Possible}
 use Rattle.walks.proofs.Charges.{charge-append, possible-append}
 use Rattle.walks.proofs.Rounds.{keeps-forever, kept-times}
 use Rattle.nets.specs.Graph.{moves, Leads}
-use Rattle.nets.specs.Net.{Net, Lasts, Fits, Lasso}
+use Rattle.nets.specs.Net.{Net, Lasts, Fits, AcceptedLasso}
 use Rattle.nets.specs.Table.{next, level, Closed, Reached, Peaks, Tour, Tours, KeptCycle, Hit, PeakHit}
 use Rattle.nets.proofs.Leads.{moves-append, moves-times, leads-append, leads-times}
 use Rattle.nets.proofs.Levels.{next-bound, level-append, level-bound, passed-met, times-level}
@@ -30,7 +30,7 @@ module _ (g : Net) (b s e : ℕ) (high : ℕ → ℕ → ℕ) where
         charged = pred (high l m);
         bounded = hl;
         lasts = d .0;
-        entry = rw (d .1) (omega arith);
+        listed = rw (d .1) (omega arith);
         possible = omega arith;
         last = q;
         back = d .2;
@@ -78,17 +78,17 @@ module _ (g : Net) (b s e : ℕ) (high : ℕ → ℕ → ℕ) where
       }
 
   -- a cycle from s keeps e and meets every duty exactly where the tour from s with e has a hit
-  pub layered : Fits g → Tour g b s e high → KeptCycle g b s e ↔ Hit g b s e high
-  layered f k = (
+  pub kept-cycle-hit : Fits g → Tour g b s e high → KeptCycle g b s e ↔ Hit g b s e high
+  kept-cycle-hit f k = (
     kept-hit (k .closed),
     λ h.
         hit-kept h
-        (k .attained (h .from) (g .graph .source (h .arc)) (h .charged) (h .bounded) (f .sources (h .arc) (h .lasts .0)) (h .entry)),
+        (k .attained (h .from) (g .graph .source (h .arc)) (h .charged) (h .bounded) (f .sources (h .arc) (h .lasts .0)) (h .listed)),
   )
 
 -- the whole decision
 pub decides : (g : Net) (b c : ℕ) (high : ℕ → ℕ → ℕ) (tour : ℕ → ℕ → ℕ → ℕ) → Fits g → c ≤ b → Peaks g b c high → Tours g b high tour
-    → Lasso g b c ↔ PeakHit g b high tour
+    → AcceptedLasso g b c ↔ PeakHit g b high tour
 decides g b c high tour f hc k t =
     let d = criterion g b c high f hc k in (
       λ p.
@@ -97,15 +97,15 @@ decides g b c high tour f hc k t =
             mode = r .mode;
             peak = r .peak;
             bounded = r .bounded;
-            entry = r .entry;
-            hit = layered g b (r .mode) (r .peak) (tour (r .mode)) f (t (r .mode) (r .peak) (r .bounded) (r .entry)) .0 (r .cycle);
+            listed = r .listed;
+            hit = kept-cycle-hit g b (r .mode) (r .peak) (tour (r .mode)) f (t (r .mode) (r .peak) (r .bounded) (r .listed)) .0 (r .cycle);
           },
       λ h.
           d .1 (record {
             mode = h .mode;
             peak = h .peak;
             bounded = h .bounded;
-            entry = h .entry;
-            cycle = layered g b (h .mode) (h .peak) (tour (h .mode)) f (t (h .mode) (h .peak) (h .bounded) (h .entry)) .1 (h .hit);
+            listed = h .listed;
+            cycle = kept-cycle-hit g b (h .mode) (h .peak) (tour (h .mode)) f (t (h .mode) (h .peak) (h .bounded) (h .listed)) .1 (h .hit);
           }),
     )

@@ -1,5 +1,5 @@
 -- Levels: a walk never lowers the level, the duties of the levels passed are met, and so many repetitions of a list that meets every duty,
--- in whatever order, pass all levels. Document 001, Lemma 2.5. Assumes nothing.
+-- in whatever order, pass all levels. Document 001, Lemma 2.5; here the levels are 0 to K, and the last stays. Assumes nothing.
 use mathlib.Core.Path.{_≡_, refl}
 use mathlib.Core.Bool.{Bool, true, false, _&&_}
 use mathlib.Core.List.{List, [], _∷_, _++_}

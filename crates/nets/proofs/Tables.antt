@@ -14,19 +14,19 @@ use Rattle.nets.proofs.Levels.{level-append, next-bound}
 
 module _ (g : Net) (ok : ℕ → Type 0) (K b s e : ℕ) where
   -- what a walk makes of a charge below an entry is below an entry
-  pub below : (high : ℕ → ℕ → ℕ) → Closed g ok K b s e high → (w : List ℕ) (l m t x : ℕ) → l ≤ K → Leads (g .graph) ok m w t → x < high l m
+  pub charge-below : (high : ℕ → ℕ → ℕ) → Closed g ok K b s e high → (w : List ℕ) (l m t x : ℕ) → l ≤ K → Leads (g .graph) ok m w t → x < high l m
       → Possible b (moves (g .graph) w) x → charge b (moves (g .graph) w) x < high (level g K l w) t
-  below high k [] l m t x hl d h p = rw (← d) h
-  below high k (a ∷ w) l m t x hl d h p =
+  charge-below high k [] l m t x hl d h p = rw (← d) h
+  charge-below high k (a ∷ w) l m t x hl d h p =
       let q : high l (g .graph .source a) ≡ suc (pred (high l m)) = rw (d .1) (omega arith) in
-      below high k w (next g K l a) (g .graph .target a) t (after b (g .graph .move a) x) (next-bound g K l a hl) (d .2)
+      charge-below high k w (next g K l a) (g .graph .target a) t (after b (g .graph .move a) x) (next-bound g K l a hl) (d .2)
       (omega (arith, k .steps l a (pred (high l m)) hl (d .0) q (omega arith)))
       (p .1)
 
   -- a charge that is reached is below its entry
   pub reached-below : (high : ℕ → ℕ → ℕ) → Closed g ok K b s e high → (l t x : ℕ) → Reached g ok K b s e l t x → x < high l t
   reached-below high k l t x r =
-      rw (r .levels, r .reaches) at (below high k (r .arcs) 0 s t e (omega arith) (r .leads) (omega (arith, k .begins)) (r .possible))
+      rw (r .levels, r .reaches) at (charge-below high k (r .arcs) 0 s t e (omega arith) (r .leads) (omega (arith, k .begins)) (r .possible))
 
   -- a walk goes on by the arcs v from where another has come
   unfoldable pub reached-on : (l l′ t t′ x x′ : ℕ) (v : List ℕ) → Reached g ok K b s e l t x → Leads (g .graph) ok t v t′ → level g K l v ≡ l′
@@ -48,7 +48,7 @@ module _ (g : Net) (ok : ℕ → Type 0) (K b s e : ℕ) where
   table-le high high′ k k′ l t (suc x) hl ht q = reached-below high′ (k′ .closed) l t x (k .attained l t x hl ht q)
 
   -- there is one table of the greatest charges
-  pub unique : (high high′ : ℕ → ℕ → ℕ) → Table g ok K b s e high → Table g ok K b s e high′
+  pub table-unique : (high high′ : ℕ → ℕ → ℕ) → Table g ok K b s e high → Table g ok K b s e high′
       → (l t : ℕ) → l ≤ K → t < g .modes → high l t ≡ high′ l t
-  unique high high′ k k′ l t hl ht =
+  table-unique high high′ k k′ l t hl ht =
       omega (arith, table-le high high′ k k′ l t (high l t) hl ht refl, table-le high′ high k′ k l t (high′ l t) hl ht refl)

@@ -1,4 +1,4 @@
--- The net of a whole model stands for the model: its lassos are the feasible and accepted plans, with the same prefix and cycle. So the
+-- The net of a whole model stands for the model: its accepted feasible lassos are the feasible and accepted plans, with the same prefix and cycle. So the
 -- criterion and the decision hold of plans, in the words of document 01. Assumes nothing.
 use mathlib.Core.Path.{_≡_, refl}
 use mathlib.Core.List.{List, _++_}
@@ -12,7 +12,7 @@ use Rattle.model.specs.Fitness.{Fit}
 use Rattle.model.specs.Plans
 use Rattle.model.specs.Plans.{Plan, Serves, SomePlan}
 use Rattle.nets.specs.Graph.{Leads}
-use Rattle.nets.specs.Net.{Usable, Lasts, Fits, Lasso}
+use Rattle.nets.specs.Net.{Usable, Lasts, Fits, AcceptedLasso}
 use Rattle.nets.specs.Table.{Reached, Peaks, Tours, KeptCycle, PeakCycle, PeakHit}
 use Rattle.nets.specs.Whole.{graphOf, whole, planOf}
 use Rattle.nets.proofs.Leads.{leads-weaken}
@@ -44,14 +44,14 @@ module _ (g : Automaton) where
 
 module _ (g : Automaton) (b c : ℕ) where
   -- the plan with the prefix and the cycle of a lasso is one of the model, feasible and accepted
-  pub lasso-serves : (p : Lasso (whole g) b c) → Serves g b c (planOf p)
+  pub lasso-serves : (p : AcceptedLasso (whole g) b c) → Serves g b c (planOf p)
   lasso-serves p =
       record {
         plan =
             record {
               mode = p .mode;
               leads-in = whole-usable g (p .prefix) (g .start) (p .mode) .1 (p .leads-in);
-              leads-round = whole-lasts g (p .cycle) (p .mode) (p .mode) .1 (p .closed .leads);
+              leads-cycle = whole-lasts g (p .cycle) (p .mode) (p .mode) .1 (p .closed .leads);
               some-arc = p .closed .some-arc;
             };
         feasible = λ r. possible-graph g b c (p .prefix ++ times r (p .cycle)) .1 (p .possible r);
@@ -65,7 +65,7 @@ module _ (g : Automaton) (b c : ℕ) where
   reached-serves s e r k = lasso-serves (reached-lasso (whole g) b c s e r k)
 
   -- and a feasible and accepted plan of the model is a lasso, with the same prefix and cycle
-  pub serves-lasso : (p : Plan) → Serves g b c p → (l : Lasso (whole g) b c) × (planOf l ≡ p)
+  pub serves-lasso : (p : Plan) → Serves g b c p → (l : AcceptedLasso (whole g) b c) × (planOf l ≡ p)
   serves-lasso p s = (
     record {
       prefix = p .prefix;
@@ -73,7 +73,7 @@ module _ (g : Automaton) (b c : ℕ) where
       mode = s .plan .mode;
       leads-in = whole-usable g (p .prefix) (g .start) (s .plan .mode) .0 (s .plan .leads-in);
       closed =
-          record { some-arc = s .plan .some-arc; leads = whole-lasts g (p .cycle) (s .plan .mode) (s .plan .mode) .0 (s .plan .leads-round) };
+          record { some-arc = s .plan .some-arc; leads = whole-lasts g (p .cycle) (s .plan .mode) (s .plan .mode) .0 (s .plan .leads-cycle) };
       possible = λ r. possible-graph g b c (p .prefix ++ times r (p .cycle)) .0 (s .feasible r);
       meets = s .accepted;
     },
@@ -81,7 +81,7 @@ module _ (g : Automaton) (b c : ℕ) where
   )
 
   -- some plan is feasible and accepted exactly where the net has a lasso
-  pub whole-lasso : SomePlan g b c ↔ Lasso (whole g) b c
+  pub whole-lasso : SomePlan g b c ↔ AcceptedLasso (whole g) b c
   whole-lasso = (λ p. serves-lasso (p .0) (p .1) .0, λ l. (planOf l, lasso-serves l))
 
   -- some plan is feasible and accepted exactly where a cycle from some peak keeps the peak and meets every colour

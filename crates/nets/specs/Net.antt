@@ -48,9 +48,9 @@ pub record Cycle (g : Net) (s : ℕ) (w : List ℕ) : Type 0 where
   pub some-arc : 0 < length w
   pub leads : Leads (g .graph) (Lasts g) s w s
 
--- a plan of the net that is feasible and accepted, from credit c under the bound b: "with the round repeated any number of times, every
--- step is possible", and the cycle meets every duty
-pub record Lasso (g : Net) (b c : ℕ) : Type 0 where
+-- a Büchi accepted (c, b)-feasible lasso (document 001, Lemma 2.6), the net's form of a plan that is feasible and accepted: "with the round
+-- repeated any number of times, every step is possible", and the cycle meets every duty
+pub record AcceptedLasso (g : Net) (b c : ℕ) : Type 0 where
   pub prefix : List ℕ
   pub cycle : List ℕ
   pub mode : ℕ

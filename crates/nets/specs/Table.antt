@@ -39,8 +39,8 @@ pub record Reached (g : Net) (ok : ℕ → Type 0) (K b s e l t x : ℕ) : Type 
   pub possible : Possible b (moves (g .graph) arcs) e
   pub reaches : charge b (moves (g .graph) arcs) e ≡ x
 
--- The table of the greatest charges: closed, and every entry is attained. (It says nothing of levels above K nor of modes that are none of
--- the net's, so that a list of words at level * modes + mode can be a table.)
+-- The table of the greatest charges: closed, and every entry is attained. (Of a net that fits, it says nothing of levels above K nor of modes
+-- that are none of the net's, so that a list of words at level * modes + mode can be a table.)
 pub record Table (g : Net) (ok : ℕ → Type 0) (K b s e : ℕ) (high : ℕ → ℕ → ℕ) : Type 0 where
   pub closed : Closed g ok K b s e high
   pub attained : (l t x : ℕ) → l ≤ K → t < g .modes → high l t ≡ suc x → Reached g ok K b s e l t x
@@ -69,7 +69,7 @@ pub record PeakCycle (g : Net) (b : ℕ) (high : ℕ → ℕ → ℕ) : Type 0 w
   pub mode : ℕ
   pub peak : ℕ
   pub bounded : mode < g .modes
-  pub entry : high 0 mode ≡ suc peak
+  pub listed : high 0 mode ≡ suc peak
   pub cycle : KeptCycle g b mode peak
 
 -- an arc from an entry of the tour from mode s with charge e that closes a cycle: it comes to the last level, back to s, no lower than e
@@ -79,7 +79,7 @@ pub record Hit (g : Net) (b s e : ℕ) (high : ℕ → ℕ → ℕ) : Type 0 whe
   pub charged : ℕ
   pub bounded : from ≤ g .duties
   pub lasts : Lasts g arc
-  pub entry : high from (g .graph .source arc) ≡ suc charged
+  pub listed : high from (g .graph .source arc) ≡ suc charged
   pub possible : g .graph .move arc .draw ≤ charged
   pub last : next g (g .duties) from arc ≡ g .duties
   pub back : g .graph .target arc ≡ s
@@ -90,5 +90,5 @@ pub record PeakHit (g : Net) (b : ℕ) (high : ℕ → ℕ → ℕ) (tour : ℕ 
   pub mode : ℕ
   pub peak : ℕ
   pub bounded : mode < g .modes
-  pub entry : high 0 mode ≡ suc peak
+  pub listed : high 0 mode ≡ suc peak
   pub hit : Hit g b mode peak (tour mode)

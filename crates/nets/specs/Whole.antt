@@ -7,7 +7,7 @@ use Rattle.walks.specs.Moves.{moveOf}
 use Rattle.model.specs.Automaton.{Automaton, arcAt, meets}
 use Rattle.model.specs.Plans.{Plan}
 use Rattle.nets.specs.Graph.{Graph}
-use Rattle.nets.specs.Net.{Net, Lasso}
+use Rattle.nets.specs.Net.{Net, AcceptedLasso}
 
 -- the graph of a model: each arc with what its weight draws and gains
 abbrev pub graphOf : Automaton → Graph
@@ -28,5 +28,5 @@ whole g =
     }
 
 -- the plan with a lasso's prefix and cycle
-abbrev pub planOf : {g : Net} {b c : ℕ} → Lasso g b c → Plan
+abbrev pub planOf : {g : Net} {b c : ℕ} → AcceptedLasso g b c → Plan
 planOf p = record { prefix = p .prefix; cycle = p .cycle }

@@ -9,7 +9,8 @@ use Rattle.refusals.specs.declared.Verdict.{Verdict}
 use Rattle.refusals.specs.declared.Verdict.the-variants.{Yes, Refused}
 use Rattle.refusals.specs.Refusals.{refuse, andThen}
 
-clash : {X : Type 0} → _≡_ {A = ℕ} 0 1 → X
+-- two constructors are never equal
+pub clash : {X : Type 0} → _≡_ {A = ℕ} 0 1 → X
 clash e = absurd (omega arith)
 
 -- a row of the table that lets a call through

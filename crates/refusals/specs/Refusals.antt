@@ -12,30 +12,30 @@ abbrev pub answer : ℕ → ℕ → Answer
 answer n d = record { number = n; detail = d }
 
 -- the table
-abbrev pub entry : Refusal → Answer
-entry ModeCount = answer 1 0
-entry StartMode = answer 2 0
-entry ArcLists = answer 3 0
-entry ColourCount = answer 4 0
-entry (UnfitArc arc) = answer 5 arc
-entry Levels = answer 6 0
-entry Product = answer 7 0
-entry WorkingSpace = answer 8 0
-entry PlanBuffer = answer 9 0
-entry NoPlan = answer 10 0
-entry PlanLength = answer 11 0
-entry (ArcNumber position) = answer 12 position
-entry (OtherMode position) = answer 13 position
-entry OpenCycle = answer 14 0
-entry (ImpossibleStep step) = answer 15 step
-entry FallingCycle = answer 16 0
-entry (MissingColour colour) = answer 17 colour
-entry NoSuchColour = answer 18 0
+abbrev pub numbered : Refusal → Answer
+numbered ModeCount = answer 1 0
+numbered StartMode = answer 2 0
+numbered ArcLists = answer 3 0
+numbered ColourCount = answer 4 0
+numbered (UnfitArc arc) = answer 5 arc
+numbered Levels = answer 6 0
+numbered Product = answer 7 0
+numbered WorkingSpace = answer 8 0
+numbered PlanBuffer = answer 9 0
+numbered NoPlan = answer 10 0
+numbered PlanLength = answer 11 0
+numbered (ArcNumber position) = answer 12 position
+numbered (OtherMode position) = answer 13 position
+numbered OpenCycle = answer 14 0
+numbered (ImpossibleStep step) = answer 15 step
+numbered FallingCycle = answer 16 0
+numbered (MissingColour colour) = answer 17 colour
+numbered NoSuchColour = answer 18 0
 
 -- the yes is 0, with detail 0
 abbrev pub answerOf : Verdict → Answer
 answerOf Yes = answer 0 0
-answerOf (Refused r) = entry r
+answerOf (Refused r) = numbered r
 
 -- "Checked top to bottom; the first that applies is answered": the refusal where its condition holds, else what is checked after it
 abbrev pub refuse : Bool → Refusal → Verdict → Verdict

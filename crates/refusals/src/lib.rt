@@ -1,6 +1,6 @@
 // Where a call stops: the refusals of document 01's table and the number and detail of each.
 ghost use mathlib.Core.Path.{_≡_};
-ghost use Rattle.refusals.specs.Refusals.{entry, answerOf};
+ghost use Rattle.refusals.specs.Refusals.{numbered, answerOf};
 
 // Where a call stops: a case for each number of document 01's table, with its detail where the table names one.
 pub enum Refusal {
@@ -33,7 +33,7 @@ pub struct Answer {
 impl Refusal {
     // The number in document 01's table, with the detail.
     pub fn answer(self) -> Answer
-        ensures { λ r. ⌜ r ≡ entry self ⌝ }
+        ensures { λ r. ⌜ r ≡ numbered self ⌝ }
     {
         match self {
             Refusal::ModeCount => Answer {

@@ -2,11 +2,10 @@
 use mathlib.Core.Path.{_≡_, refl}
 use mathlib.Core.List.{List, [], _∷_, _++_, map}
 use mathlib.Core.Logic.{_↔_}
-use Prim.Native.Nat.{ℕ, _+_, _-_, _≤_, min}
+use Prim.Native.Nat.{ℕ, _≤_}
 use native.Mathlib.Omega.{arith}
 use lib.IntN.{ℤ}
-use Rattle.walks.specs.declared.Step.the-variants.{To}
-use Rattle.walks.specs.Walk.{walked}
+use Rattle.walks.specs.Walk.{Ends, walked}
 use Rattle.walks.specs.Moves.{Move, moveOf, after, charge, Possible}
 use Rattle.walks.proofs.Weights.{walked-moves, walked-to}
 
@@ -34,11 +33,11 @@ module _ (b : ℕ) where
   possible-mono (m ∷ ms) e e′ h p = (omega arith, possible-mono ms (after b m e) (after b m e′) (omega arith) (p .1))
 
 -- the same of walks of weights: at most the bound ..
-pub walked-bound : (b : ℕ) (ws : List ℤ) (e x : ℕ) → e ≤ b → walked b ws e ≡ To x → x ≤ b
+pub walked-bound : (b : ℕ) (ws : List ℤ) (e x : ℕ) → e ≤ b → walked b ws e ≡ Ends x → x ≤ b
 walked-bound b ws e x h q = omega (arith, walked-to b ws e x q .1, charge-bound b (map moveOf ws) e h)
 
 -- .. and monotone: a walk that is possible is possible from more, and ends no lower
-pub walked-mono : (b : ℕ) (ws : List ℤ) (e e′ x : ℕ) → e ≤ e′ → walked b ws e ≡ To x → (x′ : ℕ) × (walked b ws e′ ≡ To x′) × (x ≤ x′)
+pub walked-mono : (b : ℕ) (ws : List ℤ) (e e′ x : ℕ) → e ≤ e′ → walked b ws e ≡ Ends x → (x′ : ℕ) × (walked b ws e′ ≡ Ends x′) × (x ≤ x′)
 walked-mono b ws e e′ x h q =
     let ms = map moveOf ws in
     let (p, i) = walked-to b ws e x q in

@@ -8,17 +8,16 @@ use native.Mathlib.Omega.{arith}
 use native.Mathlib.Decide.{decLe}
 use borrow.Author.Tests.{le-ltb}
 use lib.IntN.{ℤ, pos, negsuc, _+ℤ_, _-ℤ_, +ℤ-assoc, +ℤ-comm, +ℤ-idr, +ℤ-invl, +ℤ-negℤ-cancel, pos-+ℤ-pos}
-use Rattle.walks.specs.declared.Step.{Step}
-use Rattle.walks.specs.declared.Step.the-variants.{To, Impossible}
-use Rattle.walks.specs.BoundedStep.{clipped, stepped}
-use Rattle.walks.specs.Walk.{walked, IsPossible, total}
+use Rattle.walks.specs.declared.Step.the-variants.{To}
+use Rattle.walks.specs.BoundedStep.{stepped}
+use Rattle.walks.specs.Walk.{Ends, walked, total}
 use Rattle.walks.specs.Moves.{Move, moveOf, drawOf, gainOf, after, charge, draws, gains, Possible}
 use Rattle.walks.proofs.Weights.{walked-moves}
 
 module _ (b : ℕ) where
   -- What a list of moves does to every charge up to the bound: it is possible exactly from need on, and then takes e to the smaller of
   -- e + gains - draws and top. (With the draws on the left, so that nothing is cut off at 0.)
-  pub record Law (ms : List Move) : Type 0 where
+  pub record WalkLaw (ms : List Move) : Type 0 where
     pub need : ℕ
     pub top : ℕ
     pub top-bound : top ≤ b
@@ -32,7 +31,7 @@ module _ (b : ℕ) where
       → x + (d + D) ≡ min (e + (g + G)) (min (b + G - D) M + (d + D))
   then-more d g e y x G D M h p q = omega arith
 
-  law-step : (m : Move) (ms : List Move) → Law ms → Law (m ∷ ms)
+  law-step : (m : Move) (ms : List Move) → WalkLaw ms → WalkLaw (m ∷ ms)
   law-step m ms l =
       elim (decLe (l .need) b) [
         | yes r ↦
@@ -60,8 +59,8 @@ module _ (b : ℕ) where
             }
       ]
 
-  pub law : (ms : List Move) → Law ms
-  law [] =
+  pub walk-law : (ms : List Move) → WalkLaw ms
+  walk-law [] =
       record {
         need = 0;
         top = b;
@@ -69,7 +68,7 @@ module _ (b : ℕ) where
         possible = λ e h. (λ p. omega arith, λ n. tt);
         value = λ e h p. omega arith;
       }
-  law (m ∷ ms) = law-step m ms (law ms)
+  walk-law (m ∷ ms) = law-step m ms (walk-law ms)
 
 -- over the integers: the sum of the weights and what they draw is what they gain
 weight-move : (w : ℤ) → w +ℤ pos (drawOf w) ≡ pos (gainOf w)
@@ -109,9 +108,9 @@ step-total M e x D G W q h =
 
 -- The law as the paper words it: a walk of these weights, where possible, is one step with their sum, under some bound M.
 pub closed-walk : (b : ℕ) (ws : List ℤ) →
-    (M : ℕ) × (M ≤ b) × ((e x : ℕ) → e ≤ b → walked b ws e ≡ To x → stepped M (total ws) e ≡ To x)
+    (M : ℕ) × (M ≤ b) × ((e x : ℕ) → e ≤ b → walked b ws e ≡ Ends x → stepped M (total ws) e ≡ To x)
 closed-walk b ws =
-    let l = law b (map moveOf ws) in (
+    let l = walk-law b (map moveOf ws) in (
       l .top,
       l .top-bound,
       λ e x h q.

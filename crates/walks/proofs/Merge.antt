@@ -1,14 +1,14 @@
--- The merge lemma: two walks of the same moves that begin apart and end together were both cut off at the bound, at one place; and what
--- follows of a round that falls from a charge to one that it keeps. Assumes nothing.
+-- The merge lemma: two walks of the same moves that begin apart and end together stood both at the bound, after the same first part; and
+-- what follows of a round that falls from a charge to one that it keeps. Assumes nothing.
 use mathlib.Core.Path.{_≡_, refl, sym, ap, _∙_}
 use mathlib.Core.List.{List, [], _∷_, _++_}
 use mathlib.Core.Logic.{_⊎_, inl, inr}
-use Prim.Native.Nat.{ℕ, _+_, _-_, _≤_, _<_, min}
+use Prim.Native.Nat.{ℕ, _≤_, _<_}
 use native.Mathlib.Omega.{arith}
 use native.Mathlib.Decide.{decLe}
 use Rattle.walks.specs.Moves.{Move, after, charge, Possible, Keeps}
 use Rattle.walks.proofs.Charges.{charge-append, possible-append, charge-mono, possible-mono}
-use Rattle.walks.proofs.ClosedWalk.{law}
+use Rattle.walks.proofs.ClosedWalk.{walk-law}
 
 module _ (b : ℕ) where
   pub merge : (ms : List Move) (y z : ℕ) → y < z → Possible b ms y → charge b ms y ≡ charge b ms z
@@ -42,7 +42,7 @@ module _ (b : ℕ) where
   pub keeps-above : (ms : List Move) (e z : ℕ) → Keeps b ms e → e ≤ z → z ≤ b
       → Keeps b ms z ⊎ ((charge b ms z < z) × Possible b ms (charge b ms z) × (charge b ms (charge b ms z) ≡ charge b ms z))
   keeps-above ms e z k h hb =
-      let l = law b ms in
+      let l = walk-law b ms in
       let p = possible-mono b ms e z h (k .0) in
       let q = charge-mono b ms e z h in
       let p′ = possible-mono b ms e (charge b ms z) (omega arith) (k .0) in

@@ -10,7 +10,7 @@ use Rattle.walks.specs.Walk.{walked, IsPossible, RoundsHold, times}
 use Rattle.walks.specs.Moves.{Move, moveOf, charge, Possible, Forever, Keeps, TwoRounds}
 use Rattle.walks.proofs.Weights.{map-times, walked-moves, walked-to}
 use Rattle.walks.proofs.Charges.{charge-append, possible-append, charge-mono, possible-mono}
-use Rattle.walks.proofs.ClosedWalk.{law}
+use Rattle.walks.proofs.ClosedWalk.{walk-law}
 
 module _ (b : ℕ) where
   -- what ends no lower than it began can be repeated
@@ -43,7 +43,7 @@ module _ (b : ℕ) where
   loses-twice : (ms : List Move) (e : ℕ) → e ≤ b → Possible b ms e → charge b ms e < e → Possible b ms (charge b ms e)
       → charge b ms (charge b ms e) < charge b ms e → (x : ℕ) → x ≤ b → Possible b ms x → charge b ms x < x
   loses-twice ms e h p q p′ q′ x hx px =
-      let l = law b ms in
+      let l = walk-law b ms in
       omega (arith, l .value e h p, l .value (charge b ms e) (omega arith) p′, l .value x hx px)
 
   -- the fact of the paper

@@ -1,20 +1,19 @@
 -- The one law that turns weights into moves: the step and the walk over the integers are those by what the weights draw and gain, on
 -- naturals. Assumes nothing.
-use mathlib.Core.Path.{_≡_, refl, sym, ap, _∙_}
-use mathlib.Core.Bool.{Bool, true, false}
+use mathlib.Core.Path.{_≡_, refl, ap, _∙_}
 use mathlib.Core.List.{List, [], _∷_, _++_, map, map-append}
-use mathlib.Core.Logic.{_⊎_, inl, inr, ⊎-elim, _↔_}
-use Prim.Native.Nat.{ℕ, zero, suc, zero-le, min, _+_, _-_, _≤_, _<_}
+use mathlib.Core.Logic.{_↔_}
+use Prim.Native.Nat.{ℕ, zero, suc, zero-le, _+_, _-_, _≤_, _<_}
 use native.Mathlib.Nat.{add-zero}
 use native.Mathlib.Omega.{arith}
 use native.Mathlib.Decide.{decLe}
 use borrow.Author.Tests.{lt-ltb, le-ltb, le-leb, lt-leb}
-use lib.IntN.{ℤ, pos, negsuc, _+ℤ_}
+use lib.IntN.{ℤ, pos, negsuc}
 use Rattle.walks.specs.declared.Step.{Step}
 use Rattle.walks.specs.declared.Step.the-variants.{To, Impossible}
-use Rattle.walks.specs.BoundedStep.{clipped, stepped}
-use Rattle.walks.specs.Walk.{onward, walked, IsPossible, times}
-use Rattle.walks.specs.Moves.{Move, moveOf, after, moved, possibleIf, charge, Possible}
+use Rattle.walks.specs.BoundedStep.{stepped}
+use Rattle.walks.specs.Walk.{End, Ends, Blocked, afterStep, afterWalk, walked, IsPossible, times}
+use Rattle.walks.specs.Moves.{Move, moveOf, after, moved, charge, Possible}
 
 -- the step with weight w is the step by its move
 pub stepped-moved : (b : ℕ) (w : ℤ) (e : ℕ) → stepped b w e ≡ moved b (moveOf w) e
@@ -38,20 +37,20 @@ unfolding moved
 moved-impossible b m e h = rw (lt-leb (m .draw) e h)
 
 -- what the theory says of a walk of moves, about the walk of weights
-pub record Walks (b : ℕ) (ws : List ℤ) (e : ℕ) : Type 0 where
+pub record WalksAlike (b : ℕ) (ws : List ℤ) (e : ℕ) : Type 0 where
   pub possible : IsPossible (walked b ws e) ↔ Possible b (map moveOf ws) e
-  pub leads : Possible b (map moveOf ws) e → walked b ws e ≡ To (charge b (map moveOf ws) e)
+  pub leads : Possible b (map moveOf ws) e → walked b ws e ≡ Ends (charge b (map moveOf ws) e)
 
 module _ (b : ℕ) (w : ℤ) (ws : List ℤ) (e : ℕ) where
   step-on : moveOf w .draw ≤ e → walked b (w ∷ ws) e ≡ walked b ws (after b (moveOf w) e)
   unfolding walked
   step-on h = rw (stepped-moved b w e, moved-possible b (moveOf w) e h)
 
-  step-off : e < moveOf w .draw → walked b (w ∷ ws) e ≡ Impossible
+  step-off : e < moveOf w .draw → walked b (w ∷ ws) e ≡ Blocked
   unfolding walked
   step-off h = rw (stepped-moved b w e, moved-impossible b (moveOf w) e h)
 
-  walks-more : Walks b ws (after b (moveOf w) e) → Walks b (w ∷ ws) e
+  walks-more : WalksAlike b ws (after b (moveOf w) e) → WalksAlike b (w ∷ ws) e
   walks-more k =
       elim (decLe (moveOf w .draw) e) [
         | yes h ↦
@@ -67,27 +66,27 @@ module _ (b : ℕ) (w : ℤ) (ws : List ℤ) (e : ℕ) where
       ]
 
 -- the walk of the weights is the walk of their moves
-pub walked-moves : (b : ℕ) (ws : List ℤ) (e : ℕ) → Walks b ws e
+pub walked-moves : (b : ℕ) (ws : List ℤ) (e : ℕ) → WalksAlike b ws e
 unfolding walked
 walked-moves b [] e = record { possible = (λ p. p, λ p. p); leads = λ p. refl }
 walked-moves b (w ∷ ws) e = walks-more b w ws e (walked-moves b ws (after b (moveOf w) e))
 
 -- a walk of weights that ends at x: its moves are possible, and their charge is x
-pub walked-to : (b : ℕ) (ws : List ℤ) (e x : ℕ) → walked b ws e ≡ To x → Possible b (map moveOf ws) e × (charge b (map moveOf ws) e ≡ x)
+pub walked-to : (b : ℕ) (ws : List ℤ) (e x : ℕ) → walked b ws e ≡ Ends x → Possible b (map moveOf ws) e × (charge b (map moveOf ws) e ≡ x)
 walked-to b ws e x q =
     let k = walked-moves b ws e in
     let p = k .possible .0 (rw q tt) in
     (p, cc (k .leads p))
 
-onward-assoc : (s : Step) (f g h : ℕ → Step) → ((e : ℕ) → f e ≡ onward (g e) h) → onward s f ≡ onward (onward s g) h
-onward-assoc (To e) f g h k = k e
-onward-assoc Impossible f g h k = refl
+after-step-assoc : (s : Step) (f g h : ℕ → End) → ((e : ℕ) → f e ≡ afterWalk (g e) h) → afterStep s f ≡ afterWalk (afterStep s g) h
+after-step-assoc (To e) f g h k = k e
+after-step-assoc Impossible f g h k = refl
 
 -- a walk of two lists is the one, and then the other
-pub walked-append : (b : ℕ) (u v : List ℤ) (e : ℕ) → walked b (u ++ v) e ≡ onward (walked b u e) (walked b v)
+pub walked-append : (b : ℕ) (u v : List ℤ) (e : ℕ) → walked b (u ++ v) e ≡ afterWalk (walked b u e) (walked b v)
 unfolding walked
 walked-append b [] v e = refl
-walked-append b (w ∷ u) v e = onward-assoc (stepped b w e) (walked b (u ++ v)) (walked b u) (walked b v) (walked-append b u v)
+walked-append b (w ∷ u) v e = after-step-assoc (stepped b w e) (walked b (u ++ v)) (walked b u) (walked b v) (walked-append b u v)
 
 -- a list mapped and repeated
 pub map-times : {A B : Type 0} (f : A → B) (r : ℕ) (l : List A) → map f (times r l) ≡ times r (map f l)

@@ -1,8 +1,8 @@
 -- The words in which the theory speaks of walks. A weight is a move: it draws from the charge, or it gains. The laws stepped-moved and
 -- walked-moves (proofs/Weights) say that this is the step of specs/BoundedStep and the walk of specs/Walk.
-use Prim.Native.Nat.{ℕ, zero, suc, _+_, _-_, _≤_, min}
+use Prim.Native.Nat.{ℕ, suc, _+_, _-_, _≤_, min}
 use mathlib.Core.Bool.{Bool, true, false}
-use mathlib.Core.List.{List, [], _∷_, _++_, map}
+use mathlib.Core.List.{List, [], _∷_}
 use mathlib.Core.Logic.{_⊎_}
 use lib.Dec.{leb}
 use lib.IntN.{ℤ, pos, negsuc}

@@ -1,5 +1,5 @@
--- Walks of weights under a bound. Document 001, section 2: the accumulated weights of a run are e₁ = c and eᵢ₊₁ = min (b, eᵢ + wᵢ), and the
--- run is feasible where all of them are at least 0.
+-- Walks of weights under a bound. Document 001, section 2: the accumulated weights of a run are e₁ = min (b, c) and eᵢ₊₁ = min (b, eᵢ + wᵢ),
+-- and the run is feasible where all are at least 0. Here e₁ is c: refusal 6 keeps c at most b, and every law that needs it says so.
 use Prim.Native.Nat.{ℕ, zero, suc, _≤_}
 use mathlib.Core.Path.{_≡_}
 use mathlib.Core.List.{List, [], _∷_, _++_}
@@ -9,15 +9,25 @@ use Rattle.walks.specs.declared.Step.{Step}
 use Rattle.walks.specs.declared.Step.the-variants.{To, Impossible}
 use Rattle.walks.specs.BoundedStep.{stepped}
 
+-- how a walk ends: at a charge, or blocked by a step that is not possible
+pub data End : Type 0 where
+  Ends : ℕ → End
+  Blocked : End
+
 -- what follows a step goes on from the charge that it leads to
-abbrev pub onward : Step → (ℕ → Step) → Step
-onward (To e) f = f e
-onward Impossible f = Impossible
+abbrev pub afterStep : Step → (ℕ → End) → End
+afterStep (To e) f = f e
+afterStep Impossible f = Blocked
+
+-- what follows a walk goes on from the charge at its end
+abbrev pub afterWalk : End → (ℕ → End) → End
+afterWalk (Ends e) f = f e
+afterWalk Blocked f = Blocked
 
 -- the weights walked one after the other from charge e: the charge at the end, or that some step is not possible
-unfoldable pub walked : ℕ → List ℤ → ℕ → Step
-walked b [] e = To e
-walked b (w ∷ ws) e = onward (stepped b w e) (walked b ws)
+unfoldable pub walked : ℕ → List ℤ → ℕ → End
+walked b [] e = Ends e
+walked b (w ∷ ws) e = afterStep (stepped b w e) (walked b ws)
 
 -- the sum of the weights
 abbrev pub total : List ℤ → ℤ
@@ -25,14 +35,14 @@ total [] = pos 0
 total (w ∷ ws) = w +ℤ total ws
 
 -- every step is possible
-abbrev pub IsPossible : Step → Type 0
-IsPossible (To e) = Unit {0}
-IsPossible Impossible = ⊥
+abbrev pub IsPossible : End → Type 0
+IsPossible (Ends e) = Unit {0}
+IsPossible Blocked = ⊥
 
 -- "the first round is possible and ends no lower than it began, or the second is also possible and ends no lower than it began" (document
 -- 01): the round from charge e ends at x, and the second, from x, at y
 abbrev pub RoundsHold : ℕ → List ℤ → ℕ → Type 0
-RoundsHold b ws e = (x : ℕ) × (walked b ws e ≡ To x) × ((e ≤ x) ⊎ ((y : ℕ) × (walked b ws x ≡ To y) × (x ≤ y)))
+RoundsHold b ws e = (x : ℕ) × (walked b ws e ≡ Ends x) × ((e ≤ x) ⊎ ((y : ℕ) × (walked b ws x ≡ Ends y) × (x ≤ y)))
 
 -- the list, r times over
 module _ {A : Type 0} where

@@ -1,5 +1,6 @@
-use mathlib.Core.Path.{_≡_, refl, sym, ap, _∙_}
-use Prim.Native.Nat.{_-_, _<_, _≤_, _+_}
+-- `model::check_arcs` meets its contract: the loop keeps `Copying`, and its two ways out are its two ends. Assumes nothing.
+use mathlib.Core.Path.{sym, _∙_}
+use Prim.Native.Nat.{_-_}
 use native.Mathlib.Omega.{arith}
 use lib.ListN.{length, getD}
 use lib.IntN.{pos}
@@ -7,16 +8,10 @@ use mir.Facts.{toZ-ofZ}
 use mir.Syntax.{w16}
 use mir.Val.{SFits}
 use borrow.Author.Needs.{needs, sfits-of}
-use Rattle.model.specs.Lists.{lists, arcOf, arcsFrom, modelOf}
-use Rattle.model.specs.Fitness.{arcsVerdict, Header, fittedIf, fittedArcs}
+use Rattle.model.specs.Lists.{lists}
 use Rattle.model.proofs.Arcs.{Copying, copying-none, copying-more, copying-unfit, copying-done, fitted-refused, fitted-yes}
 use Rattle.model.proofs.check_arcs.Statement.{statement}
 use Rattle.model.proofs.check_arcs.Tie as tie
-use Rattle.model.proofs.check_arcs.Reads as reads
-use Rattle.model.proofs.check_arcs.Lts as lts
-use Rattle.model.proofs.two_to.Reads as two-to-reads
-use Rattle.model.proofs.refused.Reads as refused-reads
-use Rattle.model.proofs.unfit_arc.Reads as unfit-arc-reads
 
 abbrev Inv-loop : tie.InvT-loop
 Inv-loop n start k sources targets weights colours power arcs₀ i₀ arcs i =
@@ -25,49 +20,38 @@ Inv-loop n start k sources targets weights colours power arcs₀ i₀ arcs i =
 abbrev μ-loop : tie.MeasureT-loop
 μ-loop n start k sources targets weights colours power arcs₀ i₀ arcs i = length sources - i
 
--- src/lib.rt:287:9
 two-to-requires : tie.Need-two-to-requires Inv-loop μ-loop
 two-to-requires c κs = search needs
 
--- src/lib.rt:296:5
 loop-holds : tie.Need-loop-holds Inv-loop μ-loop
 loop-holds c =
     let a = c .before .before .before .before .args in
     copying-none (a .n) (c .two-to .result) (lists (a .sources .now) (a .targets .now) (a .weights .now) (a .colours .now))
 
--- src/lib.rt:298:21
 shared-slice-read-t17 : tie.Need-shared-slice-read-t17 Inv-loop μ-loop
 shared-slice-read-t17 c = search needs
 
--- src/lib.rt:299:21
 shared-slice-read-t19 : tie.Need-shared-slice-read-t19 Inv-loop μ-loop
 shared-slice-read-t19 c = search needs
 
--- src/lib.rt:300:21
 mul-t14 : tie.Need-mul-t14 Inv-loop μ-loop
 mul-t14 c = search needs
 
--- src/lib.rt:300:21
 shared-slice-copy-out-t21 : tie.Need-shared-slice-copy-out-t21 Inv-loop μ-loop
 shared-slice-copy-out-t21 c = search needs
 
--- src/lib.rt:301:22
 shared-slice-read-t23 : tie.Need-shared-slice-read-t23 Inv-loop μ-loop
 shared-slice-read-t23 c = search needs
 
--- src/lib.rt:303:12
 unfit-arc-requires : tie.Need-unfit-arc-requires Inv-loop μ-loop
 unfit-arc-requires c κs = search needs
 
--- src/lib.rt:304:46
 cast-t25 : tie.Need-cast-t25 Inv-loop μ-loop
 cast-t25 c = search needs
 
--- src/lib.rt:304:13
 refused-requires : tie.Need-refused-requires Inv-loop μ-loop
 refused-requires c κs = search needs
 
--- src/lib.rt:304:13
 returns : tie.Need-returns Inv-loop μ-loop
 returns c =
     let d = c .before .before .before .before .before .before .before .before in
@@ -79,23 +63,18 @@ returns c =
     (copying-unfit (a .n) (d .before .two-to .result) l (d .loop .arcs) (d .loop .i) (d .loop .inv) _ (omega arith) (simp (toZ-ofZ fits))
     (sym (c .before .before .unfit-arc .ensures) ∙ c .before .if1 .taken))
 
--- src/lib.rt:306:9
 mul-arcs : tie.Need-mul-arcs Inv-loop μ-loop
 mul-arcs c = search needs
 
--- src/lib.rt:306:9
 array-set-from-arcs : tie.Need-array-set-from-arcs Inv-loop μ-loop
 array-set-from-arcs c = search needs
 
--- src/lib.rt:307:9
 add-i : tie.Need-add-i Inv-loop μ-loop
 add-i c = search needs
 
--- src/lib.rt:296:5
 loop-less : tie.Need-loop-less Inv-loop μ-loop
 loop-less c = search needs
 
--- src/lib.rt:296:5
 loop-again : tie.Need-loop-again Inv-loop μ-loop
 loop-again c =
     let d = c .before .before .before .before .before .before .before in
@@ -105,23 +84,18 @@ loop-again c =
     copying-more (a .n) (d .before .two-to .result) (lists (a .sources .now) (a .targets .now) (a .weights .now) (a .colours .now))
     (d .loop .arcs) (d .loop .i) (d .loop .inv) _ (omega arith) (h .few-arcs) (simp (toZ-ofZ fits)) (sym (c .before .unfit-arc .ensures) ∙ c .if1 .left)
 
--- src/lib.rt:310:16
 cast-t29 : tie.Need-cast-t29 Inv-loop μ-loop
 cast-t29 c = search needs
 
--- src/lib.rt:311:16
 cast-t30 : tie.Need-cast-t30 Inv-loop μ-loop
 cast-t30 c = search needs
 
--- src/lib.rt:312:18
 cast-t31 : tie.Need-cast-t31 Inv-loop μ-loop
 cast-t31 c = search needs
 
--- src/lib.rt:313:16
 cast-t33 : tie.Need-cast-t33 Inv-loop μ-loop
 cast-t33 c = search needs
 
--- src/lib.rt:275:1
 returns-2 : tie.Need-returns-2 Inv-loop μ-loop
 returns-2 c =
     let d = c .before in

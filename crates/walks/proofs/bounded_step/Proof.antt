@@ -1,5 +1,5 @@
 -- `walks::bounded_step` meets its contract: the move that the weight makes is the step over the integers. Assumes nothing.
-use mathlib.Core.Path.{_≡_, _∙_, sym}
+use mathlib.Core.Path.{_∙_, sym}
 use mir.Facts.{toZ-ofZ}
 use borrow.Author.Needs.{needs}
 use Rattle.walks.proofs.Weights.{stepped-moved}

@@ -1,7 +1,7 @@
 -- `Refusal::answer` meets its contract: each arm of the match is one row of the table. Assumes nothing.
 use mathlib.Core.Path.{sym, ap}
 use borrow.Author.Needs.{needs}
-use Rattle.refusals.specs.Refusals.{entry}
+use Rattle.refusals.specs.Refusals.{numbered}
 use Rattle.refusals.proofs.Refusal.answer.Statement.{statement}
 use Rattle.refusals.proofs.Refusal.answer.Tie as tie
 
@@ -60,58 +60,58 @@ enum-told-13 : tie.Need-enum-told-13
 enum-told-13 c = search needs
 
 returns : tie.Need-returns
-returns c = sym (ap entry (c .enum-told .given .1))
+returns c = sym (ap numbered (c .enum-told .given .1))
 
 returns-2 : tie.Need-returns-2
-returns-2 c = sym (ap entry (c .enum-told2 .given .1))
+returns-2 c = sym (ap numbered (c .enum-told2 .given .1))
 
 returns-3 : tie.Need-returns-3
-returns-3 c = sym (ap entry (c .enum-told3 .given .1))
+returns-3 c = sym (ap numbered (c .enum-told3 .given .1))
 
 returns-4 : tie.Need-returns-4
-returns-4 c = sym (ap entry (c .enum-told4 .given .1))
+returns-4 c = sym (ap numbered (c .enum-told4 .given .1))
 
 returns-5 : tie.Need-returns-5
-returns-5 c = sym (ap entry (c .before .self .given .1))
+returns-5 c = sym (ap numbered (c .before .self .given .1))
 
 returns-6 : tie.Need-returns-6
-returns-6 c = sym (ap entry (c .enum-told5 .given .1))
+returns-6 c = sym (ap numbered (c .enum-told5 .given .1))
 
 returns-7 : tie.Need-returns-7
-returns-7 c = sym (ap entry (c .enum-told6 .given .1))
+returns-7 c = sym (ap numbered (c .enum-told6 .given .1))
 
 returns-8 : tie.Need-returns-8
-returns-8 c = sym (ap entry (c .enum-told7 .given .1))
+returns-8 c = sym (ap numbered (c .enum-told7 .given .1))
 
 returns-9 : tie.Need-returns-9
-returns-9 c = sym (ap entry (c .enum-told8 .given .1))
+returns-9 c = sym (ap numbered (c .enum-told8 .given .1))
 
 returns-10 : tie.Need-returns-10
-returns-10 c = sym (ap entry (c .enum-told9 .given .1))
+returns-10 c = sym (ap numbered (c .enum-told9 .given .1))
 
 returns-11 : tie.Need-returns-11
-returns-11 c = sym (ap entry (c .enum-told10 .given .1))
+returns-11 c = sym (ap numbered (c .enum-told10 .given .1))
 
 returns-12 : tie.Need-returns-12
-returns-12 c = sym (ap entry (c .before .self2 .given .1))
+returns-12 c = sym (ap numbered (c .before .self2 .given .1))
 
 returns-13 : tie.Need-returns-13
-returns-13 c = sym (ap entry (c .before .self3 .given .1))
+returns-13 c = sym (ap numbered (c .before .self3 .given .1))
 
 returns-14 : tie.Need-returns-14
-returns-14 c = sym (ap entry (c .enum-told11 .given .1))
+returns-14 c = sym (ap numbered (c .enum-told11 .given .1))
 
 returns-15 : tie.Need-returns-15
-returns-15 c = sym (ap entry (c .before .self4 .given .1))
+returns-15 c = sym (ap numbered (c .before .self4 .given .1))
 
 returns-16 : tie.Need-returns-16
-returns-16 c = sym (ap entry (c .enum-told12 .given .1))
+returns-16 c = sym (ap numbered (c .enum-told12 .given .1))
 
 returns-17 : tie.Need-returns-17
-returns-17 c = sym (ap entry (c .before .self5 .given .1))
+returns-17 c = sym (ap numbered (c .before .self5 .given .1))
 
 returns-18 : tie.Need-returns-18
-returns-18 c = sym (ap entry (c .enum-told13 .given .1))
+returns-18 c = sym (ap numbered (c .enum-told13 .given .1))
 
 pub answer-spec : {M : Type 1} → statement M
 answer-spec =

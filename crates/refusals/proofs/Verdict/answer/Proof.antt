@@ -1,7 +1,7 @@
 -- `Verdict::answer` meets its contract: the yes is 0, and a refusal has its row of the table. Assumes nothing.
 use mathlib.Core.Path.{sym, ap, _∙_}
 use borrow.Author.Needs.{needs}
-use Rattle.refusals.specs.Refusals.{entry, answerOf}
+use Rattle.refusals.specs.Refusals.{answerOf}
 use Rattle.refusals.proofs.Verdict.answer.Statement.{statement}
 use Rattle.refusals.proofs.Verdict.answer.Tie as tie
 
