@@ -1,14 +1,14 @@
 -- Colour bytes: powers of two as the code makes them, and what it means that a byte has no bit at or above k. Assumes nothing.
-use mathlib.Core.Path.{_≡_, refl, _∙_}
+use mathlib.Core.Path.{_≡_, refl, sym, ap, _∙_}
 use mathlib.Core.Bool.{false}
 use mathlib.Core.Logic.{_↔_}
 use Prim.Native.Nat.{ℕ, zero, suc, _+_, _*_, _/_, _%_, _^_, _≤_, _<_}
-use native.Mathlib.Nat.{one-mul, add-zero, add-suc, two-pow-succ, one-le-pow, pow-le-pow-right, div-eq-of-lt, div-lt-iff-lt-mul}
+use native.Mathlib.Nat.{one-mul, add-zero, add-suc, two-pow-succ, pow-suc, pow-succ', one-le-pow, pow-le-pow-right, div-one, div-eq-of-lt, mul-div-cancel, mul-mod-left, div-div-eq-div-mul, div-lt-iff-lt-mul}
 use native.Mathlib.Omega.{arith}
-use lib.Dec.{lit<}
+use lib.Dec.{eqb, eqb·zero-suc, eqb·suc-zero, eqb·suc-suc, lit<}
 use lib.Pow.{shl-exact}
 use borrow.Author.Tests.{eqb-false}
-use Rattle.model.specs.Automaton.{bit}
+use Rattle.model.specs.Automaton.{Automaton, arcAt, bit, meets}
 
 -- 1 shifted within a word of 32 bits
 pub one-shl : (k : ℕ) → k ≤ 31 → 1 * 2 ^ k % 4294967296 ≡ 2 ^ k
@@ -43,3 +43,20 @@ colours-below x k = (to, from)
 
     from : ((j : ℕ) → k ≤ j → bit x j ≡ false) → x < 2 ^ k
     from f = cleared x k x (omega (arith, below-pow x, pow-le-pow-right {n = 2} (omega arith) {i = x} {j = k + x} (omega arith))) f
+
+-- dividing by 2 ^ (j + 1) is halving first
+halved : (x j : ℕ) → x * 2 / 2 ^ suc j ≡ x / 2 ^ j
+halved x j = ap {B = ℕ} (λ y. x * 2 / y) (pow-succ' 2 j) ∙ sym (div-div-eq-div-mul (x * 2) 2 (2 ^ j)) ∙ ap {B = ℕ} (λ y. y / 2 ^ j) (mul-div-cancel x (omega arith))
+
+-- of a power of two, 2 ^ i, bit i alone is set: the bits of a colour byte are counted from the lowest
+pub power-bit : (i j : ℕ) → bit (2 ^ i) j ≡ eqb i j
+power-bit zero zero = refl
+power-bit zero (suc j) =
+    let none : 1 / 2 ^ suc j ≡ 0 = div-eq-of-lt (omega (arith, pow-pos j, two-pow-succ j)) in
+    rw (none, eqb·zero-suc j) refl
+power-bit (suc i) zero = rw (div-one (2 ^ suc i), pow-suc 2 i, mul-mod-left (2 ^ i) 2, eqb·suc-zero i) refl
+power-bit (suc i) (suc j) = rw (pow-suc 2 i, halved (2 ^ i) j, eqb·suc-suc i j) (power-bit i j)
+
+-- an arc whose colour byte is 2 ^ i meets colour i alone
+pub meets-one : (g : Automaton) (a i j : ℕ) → arcAt g a .colours ≡ 2 ^ i → meets g j a ≡ eqb i j
+meets-one g a i j e = rw e (power-bit i j)
