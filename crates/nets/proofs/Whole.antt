@@ -1,5 +1,5 @@
--- The net of a whole model stands for the model: its accepted feasible lassos are the feasible and accepted plans, with the same prefix and cycle. So the
--- criterion and the decision hold of plans, in the words of document 01. Assumes nothing.
+-- The net of a whole model stands for the model: its accepted feasible lassos are the feasible and accepted plans, with the same prefix and
+-- cycle. So the criterion and the decision hold of plans, in the words of document 01. Assumes nothing.
 use mathlib.Core.Path.{_≡_, refl}
 use mathlib.Core.List.{List, _++_}
 use mathlib.Core.Logic.{_↔_}
@@ -58,7 +58,7 @@ module _ (g : Automaton) (b c : ℕ) where
         accepted = λ j h. p .meets j (omega arith);
       }
 
-  -- so does the plan of a walk to mode s with charge e and of a cycle from s that keeps e
+  -- so is the plan whose prefix is a walk to mode s with charge e and whose cycle, from s, keeps e
   pub reached-serves : (s e : ℕ) (r : Reached (whole g) (Usable (whole g)) 0 b (g .start) c 0 s e) (k : KeptCycle (whole g) b s e)
       → Serves g b c (record { prefix = r .arcs; cycle = k .arcs })
   unfolding reached-lasso
