@@ -109,7 +109,9 @@ pub record Copying (n power : ℕ) (l : Lists) (arcs : List Arc) (i : ℕ) : Typ
 
 module _ (n power : ℕ) (l : Lists) where
   pub copying-none : Copying n power l (replicate arcsMost noArc) 0
-  copying-none = record { within = omega arith; filled = filled-none l; verdict = let e : length (l .sources) - 0 ≡ length (l .sources) = omega arith in rw e refl }
+  copying-none =
+      let e : length (l .sources) - 0 ≡ length (l .sources) = omega arith in
+      record { within = omega arith; filled = filled-none l; verdict = rw e refl }
 
   module _ (arcs : List Arc) (i : ℕ) (state : Copying n power l arcs i) where
     -- an arc that is fit is copied
@@ -128,16 +130,14 @@ module _ (n power : ℕ) (l : Lists) where
     copying-unfit x h e unfit = state .verdict ∙ verdict-more l n power (length (l .sources)) i h ∙ rw (sym e, unfit) refl
 
     -- past the last arc the verdict is yes, and the array has every arc
-    pub copying-done : length (l .sources) ≤ i → EqualLists l
-        → (arcsFitness n power l ≡ Yes) × (arcs ≡ arcsFrom l arcsMost 0)
+    pub copying-done : length (l .sources) ≤ i → EqualLists l → (arcsFitness n power l ≡ Yes) × (arcs ≡ arcsFrom l arcsMost 0)
     copying-done h equal =
         let e : i ≡ length (l .sources) = omega (arith, state .within) in
         (state .verdict ∙ verdict-none l n power (length (l .sources)) i h, filled-all l arcs equal (rw e at (state .filled)))
 
 -- what the pass hands back is what the definition says
 module _ (n s k power : ℕ) (l : Lists) (two-to-k : power ≡ 2 ^ k) where
-  pub fitted-refused : (r : Refusal) → arcsFitness n power l ≡ Refused r
-      → fittedIf (Refused r) blankModel ≡ fittedArcs n s k l
+  pub fitted-refused : (r : Refusal) → arcsFitness n power l ≡ Refused r → fittedIf (Refused r) blankModel ≡ fittedArcs n s k l
   fitted-refused r e = rw (← two-to-k, e) refl
 
   pub fitted-yes : (arcs : List Arc) → arcsFitness n power l ≡ Yes → arcs ≡ arcsFrom l arcsMost 0

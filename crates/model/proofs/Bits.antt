@@ -3,19 +3,16 @@ use mathlib.Core.Path.{_≡_, refl, sym, ap, _∙_}
 use mathlib.Core.Bool.{false}
 use mathlib.Core.Logic.{_↔_}
 use Prim.Native.Nat.{ℕ, zero, suc, _+_, _*_, _/_, _%_, _^_, _≤_, _<_}
-use native.Mathlib.Nat.{one-mul, add-zero, add-suc, two-pow-succ, pow-suc, pow-succ', one-le-pow, pow-le-pow-right, div-one, div-eq-of-lt, mul-div-cancel, mul-mod-left, div-div-eq-div-mul, div-lt-iff-lt-mul}
+use native.Mathlib.Nat.{one-mul, add-zero, add-suc, two-pow-succ, pow-suc, pow-succ', div-one, div-eq-of-lt, mul-div-cancel, mul-mod-left, div-div-eq-div-mul, div-lt-iff-lt-mul}
 use native.Mathlib.Omega.{arith}
 use lib.Dec.{eqb, eqb·zero-suc, eqb·suc-zero, eqb·suc-suc, lit<}
-use lib.Pow.{shl-exact}
+use lib.Pow.{pow-pos, pow-mono, shl-exact}
 use borrow.Author.Tests.{eqb-false}
 use Rattle.model.specs.Automaton.{Automaton, arcAt, bit, meets}
 
 -- 1 shifted within a word of 32 bits
 pub one-shl : (k : ℕ) → k ≤ 31 → 1 * 2 ^ k % 4294967296 ≡ 2 ^ k
 one-shl k h = shl-exact 1 k 32 (lit< tt) (omega arith) ∙ one-mul (2 ^ k)
-
-pow-pos : (k : ℕ) → 0 < 2 ^ k
-pow-pos k = one-le-pow k 2 (omega arith)
 
 below-pow : (x : ℕ) → x < 2 ^ x
 below-pow zero = pow-pos 0
@@ -38,11 +35,11 @@ colours-below x k = (to, from)
   where
     to : x < 2 ^ k → (j : ℕ) → k ≤ j → bit x j ≡ false
     to h j q =
-        let z : x / 2 ^ j ≡ 0 = div-eq-of-lt (omega (arith, h, pow-le-pow-right {n = 2} (omega arith) q)) in
+        let z : x / 2 ^ j ≡ 0 = div-eq-of-lt (omega (arith, h, pow-mono q)) in
         rw z refl
 
     from : ((j : ℕ) → k ≤ j → bit x j ≡ false) → x < 2 ^ k
-    from f = cleared x k x (omega (arith, below-pow x, pow-le-pow-right {n = 2} (omega arith) {i = x} {j = k + x} (omega arith))) f
+    from f = cleared x k x (omega (arith, below-pow x, pow-mono {i = x} {j = k + x} (omega arith))) f
 
 -- dividing by 2 ^ (j + 1) is halving first
 halved : (x j : ℕ) → x * 2 / 2 ^ suc j ≡ x / 2 ^ j

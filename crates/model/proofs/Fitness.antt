@@ -82,8 +82,7 @@ unfit-no n k a =
     )
 
 -- none of 1 to 4 applies
-pub header-yes : (n s k : ℕ) (l : Lists)
-    → (headerOf n s k l ≡ Yes) ↔ Header n s k l
+pub header-yes : (n s k : ℕ) (l : Lists) → (headerOf n s k l ≡ Yes) ↔ Header n s k l
 unfolding header unfitLists
 header-yes n s k l =
     let m = length (l .sources) in
@@ -193,14 +192,11 @@ levels-yes b c =
 
 -- what is handed back, by the verdict on 1 to 4
 module _ (n s k : ℕ) (l : Lists) where
-  pub fitted-through : headerOf n s k l ≡ Yes
-      → fittedArcs n s k l ≡ fittedOf n s k l
+  pub fitted-through : headerOf n s k l ≡ Yes → fittedArcs n s k l ≡ fittedOf n s k l
   unfolding fittedOf fitness
   fitted-through e = rw e refl
 
-  pub fitted-stopped : (r : Refusal)
-      → headerOf n s k l ≡ Refused r
-      → fittedIf (Refused r) blankModel ≡ fittedOf n s k l
+  pub fitted-stopped : (r : Refusal) → headerOf n s k l ≡ Refused r → fittedIf (Refused r) blankModel ≡ fittedOf n s k l
   unfolding fittedOf fitness
   fitted-stopped r e = rw e refl
 

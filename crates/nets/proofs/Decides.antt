@@ -14,7 +14,8 @@ use Rattle.nets.specs.Graph.{moves, Leads}
 use Rattle.nets.specs.Net.{Net, Lasts, Fits, AcceptedLasso}
 use Rattle.nets.specs.Table.{next, level, Closed, Reached, Peaks, Tour, Tours, KeptCycle, Hit, PeakHit}
 use Rattle.nets.proofs.Leads.{moves-append, moves-times, leads-append, leads-times}
-use Rattle.nets.proofs.Levels.{next-bound, level-append, level-bound, passed-met, times-level}
+use Rattle.nets.proofs.Levels.{next-bound, level-bound, passed-met, times-level}
+use Rattle.nets.proofs.Tables.{reached-on}
 use Rattle.nets.proofs.Criterion.{criterion}
 
 module _ (g : Net) (b s e : ℕ) (high : ℕ → ℕ → ℕ) where
@@ -58,23 +59,19 @@ module _ (g : Net) (b s e : ℕ) (high : ℕ → ℕ → ℕ) where
   -- a walk to the entry of a hit, with the arc of the hit, is a kept cycle
   unfoldable pub hit-kept : (h : Hit g b s e high) → Reached g (Lasts g) (g .duties) b s e (h .from) (g .graph .source (h .arc)) (h .charged)
       → KeptCycle g b s e
+  unfolding reached-on
   hit-kept h t =
-      let w = t .arcs in
+      let m = g .graph .source (h .arc) in
       let x = h .arc ∷ [] in
-      let z : level g (g .duties) 0 (w ++ x) ≡ g .duties = level-append g (g .duties) w x 0 ∙ rw (t .levels) (h .last) in
+      let r =
+      reached-on g (Lasts g) (g .duties) b s e (h .from) (g .duties) m s (h .charged) (after b (g .graph .move (h .arc)) (h .charged)) x t
+      (h .lasts, refl, h .back) (h .last) (h .possible, tt) refl
+      in
       record {
-        arcs = w ++ x;
-        closed =
-            record {
-              some-arc = omega (arith, length-append w x);
-              leads = leads-append (g .graph) (Lasts g) w x s s .1 (g .graph .source (h .arc), t .leads, (h .lasts, refl, h .back));
-            };
-        meets = λ j q. passed-met g (g .duties) (w ++ x) 0 j (omega arith) (omega arith);
-        keeps =
-            rw (moves-append (g .graph) w x) (
-              possible-append b (moves (g .graph) w) (moves (g .graph) x) e .1 (t .possible, rw (t .reaches) (h .possible, tt)),
-              rw (charge-append b (moves (g .graph) w) (moves (g .graph) x) e, t .reaches) (omega arith),
-            );
+        arcs = t .arcs ++ x;
+        closed = record { some-arc = omega (arith, length-append (t .arcs) x); leads = r .leads };
+        meets = λ j q. passed-met g (g .duties) (t .arcs ++ x) 0 j (omega arith) (omega (arith, r .levels));
+        keeps = (r .possible, omega (arith, r .reaches, h .kept));
       }
 
   -- a cycle from s keeps e and meets every duty exactly where the tour from s with e has a hit

@@ -1,7 +1,7 @@
 -- Levels: a walk never lowers the level, the duties of the levels passed are met, and so many repetitions of a list that meets every duty,
 -- in whatever order, pass all levels. Document 001, Lemma 2.5; here the levels are 0 to K, and the last stays. Assumes nothing.
 use mathlib.Core.Path.{_≡_, refl}
-use mathlib.Core.Bool.{Bool, true, false, _&&_}
+use mathlib.Core.Bool.{Bool, true, false, false≢true, _&&_}
 use mathlib.Core.List.{List, [], _∷_, _++_}
 use mathlib.Core.Logic.{_⊎_, inl, inr, ⊎-elim}
 use Prim.Native.Nat.{ℕ, zero, suc, _+_, _≤_, _<_, min}
@@ -36,7 +36,7 @@ module _ (g : Net) (K : ℕ) where
       go : (s t : Bool) → ltb l K ≡ s
           → ((l < K) × (t ≡ true) × (raisedIf (s && t) l ≡ suc l)) ⊎ ((raisedIf (s && t) l ≡ l) × (l < K → t ≡ true → ⊥))
       go true true p = inl (ltb-true l K p, refl, refl)
-      go true false p = inr (refl, λ h r. let z : _≡_ {A = ℕ} 0 1 = cc in omega arith)
+      go true false p = inr (refl, λ h r. false≢true r)
       go false t p = inr (refl, λ h r. omega (arith, ltb-false l K p))
 
   -- no level is above the last

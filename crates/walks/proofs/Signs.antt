@@ -1,6 +1,6 @@
 -- What a signed weight draws and gains, by its sign, as the code computes it. Assumes nothing.
 use mathlib.Core.Path.{_≡_, refl}
-use mathlib.Core.Bool.{true, false}
+use mathlib.Core.Bool.{true, false, true≢false}
 use Prim.Native.Nat.{ℕ, suc}
 use native.Mathlib.Nat.{zero-add}
 use native.Mathlib.Omega.{arith}
@@ -18,15 +18,15 @@ gain-negative (negsuc n) h = refl
 
 pub gain-positive : (z : ℤ) → ltZ z (pos 0) ≡ false → natAbs z ≡ gainOf z
 gain-positive (pos n) h = refl
-gain-positive (negsuc n) h = let k : _≡_ {A = ℕ} 0 1 = cc in omega arith
+gain-positive (negsuc n) h = absurd (true≢false h)
 
 pub positive-fits : (z : ℤ) → ltZ z (pos 0) ≡ false → SFits w16 z → T (nonNeg z) × Fits w16 (natAbs z)
 positive-fits (pos n) h f = (tt, record { fits = omega (arith, f .sfits) })
-positive-fits (negsuc n) h f = let k : _≡_ {A = ℕ} 0 1 = cc in absurd (omega arith)
+positive-fits (negsuc n) h f = absurd (true≢false h)
 
 pub draw-positive : (z : ℤ) → ltZ z (pos 0) ≡ false → 0 ≡ drawOf z
 draw-positive (pos n) h = refl
-draw-positive (negsuc n) h = let k : _≡_ {A = ℕ} 0 1 = cc in omega arith
+draw-positive (negsuc n) h = absurd (true≢false h)
 
 pub draw-negative : (z : ℤ) → ltZ z (pos 0) ≡ true → natAbs (pos 0 -ℤ z) ≡ drawOf z
 draw-negative (pos n) h = absurd (omega (arith, ltb-true n 0 h))
