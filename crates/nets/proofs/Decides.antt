@@ -1,6 +1,6 @@
 -- The decision: a cycle from a mode that keeps a charge and meets every duty is there exactly where the tour has a hit; so, with the peaks
 -- and the tours from them, a net has an accepted feasible lasso exactly where some tour has a hit. Assumes nothing.
-use mathlib.Core.Path.{_≡_, refl, _∙_}
+use mathlib.Core.Path.{_≡_, refl}
 use mathlib.Core.List.{List, [], _∷_, _++_}
 use mathlib.Core.Logic.{_↔_}
 use Prim.Native.Nat.{ℕ, suc, pred, _≤_, _<_}
@@ -8,12 +8,11 @@ use native.Mathlib.Omega.{arith}
 use lib.ListN.{length, length-append}
 use Rattle.walks.specs.Walk.{times}
 use Rattle.walks.specs.Moves.{after, charge, Possible}
-use Rattle.walks.proofs.Charges.{charge-append, possible-append}
 use Rattle.walks.proofs.Rounds.{keeps-forever, kept-times}
 use Rattle.nets.specs.Graph.{moves, Leads}
 use Rattle.nets.specs.Net.{Net, Lasts, Fits, AcceptedLasso}
 use Rattle.nets.specs.Table.{next, level, Closed, Reached, Peaks, Tour, Tours, KeptCycle, Hit, PeakHit}
-use Rattle.nets.proofs.Leads.{moves-append, moves-times, leads-append, leads-times}
+use Rattle.nets.proofs.Leads.{moves-times, leads-times}
 use Rattle.nets.proofs.Levels.{next-bound, level-bound, passed-met, times-level}
 use Rattle.nets.proofs.Tables.{reached-on}
 use Rattle.nets.proofs.Criterion.{criterion}
