@@ -1,6 +1,6 @@
 -- What the verdicts mean: fitness is yes exactly for four equal lists and a fit model, levels exactly for c ≤ b ≤ 8,191; and the model that
 -- the code holds is the model of the lists. Assumes nothing.
-use mathlib.Core.Path.{_≡_, refl, ap}
+use mathlib.Core.Path.{_≡_, refl, sym, ap, _∙_, subst}
 use mathlib.Core.Bool.{Bool, true, false, not, _||_}
 use mathlib.Core.List.{List, [], _∷_}
 use mathlib.Core.Logic.{_↔_}
@@ -10,7 +10,7 @@ use lib.Dec.{leb, ltb, eqb}
 use lib.IntN.{ℤ}
 use lib.ListN.{length, getD}
 use lib.Signed.{ltZ, _≤ℤ_, ltZ-no, clashℤ, ltZ-yes}
-use borrow.Author.Tests.{ltb-false, leb-false, eqb-false, eqb-true, not-false, le-ltb, lt-leb, eq-eqb, ne-eqb}
+use borrow.Author.Tests.{eqb-false, ne-eqb}
 use Rattle.limits.specs.Ceilings.{modesMost, arcsMost, coloursMost, boundMost, weightLeast, weightMost}
 use Rattle.model.specs.declared.Arc.{Arc}
 use Rattle.refusals.specs.declared.Refusal.{Refusal}
@@ -19,23 +19,11 @@ use Rattle.refusals.specs.declared.Verdict.{Verdict}
 use Rattle.refusals.specs.declared.Verdict.the-variants.{Yes, Refused}
 use Rattle.model.specs.Automaton.{Automaton, noArc}
 use Rattle.refusals.proofs.Verdicts.{clash, refuse-yes, and-then-yes}
+use Rattle.refusals.proofs.Tests.{or-no, lt-no, le-no, differ-no}
 use Rattle.model.specs.Lists.{Lists, arcsOf, automatonOf, modelOf, blankModel, held}
-use Rattle.model.specs.Fitness.{unfitLists, header, headerOf, arcsFitness, unfitArc, arcsVerdict, fitness, fittedIf, fittedArcs, fittedOf, levelsOf, EqualLists, Header, ArcFits, Fit}
+use Rattle.model.specs.Fitness.{unfitLists, header, headerOf, arcsFitness, unfitArc, arcsVerdict, fitness, fittedIf, fittedArcs, fittedOf, levelsOf, EqualLists, Header, ArcFits, Fit, Holds}
 use Rattle.model.proofs.Bits.{colours-below}
 use Rattle.model.proofs.Arcs.{arcs-length, arcs-take}
-
-or-no : (s t : Bool) → ((s || t) ≡ false) ↔ ((s ≡ false) × (t ≡ false))
-or-no true t = (λ e. clash (cc), λ e. clash (cc))
-or-no false t = (λ e. (refl, e), λ e. e .1)
-
-lt-no : (m n : ℕ) → (ltb m n ≡ false) ↔ (n ≤ m)
-lt-no m n = (ltb-false m n, le-ltb m n)
-
-le-no : (m n : ℕ) → (leb m n ≡ false) ↔ (n < m)
-le-no m n = (leb-false m n, lt-leb m n)
-
-differ-no : (m n : ℕ) → (not (eqb m n) ≡ false) ↔ (m ≡ n)
-differ-no m n = (λ e. eqb-true m n (not-false (eqb m n) e), λ e. rw (eq-eqb m n e) refl)
 
 ltZ-false : (a b : ℤ) → (ltZ a b ≡ false) ↔ (b ≤ℤ a)
 ltZ-false a b = (λ e. ltZ-no (rw e tt), λ h. go (ltZ a b) refl h)
@@ -213,3 +201,12 @@ pub fitted-held : (n s k : ℕ) (l : Lists) → fitness n s k l ≡ Yes → held
 unfolding fittedOf
 fitted-held n s k l e =
     rw e (held-model n s k l (omega (arith, fitness-yes n s k l .0 e .1 .few-arcs, arcs-length l (length (l .sources)) 0)))
+
+-- and that value holds a fit model
+pub fitted-holds : (n s k : ℕ) (l : Lists) → fitness n s k l ≡ Yes → Holds (fittedOf n s k l .model)
+unfolding fittedOf
+fitted-holds n s k l e =
+    let fit = fitness-yes n s k l .0 e .1 in
+    let long = arcs-length l (length (l .sources)) 0 in
+    let same = held-model n s k l (omega (arith, fit .few-arcs, long)) in
+    rw e (record { count = ap {B = ℕ} (λ (g : Automaton). length (g .arcs)) same ∙ long; fit = subst Fit (sym same) fit })

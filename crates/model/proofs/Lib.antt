@@ -2,5 +2,7 @@
 pub mod Bits
 pub mod Arcs
 pub mod Fitness
+pub mod Held
 pub mod SomeArc
+pub mod Leads
 pub mod Plans

@@ -6,14 +6,15 @@ use mathlib.Core.Logic.{_↔_}
 use Prim.Native.Nat.{ℕ, zero, suc, _≤_, _<_}
 use native.Mathlib.Omega.{arith}
 use lib.IntN.{ℤ}
-use lib.ListN.{length, drop, length-append}
+use lib.ListN.{length, take, drop, length-append, take-append-drop}
 use lib.Seq.{drop-append-le, drop-append-seam}
 use Rattle.walks.specs.Walk.{End, Ends, Blocked, afterWalk, walked, IsPossible, RoundsHold, times}
 use Rattle.walks.proofs.Weights.{walked-append, map-times}
 use Rattle.walks.proofs.Charges.{walked-bound}
 use Rattle.walks.proofs.Rounds.{rounds-hold}
 use Rattle.model.specs.Automaton.{Automaton, arcAt, meets, weights}
-use Rattle.model.specs.Plans.{Plan, Feasible, Meets, Accepted}
+use Rattle.model.specs.Plans.{Plan, Leads, walkedArcs, Feasible, Meets, Accepted, Serves}
+use Rattle.model.proofs.Leads.{leads-append, leads-cut, leads-times}
 use Rattle.model.proofs.SomeArc.{some-right, some-times}
 
 module _ (g : Automaton) (b c : ℕ) (p : Plan) where
@@ -42,8 +43,31 @@ module _ (g : Automaton) (b c : ℕ) (p : Plan) where
       from : ((e : ℕ) × (walked b (weights g (p .prefix)) c ≡ Ends e) × RoundsHold b (weights g (p .cycle)) e) → Feasible g b c p
       from (e, q, k) r = subst IsPossible (sym (plan-walked r)) (rw q (rounds-hold b (weights g (p .cycle)) e (bounded e q) .1 k r))
 
+-- the first arcs of a walk that is possible end at some charge
+walked-part : (g : Automaton) (b : ℕ) (u v : List ℕ) (e : ℕ) → IsPossible (walkedArcs g b (u ++ v) e) → (x : ℕ) × (walkedArcs g b u e ≡ Ends x)
+walked-part g b u v e h =
+    go (walkedArcs g b u e)
+    (rw (walked-append b (weights g u) (weights g v) e) at (rw (map-append (λ a. arcAt g a .weight) u v) at h))
+  where
+    go : (y : End) → IsPossible (afterWalk y (walked b (weights g v))) → (x : ℕ) × (y ≡ Ends x)
+    go (Ends x) p = (x, refl)
+    go Blocked p = absurd p
+
+-- the first i steps of a plan that serves, its cycle repeated: they lead on, and their walk ends at some charge
+pub serves-walked : (g : Automaton) (b c : ℕ) (p : Plan) → Serves g b c p → (r i : ℕ)
+    → (m : ℕ) × (x : ℕ) × Leads g (g .start) (take i (p .prefix ++ times r (p .cycle))) m
+    × (walkedArcs g b (take i (p .prefix ++ times r (p .cycle))) c ≡ Ends x)
+serves-walked g b c p serves r i =
+    let w = p .prefix ++ times r (p .cycle) in
+    let s = g .start in
+    let t = serves .plan .mode in
+    let round = leads-times g (p .cycle) t (serves .plan .leads-cycle) r in
+    let (m, leads, _) = leads-cut g i w s t .0 (leads-append g (p .prefix) (times r (p .cycle)) s t .1 (t, serves .plan .leads-in, round)) in
+    let (x, ends) = walked-part g b (take i w) (drop i w) c (rw (take-append-drop i w) (serves .feasible r)) in
+    (m, x, leads, ends)
+
 -- the list repeated r times has at least r arcs, where it has one
-times-length : (w : List ℕ) → 0 < length w → (r : ℕ) → r ≤ length (times r w)
+pub times-length : (w : List ℕ) → 0 < length w → (r : ℕ) → r ≤ length (times r w)
 times-length w h zero = omega arith
 times-length w h (suc r) = omega (arith, times-length w h r, length-append w (times r w))
 

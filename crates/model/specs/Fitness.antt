@@ -15,7 +15,7 @@ use Rattle.refusals.specs.declared.Verdict.{Verdict}
 use Rattle.refusals.specs.declared.Verdict.the-variants.{Yes, Refused}
 use Rattle.refusals.specs.Refusals.{refuse, andThen}
 use Rattle.model.specs.Automaton.{Automaton, arcAt, bit}
-use Rattle.model.specs.Lists.{Lists, arcsOf, modelOf, blankModel}
+use Rattle.model.specs.Lists.{Lists, arcsOf, modelOf, blankModel, held}
 
 -- "arc lists unequal or longer than 255", by the lengths of the four
 unfoldable pub unfitLists : ℕ → ℕ → ℕ → ℕ → Bool
@@ -101,3 +101,9 @@ pub record Fit (g : Automaton) : Type 0 where
   pub few-arcs : length (g .arcs) ≤ arcsMost
   pub few-colours : g .colours ≤ coloursMost
   pub arcs-fit : (a : ℕ) → a < length (g .arcs) → ArcFits (g .modes) (g .colours) (arcAt g a)
+
+-- A value of the code that holds a fit model, with all the arcs that it counts: what functions are given once fitness is yes. (Theorem
+-- fitted-holds.)
+pub record Holds (g : Model) : Type 0 where
+  pub count : length (held g .arcs) ≡ g .count
+  pub fit : Fit (held g)

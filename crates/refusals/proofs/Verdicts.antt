@@ -21,3 +21,10 @@ refuse-yes false r v = (λ e. (refl, e), λ e. e .1)
 pub and-then-yes : (u v : Verdict) → (andThen u v ≡ Yes) ↔ ((u ≡ Yes) × (v ≡ Yes))
 and-then-yes Yes v = (λ e. (refl, e), λ e. e .1)
 and-then-yes (Refused r) v = (λ e. clash (cc), λ e. clash (cc))
+
+-- by the first check's verdict: the second answers, or the refusal does
+pub and-then-on : (u v : Verdict) → u ≡ Yes → v ≡ andThen u v
+and-then-on u v e = rw e refl
+
+pub and-then-stop : (u v : Verdict) (r : Refusal) → u ≡ Refused r → Refused r ≡ andThen u v
+and-then-stop u v r e = rw e refl

@@ -5,6 +5,8 @@ use mathlib.Core.Logic.{_↔_}
 use Prim.Native.Nat.{ℕ, _≤_}
 use native.Mathlib.Omega.{arith}
 use lib.IntN.{ℤ}
+use Rattle.walks.specs.declared.Step.the-variants.{To}
+use Rattle.walks.specs.BoundedStep.{stepped}
 use Rattle.walks.specs.Walk.{Ends, walked}
 use Rattle.walks.specs.Moves.{Move, moveOf, after, charge, Possible}
 use Rattle.walks.proofs.Weights.{walked-moves, walked-to}
@@ -35,6 +37,11 @@ module _ (b : ℕ) where
 -- the same of walks of weights: at most the bound ..
 pub walked-bound : (b : ℕ) (ws : List ℤ) (e x : ℕ) → e ≤ b → walked b ws e ≡ Ends x → x ≤ b
 walked-bound b ws e x h q = omega (arith, walked-to b ws e x q .1, charge-bound b (map moveOf ws) e h)
+
+-- .. also of a single step ..
+pub stepped-bound : (b : ℕ) (w : ℤ) (e x : ℕ) → e ≤ b → stepped b w e ≡ To x → x ≤ b
+unfolding walked
+stepped-bound b w e x h q = walked-bound b (w ∷ []) e x h (rw q refl)
 
 -- .. and monotone: a walk that is possible is possible from more, and ends no lower
 pub walked-mono : (b : ℕ) (ws : List ℤ) (e e′ x : ℕ) → e ≤ e′ → walked b ws e ≡ Ends x → (x′ : ℕ) × (walked b ws e′ ≡ Ends x′) × (x ≤ x′)

@@ -78,6 +78,19 @@ walked-to b ws e x q =
     let p = k .possible .0 (rw q tt) in
     (p, cc (k .leads p))
 
+-- a walk of one more weight ends exactly where its first step is possible and the others end
+pub walked-cons : (b : ℕ) (w : ℤ) (ws : List ℤ) (e x : ℕ) → (walked b (w ∷ ws) e ≡ Ends x)
+    ↔ ((y : ℕ) × (stepped b w e ≡ To y) × (walked b ws y ≡ Ends x))
+unfolding walked
+walked-cons b w ws e x = go (stepped b w e)
+  where
+    go : (s : Step) → (afterStep s (walked b ws) ≡ Ends x) ↔ ((y : ℕ) × (s ≡ To y) × (walked b ws y ≡ Ends x))
+    go (To y) = (λ q. (y, refl, q), λ (u, p, q). cc)
+    go Impossible = (
+      λ q. absurd (let z : _≡_ {A = ℕ} 0 1 = cc in omega arith),
+      λ (u, p, q). absurd (let z : _≡_ {A = ℕ} 0 1 = cc in omega arith),
+    )
+
 after-step-assoc : (s : Step) (f g h : ℕ → End) → ((e : ℕ) → f e ≡ afterWalk (g e) h) → afterStep s f ≡ afterWalk (afterStep s g) h
 after-step-assoc (To e) f g h k = k e
 after-step-assoc Impossible f g h k = refl

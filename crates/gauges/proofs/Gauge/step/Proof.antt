@@ -1,0 +1,42 @@
+-- `Gauge::step` meets its contract: the verdict on fitness decides who answers. Assumes nothing.
+use mathlib.Core.Path.{_∙_}
+use borrow.Author.Needs.{needs}
+use Rattle.model.specs.Lists.{lists}
+use Rattle.model.proofs.Held.{told-holds}
+use Rattle.gauges.proofs.Gauges.{step-fit, step-unfit}
+use Rattle.gauges.proofs.Gauge.step.Statement.{statement}
+use Rattle.gauges.proofs.Gauge.step.Tie as tie
+
+check-model-requires : tie.Need-check-model-requires
+check-model-requires c κs = search needs
+
+enum-told : tie.Need-enum-told
+enum-told c = search needs
+
+levelled-requires : tie.Need-levelled-requires
+levelled-requires c κs =
+    let d = c .before .before in
+    let a = d .before .before .before .before .args in
+    let l = lists (a .sources .now) (a .targets .now) (a .weights .now) (a .colours .now) in
+    told-holds (a .n) (a .start) (a .k) l _ (d .check-model .ensures) (c .enum-told .given .1)
+
+enum-known-verdict : tie.Need-enum-known-verdict
+enum-known-verdict c = search needs
+
+returns : tie.Need-returns
+returns c =
+    let d = c .before .before .before in
+    let a = d .before .before .before .before .args in
+    let l = lists (a .sources .now) (a .targets .now) (a .weights .now) (a .colours .now) in
+    c .levelled .ensures
+    ∙ step-fit (a .n) (a .start) (a .k) l _ (d .check-model .ensures) (a .b) (a .arc) (a .self) (c .before .enum-told .given .1)
+
+returns-2 : tie.Need-returns-2
+returns-2 c =
+    let d = c .before .before .before in
+    let a = d .before .before .before .before .args in
+    let l = lists (a .sources .now) (a .targets .now) (a .weights .now) (a .colours .now) in
+    step-unfit (a .n) (a .start) (a .k) l _ (d .check-model .ensures) (a .b) (a .arc) (a .self) _ (c .before .verdict .given .1)
+
+pub step-spec : {M : Type 1} → statement M
+step-spec = tie.close (tie.spec check-model-requires enum-told levelled-requires enum-known-verdict returns returns-2)

@@ -1,0 +1,3 @@
+-- Laws of the gauge: its rows, and the call repeated.
+pub mod Gauges
+pub mod Follows

@@ -1,0 +1,60 @@
+-- Lists of arcs of a model: what 12 and the shape let through, the parts of one, and the colours of its arcs. Assumes nothing.
+use mathlib.Core.Path.{_≡_}
+use mathlib.Core.List.{List}
+use Prim.Native.Nat.{ℕ, _+_, _-_, _^_, _≤_, _<_}
+use native.Mathlib.Omega.{arith}
+use lib.ListN.{length, getD, take, drop, length-drop}
+use lib.Seq.{getD-take, getD-drop, length-take-le, take-all}
+use Rattle.limits.specs.Ceilings.{planMost}
+use Rattle.refusals.specs.declared.Verdict.the-variants.{Yes}
+use Rattle.refusals.proofs.Verdicts.{and-then-yes}
+use Rattle.model.specs.declared.Model.{Model}
+use Rattle.model.specs.Automaton.{arcAt}
+use Rattle.model.specs.Fitness.{Holds}
+use Rattle.model.specs.Lists.{held}
+use Rattle.model.proofs.Bits.{colours-below}
+use Rattle.judge.specs.Shape.{lengthOf, numbers, chain, numbersThenChain, closing, path, shape}
+use Rattle.judge.specs.Judged.{ArcsOf}
+use Rattle.judge.proofs.Shapes.{length-yes, numbers-yes}
+
+-- what 12 lets through are arcs of the model
+pub path-arcs : (g : Model) → Holds g → (w : List ℕ) (s : ℕ) → numbersThenChain (held g) s w 0 ≡ Yes → ArcsOf g w
+path-arcs g holds w s path =
+    let numbered = and-then-yes (numbers (length (held g .arcs)) w 0) (chain (held g) s w 0) .0 path .0 in
+    let below = numbers-yes (length (held g .arcs)) w 0 .0 numbered in
+    record { few = omega (arith, holds .fit .few-arcs, holds .count); below = λ i h. omega (arith, below i h, holds .count) }
+
+-- what 11 to 14 let through: arcs of the model, of which p are the prefix's
+pub shape-arcs : (g : Model) → Holds g → (p q : ℕ) (w : List ℕ) → shape (held g) p q w ≡ Yes
+    → ArcsOf g w × (p ≤ length w) × (length w ≤ planMost)
+unfolding shape
+shape-arcs g holds p q w shaped =
+    let both = and-then-yes (lengthOf p q (length w)) (path (held g) p w) .0 shaped in
+    let long = length-yes p q w .0 (both .0) in
+    let two = and-then-yes (numbersThenChain (held g) (g .start) w 0) (closing (held g) p w) .0 (both .1) in
+    (path-arcs g holds w (g .start) (two .0), omega (arith, long .parts), long .short)
+
+-- the part of a list from p on, as the code lends it
+pub rest-part : (p : ℕ) (w : List ℕ) → take (length w - p) (drop p w) ≡ drop p w
+rest-part p w = take-all (length w - p) (drop p w) (omega (arith, length-drop p w))
+
+module _ (g : Model) (w : List ℕ) (arcs : ArcsOf g w) where
+  -- the first p of them, and the others
+  pub arcs-take : (p : ℕ) → p ≤ length w → ArcsOf g (take p w)
+  arcs-take p h =
+      record {
+        few = arcs .few;
+        below = λ i q.
+            let short : i < p = omega (arith, length-take-le p w h) in
+            rw (getD-take p w i 0 short) (arcs .below i (omega arith));
+      }
+
+  pub arcs-drop : (p : ℕ) → ArcsOf g (drop p w)
+  arcs-drop p =
+      record { few = arcs .few; below = λ i q. rw (getD-drop p w i 0) (arcs .below (p + i) (omega (arith, length-drop p w))) }
+
+  -- none of them has a colour at or above k
+  pub arcs-coloured : Holds g → (i : ℕ) → i < length w → arcAt (held g) (getD w i 0) .colours < 2 ^ (g .colours)
+  arcs-coloured holds i h =
+      let fits = holds .fit .arcs-fit (getD w i 0) (omega (arith, arcs .below i h, holds .count)) in
+      colours-below (arcAt (held g) (getD w i 0) .colours) (g .colours) .1 (fits .colours)

@@ -1,0 +1,62 @@
+-- What the yes of judging says: "judging says yes for exactly the feasible and accepted plans" of a fit model at right levels.
+-- Assumes nothing.
+use mathlib.Core.Path.{_≡_}
+use mathlib.Core.List.{List}
+use mathlib.Core.Logic.{_↔_}
+use Prim.Native.Nat.{ℕ, _≤_}
+use Rattle.refusals.specs.declared.Verdict.the-variants.{Yes}
+use Rattle.refusals.proofs.Verdicts.{and-then-yes}
+use Rattle.model.specs.Automaton.{Automaton}
+use Rattle.model.specs.Lists.{Lists, automatonOf}
+use Rattle.model.specs.Fitness.{fitness, levelsOf}
+use Rattle.model.specs.Plans.{Plan, Feasible, Accepted, Serves}
+use Rattle.model.proofs.Fitness.{fitness-yes, levels-yes}
+use Rattle.judge.specs.Shape.{planOf, shape, Lengths}
+use Rattle.judge.specs.Charges.{charges}
+use Rattle.judge.specs.Colours.{coloursOf}
+use Rattle.judge.specs.Judged.{judgedWalk, judgedPlan, judgedLevels, judged, Right}
+use Rattle.judge.proofs.Shapes.{shape-yes}
+use Rattle.judge.proofs.Runs.{charges-yes}
+use Rattle.judge.proofs.Colours.{colours-yes}
+
+module _ (g : Automaton) (b c : ℕ) where
+  -- 15 to 17 do not apply exactly where the plan is feasible and accepted
+  pub walk-yes : (p : Plan) → c ≤ b → (judgedWalk g b c p ≡ Yes) ↔ (Feasible g b c p × Accepted g p)
+  unfolding judgedWalk
+  walk-yes p h =
+      let both = and-then-yes (charges g b c p) (coloursOf g (p .cycle)) in (
+        λ e. (charges-yes g b c p h .0 (both .0 e .0), colours-yes g p .0 (both .0 e .1)),
+        λ (f, a). both .1 (charges-yes g b c p h .1 f, colours-yes g p .1 a),
+      )
+
+  -- 11 to 17 do not apply exactly where the lengths are right and the bytes are a plan that serves
+  pub plan-yes : (p q : ℕ) (w : List ℕ) → c ≤ b → (judgedPlan g b c p q w ≡ Yes) ↔ (Lengths p q w × Serves g b c (planOf p w))
+  unfolding judgedPlan
+  plan-yes p q w h =
+      let both = and-then-yes (shape g p q w) (judgedWalk g b c (planOf p w)) in
+      let walk = walk-yes (planOf p w) h in (
+        λ e.
+            let (l, k) = shape-yes g p q w .0 (both .0 e .0) in
+            let (f, a) = walk .0 (both .0 e .1) in
+            (l, record { plan = k; feasible = f; accepted = a }),
+        λ (l, s). both .1 (shape-yes g p q w .1 (l, s .plan), walk .1 (s .feasible, s .accepted)),
+      )
+
+-- judging says yes exactly for what is right
+pub judged-yes : (n s k : ℕ) (l : Lists) (b c p q : ℕ) (w : List ℕ) → (judged n s k l b c p q w ≡ Yes) ↔ Right n s k l b c p q w
+unfolding judged judgedLevels
+judged-yes n s k l b c p q w =
+    let g = automatonOf n s k l in
+    let outer = and-then-yes (fitness n s k l) (judgedLevels g b c p q w) in
+    let inner = and-then-yes (levelsOf b c) (judgedPlan g b c p q w) in (
+      λ e.
+          let (equal, fit) = fitness-yes n s k l .0 (outer .0 e .0) in
+          let (bound, credit) = levels-yes b c .0 (inner .0 (outer .0 e .1) .0) in
+          let (lengths, serves) = plan-yes g b c p q w credit .0 (inner .0 (outer .0 e .1) .1) in
+          record { equal = equal; fit = fit; bound = bound; credit = credit; lengths = lengths; serves = serves },
+      λ r.
+          outer .1 (
+            fitness-yes n s k l .1 (r .equal, r .fit),
+            inner .1 (levels-yes b c .1 (r .bound, r .credit), plan-yes g b c p q w (r .credit) .1 (r .lengths, r .serves)),
+          ),
+    )

@@ -1,0 +1,14 @@
+-- Laws of judging, row by row in the table's order (Leads, Shapes, Runs, Colours); what its yes says (Judged); when no plan exists (NoPlan) and
+-- the examples (Examples). Arcs, Scans, Closing, Masks and Answers serve the proofs of the code.
+pub mod Leads
+pub mod Shapes
+pub mod Runs
+pub mod Colours
+pub mod Judged
+pub mod NoPlan
+pub mod Examples
+pub mod Arcs
+pub mod Scans
+pub mod Closing
+pub mod Masks
+pub mod Answers

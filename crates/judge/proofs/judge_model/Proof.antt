@@ -1,0 +1,43 @@
+-- `judge::judge_model` meets its contract: fitness decides who answers. Assumes nothing.
+use borrow.Author.Needs.{needs}
+use Rattle.model.specs.Lists.{lists}
+use Rattle.model.proofs.Held.{told-holds}
+use Rattle.judge.proofs.Answers.{judged-fit, judged-unfit}
+use Rattle.judge.proofs.judge_model.Statement.{statement}
+use Rattle.judge.proofs.judge_model.Tie as tie
+
+check-model-requires : tie.Need-check-model-requires
+check-model-requires c κs = search needs
+
+enum-told : tie.Need-enum-told
+enum-told c = search needs
+
+judge-levels-requires : tie.Need-judge-levels-requires
+judge-levels-requires c κs =
+    let r = c .before .before .before in
+    let a = r .before .before .before .before .before .args in
+    let l = lists (a .sources .now) (a .targets .now) (a .weights .now) (a .colours .now) in
+    told-holds (a .n) (a .start) (a .k) l _ (r .check-model .ensures) (c .enum-told .given .1)
+
+enum-told-2 : tie.Need-enum-told-2
+enum-told-2 c = search needs
+
+returns : tie.Need-returns
+returns c =
+    let r = c .before .before .before .before in
+    let a = r .before .before .before .before .before .args in
+    let l = lists (a .sources .now) (a .targets .now) (a .weights .now) (a .colours .now) in
+    judged-fit (a .n) (a .start) (a .k) l (a .b) (a .c) (a .p) (a .q) (a .plan .now) _ (r .check-model .ensures) (c .before .enum-told .given .1) _
+    (c .judge-levels .ensures)
+
+returns-2 : tie.Need-returns-2
+returns-2 c =
+    let r = c .before .before .before in
+    let a = r .before .before .before .before .before .args in
+    let l = lists (a .sources .now) (a .targets .now) (a .weights .now) (a .colours .now) in
+    judged-unfit (a .n) (a .start) (a .k) l (a .b) (a .c) (a .p) (a .q) (a .plan .now) _ (r .check-model .ensures) _ (c .enum-told2 .given .1)
+
+pub judge-model-spec : {M : Type 1} → statement M
+judge-model-spec =
+    tie.close
+    (tie.spec check-model-requires enum-told judge-levels-requires enum-told-2 returns returns-2)

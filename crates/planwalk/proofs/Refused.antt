@@ -1,0 +1,23 @@
+-- Where the walk does not begin: the plan is refused, or the model has no such colour. Assumes nothing.
+use mathlib.Core.Path.{_≡_, refl}
+use mathlib.Core.List.{List}
+use Prim.Native.Nat.{ℕ, _≤_}
+use borrow.Author.Tests.{le-leb}
+use Rattle.refusals.specs.declared.Refusal.{Refusal}
+use Rattle.refusals.specs.declared.Refusal.the-variants.{NoSuchColour}
+use Rattle.refusals.specs.declared.Verdict.the-variants as verdict
+use Rattle.model.specs.Lists.{Lists}
+use Rattle.judge.specs.Judged.{judged}
+use Rattle.planwalk.specs.declared.Walked.the-variants.{Refused}
+use Rattle.planwalk.specs.Walked.{walkOf}
+
+module _ (n s k : ℕ) (l : Lists) (b c p q : ℕ) (w : List ℕ) (j t : ℕ) where
+  -- a plan that judging refuses is not walked
+  pub walk-refused : (r : Refusal) → judged n s k l b c p q w ≡ verdict.Refused r → walkOf n s k l b c p q w j t ≡ Refused r
+  unfolding walkOf
+  walk-refused r e = rw e refl
+
+  -- "j not below k, looked at after the plan"
+  pub walk-no-colour : judged n s k l b c p q w ≡ verdict.Yes → k ≤ j → walkOf n s k l b c p q w j t ≡ Refused NoSuchColour
+  unfolding walkOf
+  walk-no-colour e h = rw (e, le-leb k j h) refl
