@@ -18,7 +18,7 @@ use Rattle.model.specs.Lists.{Lists, held}
 use Rattle.model.specs.Fitness.{fittedOf, levelsOf, Holds}
 use Rattle.model.proofs.Held.{arcIn, held-arc, told-verdict, told-held}
 use Rattle.gauges.specs.declared.Gauge.{Gauge}
-use Rattle.gauges.specs.Gauge.{gauge, gauged, landed, startedIf, startedOf, movedOf, movedAt, steppedOf}
+use Rattle.gauges.specs.Gauge.{gauge, gauged, noGauge, landed, startedIf, startedOf, movedOf, movedAt, steppedOf}
 
 module _ (g : Automaton) (b a : ℕ) (x : Gauge) where
   -- 12 applies
@@ -69,7 +69,7 @@ module _ (n s k : ℕ) (l : Lists) (y : Fitted) (told : y ≡ fittedOf n s k l) 
         rw (told-verdict n s k l y told Yes e, same) refl
 
     -- starting on an unfit model: its refusal
-    pub start-unfit : (r : Refusal) → y .verdict ≡ Refused r → startedIf (Refused r) (gauge 0 0) ≡ startedOf n s k l b c
+    pub start-unfit : (r : Refusal) → y .verdict ≡ Refused r → gauged (Refused r) noGauge ≡ startedOf n s k l b c
     unfolding startedOf
     start-unfit r e = rw (told-verdict n s k l y told (Refused r) e) refl
 

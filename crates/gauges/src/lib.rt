@@ -1,9 +1,8 @@
 // The gauge by value: starting it, and stepping it on one arc.
 ghost use mathlib.Core.Path.{_≡_};
 ghost use Rattle.model.specs.Lists.{lists, held};
-ghost use Rattle.model.specs.Fitness.{Holds};
-ghost use Rattle.gauges.specs.Gauge.{gauge, startedIf, startedOf, movedOf, movedAt, steppedOf};
-ghost use Rattle.model.specs.Fitness.{levelsOf};
+ghost use Rattle.model.specs.Fitness.{levelsOf, Holds};
+ghost use Rattle.gauges.specs.Gauge.{gauge, gauged, startedIf, startedOf, movedOf, movedAt, steppedOf};
 use model::Model;
 use model::check_levels;
 use model::check_model;
@@ -24,81 +23,70 @@ pub struct Gauged {
     pub gauge: Gauge,
 }
 
-// A refused start: mode 0, charge 0.
-fn not_started(refusal: Refusal) -> Gauged
-    ensures { λ r. ⌜ r ≡ startedIf (Verdict.Refused refusal) (gauge 0 0) ⌝ }
+// What a refused start hands back.
+const NO_GAUGE: Gauge = Gauge { mode: 0, charge: 0 };
+
+// A refusal, and the gauge that goes with it: as found by a step, NO_GAUGE from a start.
+fn refused(gauge: Gauge, refusal: Refusal) -> Gauged
+    ensures { λ r. ⌜ r ≡ gauged (Verdict.Refused refusal) gauge ⌝ }
 {
     Gauged {
         verdict: Verdict::Refused(refusal),
-        gauge: Gauge { mode: 0, charge: 0 },
+        gauge,
+    }
+}
+
+// A yes, and the gauge in this mode with this charge.
+fn accepted(mode: u8, charge: u16) -> Gauged
+    ensures { λ r. ⌜ r ≡ gauged Verdict.Yes (gauge mode charge) ⌝ }
+{
+    Gauged {
+        verdict: Verdict::Yes,
+        gauge: Gauge { mode, charge },
     }
 }
 
 // Refusal 6, and the new gauge, where the model is fit.
-fn started(start: u8, c: u32, b: u32) -> Gauged
+fn start_levelled(start: u8, c: u32, b: u32) -> Gauged
     ensures { λ r. ⌜ r ≡ startedIf (levelsOf b c) (gauge start c) ⌝ }
 {
     let levels = check_levels(c, b);
     match levels {
-        Verdict::Yes => Gauged {
-            verdict: Verdict::Yes,
-            gauge: Gauge {
-                mode: start,
-                charge: c as u16,
-            },
-        },
-        Verdict::Refused(refusal) => not_started(refusal),
+        Verdict::Yes => accepted(start, c as u16),
+        Verdict::Refused(refusal) => refused(NO_GAUGE, refusal),
     }
 }
 
 // A step on an arc of the model: 12, 13 and 15, or the gauge moved on.
-fn moved(gauge: Gauge, model: Model, b: u16, arc: u32) -> Gauged
+fn step_on(gauge: Gauge, model: Model, b: u16, arc: u32) -> Gauged
     requires { ⌜ Holds model ⌝ }
     ensures { λ r. ⌜ r ≡ movedOf (held model) b arc gauge ⌝ }
 {
     let count = model.count;
     if arc >= (count as u32) {
-        return Gauged {
-            verdict: Verdict::Refused(Refusal::ArcNumber(0)),
-            gauge,
-        };
+        return refused(gauge, Refusal::ArcNumber(0));
     }
     let taken = model.arcs[arc as usize];
     if taken.source != gauge.mode {
-        return Gauged {
-            verdict: Verdict::Refused(Refusal::OtherMode(0)),
-            gauge,
-        };
+        return refused(gauge, Refusal::OtherMode(0));
     }
     let next = bounded_step(gauge.charge, taken.weight, b);
     match next {
-        Step::To(charge) => Gauged {
-            verdict: Verdict::Yes,
-            gauge: Gauge {
-                mode: taken.target,
-                charge,
-            },
-        },
-        Step::Impossible => Gauged {
-            verdict: Verdict::Refused(Refusal::ImpossibleStep(0)),
-            gauge,
-        },
+        Step::To(charge) => accepted(taken.target, charge),
+        Step::Impossible => refused(gauge, Refusal::ImpossibleStep(0)),
     }
 }
 
 // Refusal 6, which reads the gauge's own charge, and the step, where the model is fit.
-fn levelled(gauge: Gauge, model: Model, b: u32, arc: u32) -> Gauged
+fn step_levelled(gauge: Gauge, model: Model, b: u32, arc: u32) -> Gauged
     requires { ⌜ Holds model ⌝ }
     ensures { λ r. ⌜ r ≡ movedAt (held model) b arc gauge ⌝ }
 {
     let charge = gauge.charge;
     let levels = check_levels(charge as u32, b);
     match levels {
-        Verdict::Yes => moved(gauge, model, b as u16, arc),
-        Verdict::Refused(refusal) => Gauged {
-            verdict: Verdict::Refused(refusal),
-            gauge,
-        },
+        Verdict::Yes => step_on(gauge, model, b as u16, arc),
+        Verdict::Refused(refusal) => refused(gauge, refusal),
     }
 }
 
@@ -120,8 +108,8 @@ impl Gauge {
         let fitted = check_model(n, start, k, sources, targets, weights, colours);
         let verdict = fitted.verdict;
         match verdict {
-            Verdict::Yes => started(fitted.model.start, c, b),
-            Verdict::Refused(refusal) => not_started(refusal),
+            Verdict::Yes => start_levelled(fitted.model.start, c, b),
+            Verdict::Refused(refusal) => refused(NO_GAUGE, refusal),
         }
     }
 
@@ -144,11 +132,8 @@ impl Gauge {
         let fitted = check_model(n, start, k, sources, targets, weights, colours);
         let verdict = fitted.verdict;
         match verdict {
-            Verdict::Yes => levelled(self, fitted.model, b, arc),
-            Verdict::Refused(refusal) => Gauged {
-                verdict: Verdict::Refused(refusal),
-                gauge: self,
-            },
+            Verdict::Yes => step_levelled(self, fitted.model, b, arc),
+            Verdict::Refused(refusal) => refused(self, refusal),
         }
     }
 }

@@ -12,21 +12,21 @@ check-model-requires c κs = search needs
 enum-told : tie.Need-enum-told
 enum-told c = search needs
 
-started-requires : tie.Need-started-requires
-started-requires c κs = search needs
+start-levelled-requires : tie.Need-start-levelled-requires
+start-levelled-requires c κs = search needs
 
 enum-known-verdict : tie.Need-enum-known-verdict
 enum-known-verdict c = search needs
 
-not-started-requires : tie.Need-not-started-requires
-not-started-requires c κs = search needs
+refused-requires : tie.Need-refused-requires
+refused-requires c κs = search needs
 
 returns : tie.Need-returns
 returns c =
     let d = c .before .before .before in
     let a = d .before .before .before .before .args in
     let l = lists (a .sources .now) (a .targets .now) (a .weights .now) (a .colours .now) in
-    c .started .ensures
+    c .start-levelled .ensures
     ∙ start-fit (a .n) (a .start) (a .k) l _ (d .check-model .ensures) (a .b) (a .c) (c .before .enum-told .given .1)
 
 returns-2 : tie.Need-returns-2
@@ -34,7 +34,7 @@ returns-2 c =
     let d = c .before .before .before .before in
     let a = d .before .before .before .before .args in
     let l = lists (a .sources .now) (a .targets .now) (a .weights .now) (a .colours .now) in
-    c .not-started .ensures
+    c .refused .ensures
     ∙ start-unfit (a .n) (a .start) (a .k) l _ (d .check-model .ensures) (a .b) (a .c) _ (c .before .before .verdict .given .1)
 
 pub start-spec : {M : Type 1} → statement M
@@ -43,8 +43,8 @@ start-spec =
     (tie.spec
     check-model-requires
     enum-told
-    started-requires
+    start-levelled-requires
     enum-known-verdict
-    not-started-requires
+    refused-requires
     returns
     returns-2)

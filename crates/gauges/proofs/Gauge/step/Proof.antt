@@ -13,8 +13,8 @@ check-model-requires c κs = search needs
 enum-told : tie.Need-enum-told
 enum-told c = search needs
 
-levelled-requires : tie.Need-levelled-requires
-levelled-requires c κs =
+step-levelled-requires : tie.Need-step-levelled-requires
+step-levelled-requires c κs =
     let d = c .before .before in
     let a = d .before .before .before .before .args in
     let l = lists (a .sources .now) (a .targets .now) (a .weights .now) (a .colours .now) in
@@ -23,20 +23,33 @@ levelled-requires c κs =
 enum-known-verdict : tie.Need-enum-known-verdict
 enum-known-verdict c = search needs
 
+refused-requires : tie.Need-refused-requires
+refused-requires c κs = search needs
+
 returns : tie.Need-returns
 returns c =
     let d = c .before .before .before in
     let a = d .before .before .before .before .args in
     let l = lists (a .sources .now) (a .targets .now) (a .weights .now) (a .colours .now) in
-    c .levelled .ensures
+    c .step-levelled .ensures
     ∙ step-fit (a .n) (a .start) (a .k) l _ (d .check-model .ensures) (a .b) (a .arc) (a .self) (c .before .enum-told .given .1)
 
 returns-2 : tie.Need-returns-2
 returns-2 c =
-    let d = c .before .before .before in
+    let d = c .before .before .before .before in
     let a = d .before .before .before .before .args in
     let l = lists (a .sources .now) (a .targets .now) (a .weights .now) (a .colours .now) in
-    step-unfit (a .n) (a .start) (a .k) l _ (d .check-model .ensures) (a .b) (a .arc) (a .self) _ (c .before .verdict .given .1)
+    c .refused .ensures
+    ∙ step-unfit (a .n) (a .start) (a .k) l _ (d .check-model .ensures) (a .b) (a .arc) (a .self) _ (c .before .before .verdict .given .1)
 
 pub step-spec : {M : Type 1} → statement M
-step-spec = tie.close (tie.spec check-model-requires enum-told levelled-requires enum-known-verdict returns returns-2)
+step-spec =
+    tie.close
+    (tie.spec
+    check-model-requires
+    enum-told
+    step-levelled-requires
+    enum-known-verdict
+    refused-requires
+    returns
+    returns-2)
