@@ -34,15 +34,15 @@ impl Walked {
         ensures { λ r. ⌜ r ≡ walkAnswer self ⌝ }
     {
         match self {
-            Walked::Met(steps) => WalkAnswer {
+            Walked::Met(made) => WalkAnswer {
                 answer: Verdict::Yes.answer(),
                 met: true,
-                steps,
+                steps: made,
             },
-            Walked::Spent(steps) => WalkAnswer {
+            Walked::Spent(made) => WalkAnswer {
                 answer: Verdict::Yes.answer(),
                 met: false,
-                steps,
+                steps: made,
             },
             Walked::Refused(refusal) => WalkAnswer {
                 answer: refusal.answer(),
