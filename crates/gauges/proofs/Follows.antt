@@ -27,7 +27,7 @@ use Rattle.model.proofs.Fitness.{fitness-yes, levels-yes}
 use Rattle.model.proofs.Plans.{serves-walked}
 use Rattle.gauges.specs.declared.Gauge.{Gauge}
 use Rattle.gauges.specs.declared.Gauged.{Gauged}
-use Rattle.gauges.specs.Gauge.{gauge, gauged, startedOf, landed, movedOf, movedAt, steppedOf, onYes, afterGauged, stepsOf}
+use Rattle.gauges.specs.Gauge.{gauge, gauged, startedOf, landed, movedOf, movedLevelled, steppedOf, onYes, afterGauged, stepsOf}
 use Rattle.gauges.proofs.Gauges.{moved-number, moved-mode, moved-lands}
 
 -- two accepted gauges are equal exactly where their modes and their charges are
@@ -66,9 +66,9 @@ moved-yes g b a m e t x =
     )
 
 -- the call on a fit model, where 6 does not apply, is the step on the arc
-step-moved : (n s k : ℕ) (l : Lists) (b a : ℕ) (x : Gauge) → fitness n s k l ≡ Yes → levelsOf b (x .charge) ≡ Yes
+pub step-moved : (n s k : ℕ) (l : Lists) (b a : ℕ) (x : Gauge) → fitness n s k l ≡ Yes → levelsOf b (x .charge) ≡ Yes
     → steppedOf n s k l b a x ≡ movedOf (automatonOf n s k l) b a x
-unfolding steppedOf movedAt
+unfolding steppedOf movedLevelled
 step-moved n s k l b a x fit levels = rw (fit, levels) refl
 
 -- "A gauge in a mode not below n therefore gets 13 or an earlier number": where none of 1 to 6 and 12 applies, it gets 13
@@ -115,15 +115,24 @@ module _ (n s k : ℕ) (l : Lists) (b : ℕ) (fit : fitness n s k l ≡ Yes) (hb
             ),
       )
 
--- Stepped from its start along a plan that serves, the gauge is never refused, however often the cycle repeats and wherever one stops.
-pub plan-followed : (n s k : ℕ) (l : Lists) (b c : ℕ) (p : Plan) → fitness n s k l ≡ Yes → b ≤ boundMost → c ≤ b
-    → Serves (automatonOf n s k l) b c p → (r i : ℕ)
-    → (t : ℕ) × (x : ℕ) × (stepsOf n s k l b (take i (p .prefix ++ times r (p .cycle))) (gauge s c) ≡ gauged Yes (gauge t x))
-plan-followed n s k l b c p fit hb hc serves r i =
-    let (t, x, leads, ends) = serves-walked (automatonOf n s k l) b c p serves r i in
-    (t, x, gauge-follows n s k l b fit hb (take i (p .prefix ++ times r (p .cycle))) s c t x hc .1 (leads, ends))
-
 -- "Starting .. hands back a new one with the start mode and c", where none of 1 to 6 applies
 pub started-yes : (n s k : ℕ) (l : Lists) (b c : ℕ) → fitness n s k l ≡ Yes → levelsOf b c ≡ Yes → startedOf n s k l b c ≡ gauged Yes (gauge s c)
 unfolding startedOf
 started-yes n s k l b c fit levels = rw (fit, levels) refl
+
+-- Started, and stepped along a plan that serves, the gauge is never refused, however often the cycle repeats and wherever one stops: it has
+-- the mode that the arcs lead to, and the charge of their walk.
+pub plan-followed : (n s k : ℕ) (l : Lists) (b c : ℕ) (p : Plan) → fitness n s k l ≡ Yes → b ≤ boundMost → c ≤ b
+    → Serves (automatonOf n s k l) b c p → (r i : ℕ)
+    → (t : ℕ) × (x : ℕ) × Leads (automatonOf n s k l) s (take i (p .prefix ++ times r (p .cycle))) t
+    × (walkedArcs (automatonOf n s k l) b (take i (p .prefix ++ times r (p .cycle))) c ≡ Ends x)
+    × (afterGauged (startedOf n s k l b c) (stepsOf n s k l b (take i (p .prefix ++ times r (p .cycle)))) ≡ gauged Yes (gauge t x))
+plan-followed n s k l b c p fit hb hc serves r i =
+    let (t, x, leads, ends) = serves-walked (automatonOf n s k l) b c p serves r i in (
+      t,
+      x,
+      leads,
+      ends,
+      rw (started-yes n s k l b c fit (levels-yes b c .1 (hb, hc)))
+          (gauge-follows n s k l b fit hb (take i (p .prefix ++ times r (p .cycle))) s c t x hc .1 (leads, ends)),
+    )

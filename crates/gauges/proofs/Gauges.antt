@@ -18,7 +18,7 @@ use Rattle.model.specs.Lists.{Lists, held}
 use Rattle.model.specs.Fitness.{fittedOf, levelsOf, Holds}
 use Rattle.model.proofs.Held.{arcIn, held-arc, told-verdict, told-held}
 use Rattle.gauges.specs.declared.Gauge.{Gauge}
-use Rattle.gauges.specs.Gauge.{gauge, gauged, noGauge, landed, startedIf, startedOf, movedOf, movedAt, steppedOf}
+use Rattle.gauges.specs.Gauge.{gauge, gauged, noGauge, landed, startedIf, startedOf, movedOf, movedLevelled, steppedOf}
 
 module _ (g : Automaton) (b a : ℕ) (x : Gauge) where
   -- 12 applies
@@ -75,7 +75,7 @@ module _ (n s k : ℕ) (l : Lists) (y : Fitted) (told : y ≡ fittedOf n s k l) 
 
   module _ (b a : ℕ) (x : Gauge) where
     -- a step on a fit model: 6 and what follows it decide
-    pub step-fit : y .verdict ≡ Yes → movedAt (held (y .model)) b a x ≡ steppedOf n s k l b a x
+    pub step-fit : y .verdict ≡ Yes → movedLevelled (held (y .model)) b a x ≡ steppedOf n s k l b a x
     unfolding steppedOf
     step-fit e = rw (told-verdict n s k l y told Yes e, told-held n s k l y told e) refl
 

@@ -59,12 +59,12 @@ movedOf g b a x =
     (landed x (arcAt g a .target) (stepped b (arcAt g a .weight) (x .charge))))
 
 -- "For a step, 6 reads the gauge's own charge in place of c, so a gauge charged above b is refused by 6."
-unfoldable pub movedAt : Automaton → ℕ → ℕ → Gauge → Gauged
-movedAt g b a x = stopAt (levelsOf b (x .charge)) x (movedOf g b a x)
+unfoldable pub movedLevelled : Automaton → ℕ → ℕ → Gauge → Gauged
+movedLevelled g b a x = stopAt (levelsOf b (x .charge)) x (movedOf g b a x)
 
 -- "A gauge step uses 1 to 6, then 12, 13, 15 with detail 0, and a refusal leaves the gauge as found."
 unfoldable pub steppedOf : ℕ → ℕ → ℕ → Lists → ℕ → ℕ → Gauge → Gauged
-steppedOf n s k l b a x = stopAt (fitness n s k l) x (movedAt (automatonOf n s k l) b a x)
+steppedOf n s k l b a x = stopAt (fitness n s k l) x (movedLevelled (automatonOf n s k l) b a x)
 
 -- what follows a step goes on from its gauge, where it is accepted
 abbrev pub onYes : Verdict → Gauge → (Gauge → Gauged) → Gauged

@@ -2,7 +2,7 @@
 ghost use mathlib.Core.Path.{_≡_};
 ghost use Rattle.model.specs.Lists.{lists, held};
 ghost use Rattle.model.specs.Fitness.{levelsOf, Holds};
-ghost use Rattle.gauges.specs.Gauge.{gauge, gauged, startedIf, startedOf, movedOf, movedAt, steppedOf};
+ghost use Rattle.gauges.specs.Gauge.{gauge, gauged, startedIf, startedOf, movedOf, movedLevelled, steppedOf};
 use model::Model;
 use model::check_levels;
 use model::check_model;
@@ -80,7 +80,7 @@ fn step_on(gauge: Gauge, model: Model, b: u16, arc: u32) -> Gauged
 // Refusal 6, which reads the gauge's own charge, and the step, where the model is fit.
 fn step_levelled(gauge: Gauge, model: Model, b: u32, arc: u32) -> Gauged
     requires { ⌜ Holds model ⌝ }
-    ensures { λ r. ⌜ r ≡ movedAt (held model) b arc gauge ⌝ }
+    ensures { λ r. ⌜ r ≡ movedLevelled (held model) b arc gauge ⌝ }
 {
     let charge = gauge.charge;
     let levels = check_levels(charge as u32, b);

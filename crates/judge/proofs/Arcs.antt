@@ -14,11 +14,11 @@ use Rattle.model.specs.Fitness.{Holds}
 use Rattle.model.specs.Lists.{held}
 use Rattle.model.proofs.Bits.{colours-below}
 use Rattle.judge.specs.Shape.{lengthOf, numbers, chain, numbersThenChain, closing, path, shape}
-use Rattle.judge.specs.Judged.{ArcsOf}
+use Rattle.judge.specs.Judged.{ArcNumbers}
 use Rattle.judge.proofs.Shapes.{length-yes, numbers-yes}
 
 -- what 12 lets through are arcs of the model
-pub path-arcs : (g : Model) → Holds g → (w : List ℕ) (s : ℕ) → numbersThenChain (held g) s w 0 ≡ Yes → ArcsOf g w
+pub path-arcs : (g : Model) → Holds g → (w : List ℕ) (s : ℕ) → numbersThenChain (held g) s w 0 ≡ Yes → ArcNumbers g w
 path-arcs g holds w s path =
     let numbered = and-then-yes (numbers (length (held g .arcs)) w 0) (chain (held g) s w 0) .0 path .0 in
     let below = numbers-yes (length (held g .arcs)) w 0 .0 numbered in
@@ -26,7 +26,7 @@ path-arcs g holds w s path =
 
 -- what 11 to 14 let through: arcs of the model, of which p are the prefix's
 pub shape-arcs : (g : Model) → Holds g → (p q : ℕ) (w : List ℕ) → shape (held g) p q w ≡ Yes
-    → ArcsOf g w × (p ≤ length w) × (length w ≤ planMost)
+    → ArcNumbers g w × (p ≤ length w) × (length w ≤ planMost)
 unfolding shape
 shape-arcs g holds p q w shaped =
     let both = and-then-yes (lengthOf p q (length w)) (path (held g) p w) .0 shaped in
@@ -38,9 +38,9 @@ shape-arcs g holds p q w shaped =
 pub rest-part : (p : ℕ) (w : List ℕ) → take (length w - p) (drop p w) ≡ drop p w
 rest-part p w = take-all (length w - p) (drop p w) (omega (arith, length-drop p w))
 
-module _ (g : Model) (w : List ℕ) (arcs : ArcsOf g w) where
+module _ (g : Model) (w : List ℕ) (arcs : ArcNumbers g w) where
   -- the first p of them, and the others
-  pub arcs-take : (p : ℕ) → p ≤ length w → ArcsOf g (take p w)
+  pub arcs-take : (p : ℕ) → p ≤ length w → ArcNumbers g (take p w)
   arcs-take p h =
       record {
         few = arcs .few;
@@ -49,7 +49,7 @@ module _ (g : Model) (w : List ℕ) (arcs : ArcsOf g w) where
             rw (getD-take p w i 0 short) (arcs .below i (omega arith));
       }
 
-  pub arcs-drop : (p : ℕ) → ArcsOf g (drop p w)
+  pub arcs-drop : (p : ℕ) → ArcNumbers g (drop p w)
   arcs-drop p =
       record { few = arcs .few; below = λ i q. rw (getD-drop p w i 0) (arcs .below (p + i) (omega (arith, length-drop p w))) }
 

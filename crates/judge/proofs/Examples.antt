@@ -10,7 +10,7 @@ use Rattle.model.specs.Plans.{SomePlan}
 use Rattle.judge.specs.Shape.{planOf, shape, lengthOf, numbers, chain, closing}
 use Rattle.judge.specs.Charges.{charges, rounds, secondRound, ran}
 use Rattle.judge.specs.Colours.{coloursOf, missingFrom}
-use Rattle.judge.specs.Judged.{judged, judgedLevels, judgedPlan, judgedWalk}
+use Rattle.judge.specs.Judged.{judged, judgedLevels, judgedPlan, servesOf}
 use Rattle.judge.specs.Examples.{Example, Found, None, modelIn, Stands, All, ofA, ofB, ofG, examples}
 use Rattle.judge.proofs.Judged.{judged-yes}
 use Rattle.judge.proofs.NoPlan.{no-plan}
@@ -25,19 +25,19 @@ infixr 5 _and_
 _and_ : {A B : Type 0} → A → B → A × B
 x and y = (x, y)
 
--- The examples. Judging's number and detail are computed. A and G: a plan to which judging says yes. B and H: within the bound no arc leads
--- out of mode 0, and of the arcs that stay there B has none, and H none with colour 0.
+-- The examples. Judging's number and detail are computed. A and G: a plan to which judging says yes. B: its arc draws more than the bound. H:
+-- so does the arc that leaves mode 0, and the arc that stays there has not colour 0.
 pub examples-hold : All Stands examples
-unfolding judged judgedLevels judgedPlan judgedWalk fitness header unfitLists arcsVerdict unfitArc levelsOf shape lengthOf numbers chain closing charges rounds secondRound ran stepped coloursOf missingFrom
+unfolding judged judgedLevels judgedPlan servesOf fitness header unfitLists arcsVerdict unfitArc levelsOf shape lengthOf numbers chain closing charges rounds secondRound ran stepped coloursOf missingFrom
 examples-hold =
-    judged-found (ofA 0 0 Found) 0 1 (0 ∷ []) refl
-    and no-plan (modelIn (ofB 0 0 None)) 0 0 (eqb 0) 0 refl
+    (refl, judged-found (ofA 0 0 Found) 0 1 (0 ∷ []) refl)
+    and (refl, no-plan (modelIn (ofB 0 0 None)) 0 0 (eqb 0) 0 refl)
     and refl
     and refl
     and refl
     and refl
-    and judged-found (ofG 5 0 Found) 6 1 (0 ∷ 0 ∷ 0 ∷ 0 ∷ 0 ∷ 1 ∷ 2 ∷ []) refl
-    and no-plan (modelIn (ofG 4 0 None)) 4 0 (eqb 0) 0 refl
+    and (refl, judged-found (ofG 5 0 Found) 6 1 (0 ∷ 0 ∷ 0 ∷ 0 ∷ 0 ∷ 1 ∷ 2 ∷ []) refl)
+    and (refl, no-plan (modelIn (ofG 4 0 None)) 4 0 (eqb 0) 0 refl)
     and refl
     and refl
     and refl

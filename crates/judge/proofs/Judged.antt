@@ -1,5 +1,5 @@
--- What the yes of judging says: "judging says yes for exactly the feasible and accepted plans" of a fit model at right levels.
--- Assumes nothing.
+-- What the yes of judging says: the model is fit, the levels are right, the plan has its lengths, and is feasible and accepted. Assumes
+-- nothing.
 use mathlib.Core.Path.{_≡_}
 use mathlib.Core.List.{List}
 use mathlib.Core.Logic.{_↔_}
@@ -14,15 +14,15 @@ use Rattle.model.proofs.Fitness.{fitness-yes, levels-yes}
 use Rattle.judge.specs.Shape.{planOf, shape, Lengths}
 use Rattle.judge.specs.Charges.{charges}
 use Rattle.judge.specs.Colours.{coloursOf}
-use Rattle.judge.specs.Judged.{judgedWalk, judgedPlan, judgedLevels, judged, Right}
+use Rattle.judge.specs.Judged.{servesOf, judgedPlan, judgedLevels, judged, Right}
 use Rattle.judge.proofs.Shapes.{shape-yes}
 use Rattle.judge.proofs.Runs.{charges-yes}
 use Rattle.judge.proofs.Colours.{colours-yes}
 
 module _ (g : Automaton) (b c : ℕ) where
   -- 15 to 17 do not apply exactly where the plan is feasible and accepted
-  pub walk-yes : (p : Plan) → c ≤ b → (judgedWalk g b c p ≡ Yes) ↔ (Feasible g b c p × Accepted g p)
-  unfolding judgedWalk
+  pub walk-yes : (p : Plan) → c ≤ b → (servesOf g b c p ≡ Yes) ↔ (Feasible g b c p × Accepted g p)
+  unfolding servesOf
   walk-yes p h =
       let both = and-then-yes (charges g b c p) (coloursOf g (p .cycle)) in (
         λ e. (charges-yes g b c p h .0 (both .0 e .0), colours-yes g p .0 (both .0 e .1)),
@@ -33,7 +33,7 @@ module _ (g : Automaton) (b c : ℕ) where
   pub plan-yes : (p q : ℕ) (w : List ℕ) → c ≤ b → (judgedPlan g b c p q w ≡ Yes) ↔ (Lengths p q w × Serves g b c (planOf p w))
   unfolding judgedPlan
   plan-yes p q w h =
-      let both = and-then-yes (shape g p q w) (judgedWalk g b c (planOf p w)) in
+      let both = and-then-yes (shape g p q w) (servesOf g b c (planOf p w)) in
       let walk = walk-yes (planOf p w) h in (
         λ e.
             let (l, k) = shape-yes g p q w .0 (both .0 e .0) in

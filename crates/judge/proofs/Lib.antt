@@ -1,5 +1,5 @@
 -- Laws of judging, row by row in the table's order (Leads, Shapes, Runs, Colours); what its yes says (Judged); when no plan exists (NoPlan) and
--- the examples (Examples). Arcs, Scans, Closing, Masks and Answers serve the proofs of the code.
+-- the examples (Examples). Arcs, Scans, Paths, Masks and Answers serve the proofs of the code.
 pub mod Leads
 pub mod Shapes
 pub mod Runs
@@ -9,6 +9,6 @@ pub mod NoPlan
 pub mod Examples
 pub mod Arcs
 pub mod Scans
-pub mod Closing
+pub mod Paths
 pub mod Masks
 pub mod Answers

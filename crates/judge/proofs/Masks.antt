@@ -1,9 +1,9 @@
 -- The mask of met colours: its bits are the colours met, and the lowest bit that it lacks is the lowest colour missing. Assumes nothing.
 use mathlib.Core.Path.{_≡_, refl, sym, ap, _∙_}
-use mathlib.Core.Bool.{Bool, true, false, not, _||_, or-assoc}
+use mathlib.Core.Bool.{Bool, true, false, _||_, or-assoc, or-false}
 use mathlib.Core.List.{List, [], _∷_}
 use mathlib.Core.Logic.{_⊎_, inl, inr, ⊎-elim}
-use Prim.Native.Nat.{ℕ, zero, suc, _+_, _-_, _*_, _/_, _%_, _^_, _≤_, _<_, max}
+use Prim.Native.Nat.{ℕ, zero, suc, _+_, _-_, _/_, _%_, _^_, _≤_, _<_, max}
 use native.Mathlib.Nat.{add-zero, zero-add, suc-add, add-suc, pow-suc, pow-succ', eq-zero-or-pos, div-one, div-div-eq-div-mul, div-eq-of-lt, add-sub-of-le, mod-eq-of-lt}
 use native.Mathlib.Omega.{arith}
 use native.Mathlib.Decide.{ℕ-discrete}
@@ -16,7 +16,6 @@ use lib.Pow.{pow-pos}
 use Rattle.refusals.specs.declared.Refusal.the-variants.{MissingColour}
 use Rattle.refusals.specs.declared.Verdict.{Verdict}
 use Rattle.refusals.specs.declared.Verdict.the-variants.{Yes, Refused}
-use Rattle.refusals.specs.Refusals.{refuse}
 use Rattle.model.specs.Automaton.{Automaton, arcAt, bit, meets}
 use Rattle.judge.specs.Colours.{someArc, missingFrom, coloursOf, metBy}
 
@@ -40,11 +39,7 @@ or-bit a b j =
 -- the colours of m, and those that the arcs meet
 pub met-bit : (g : Automaton) (w : List ℕ) (m j : ℕ) → bit (metBy g w m) j ≡ (bit m j || someArc (meets g j) w)
 unfolding metBy
-met-bit g [] m j = go (bit m j)
-  where
-    go : (t : Bool) → t ≡ (t || false)
-    go true = refl
-    go false = refl
+met-bit g [] m j = sym (or-false (bit m j))
 met-bit g (a ∷ w) m j = met-bit g w (bitOr m (arcAt g a .colours)) j ∙ rw (or-bit m (arcAt g a .colours) j) (or-assoc (bit m j) (meets g j a) (someArc (meets g j) w))
 
 -- arcs without a colour at or above k leave the mask below 2 ^ k ..

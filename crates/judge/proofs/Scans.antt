@@ -1,28 +1,26 @@
 -- One turn of each scan of a list of arcs: what is left to be said at position i, by what is left at the next. Assumes nothing.
 use mathlib.Core.Path.{_≡_, refl, ap, _∙_}
-use mathlib.Core.Bool.{not}
 use mathlib.Core.List.{List}
-use mathlib.Core.Logic.{_≢_}
 use Prim.Native.Nat.{ℕ, suc, _+_, _≤_, _<_}
 use native.Mathlib.Numerals.{add-one}
 use native.Mathlib.Omega.{arith}
-use borrow.Author.Tests.{eq-eqb, ne-eqb, lt-leb, le-leb}
+use borrow.Author.Tests.{lt-leb, le-leb}
 use lib.Bits.{bitOr}
-use lib.Dec.{leb, eqb}
+use lib.Dec.{leb}
 use lib.ListN.{length, getD, drop, drop-of-length-le}
 use lib.Seq.{drop-cons}
 use Rattle.walks.specs.declared.Step.the-variants.{To, Impossible}
 use Rattle.walks.specs.BoundedStep.{stepped}
-use Rattle.refusals.specs.declared.Refusal.the-variants.{ArcNumber, OtherMode}
+use Rattle.refusals.specs.declared.Refusal.the-variants.{ArcNumber}
 use Rattle.refusals.specs.declared.Verdict.the-variants.{Yes, Refused}
-use Rattle.refusals.specs.Refusals.{refuse, andThen}
+use Rattle.refusals.specs.Refusals.{refuse}
 use Rattle.model.specs.declared.Arc.{Arc}
 use Rattle.model.specs.declared.Model.{Model}
 use Rattle.model.specs.Automaton.{arcAt}
 use Rattle.model.specs.Lists.{held}
 use Rattle.model.proofs.Held.{arcIn, held-arc}
 use Rattle.judge.specs.declared.Ran.the-variants.{Through, Stops}
-use Rattle.judge.specs.Shape.{numbers, chain, numbersThenChain}
+use Rattle.judge.specs.Shape.{numbers}
 use Rattle.judge.specs.Charges.{ran}
 use Rattle.judge.specs.Colours.{metBy}
 
@@ -42,31 +40,6 @@ module _ (m : ℕ) (w : List ℕ) (i : ℕ) where
 
   pub numbers-on : i < length w → getD w i 0 < m → numbers m (drop i w) i ≡ numbers m (drop (i + 1) w) (i + 1)
   numbers-on h q = numbers-at h ∙ rw (lt-leb m (getD w i 0) q) refl
-
--- 12 and 13 at position i, in mode s; the value g counts m arcs
-module _ (g : Model) (m : length (held g .arcs) ≡ g .count) (s : ℕ) (w : List ℕ) (i : ℕ) where
-  pub path-end : length w ≤ i → numbersThenChain (held g) s (drop i w) i ≡ Yes
-  unfolding numbers chain
-  path-end h = rw (drop-of-length-le w {i = i} h) refl
-
-  pub path-stop : i < length w → g .count ≤ getD w i 0 → numbersThenChain (held g) s (drop i w) i ≡ Refused (ArcNumber i)
-  path-stop h q = rw (numbers-stop (length (held g .arcs)) w i h (omega arith)) refl
-
-  -- the rest of 13 where the arc is one of the model
-  chain-at : i < length w → getD w i 0 < g .count → chain (held g) s (drop i w) i
-      ≡ refuse (not (eqb (arcIn g (getD w i 0) .source) s)) (OtherMode i) (chain (held g) (arcIn g (getD w i 0) .target) (drop (i + 1) w) (i + 1))
-  unfolding chain
-  chain-at h q = rw (drop-cons w i 0 h, add-one i, held-arc g (getD w i 0) q) refl
-
-  -- an arc that leaves another mode: 12 in the rest comes first
-  pub path-other : i < length w → getD w i 0 < g .count → arcIn g (getD w i 0) .source ≢ s
-      → numbersThenChain (held g) s (drop i w) i ≡ andThen (numbers (g .count) (drop (i + 1) w) (i + 1)) (Refused (OtherMode i))
-  path-other h q d =
-      rw (numbers-on (length (held g .arcs)) w i h (omega arith), chain-at h q, ne-eqb (arcIn g (getD w i 0) .source) s d, m) refl
-
-  pub path-on : i < length w → getD w i 0 < g .count → arcIn g (getD w i 0) .source ≡ s
-      → numbersThenChain (held g) s (drop i w) i ≡ numbersThenChain (held g) (arcIn g (getD w i 0) .target) (drop (i + 1) w) (i + 1)
-  path-on h q e = rw (numbers-on (length (held g .arcs)) w i h (omega arith), chain-at h q, eq-eqb (arcIn g (getD w i 0) .source) s e) refl
 
 -- the walk at position i, with charge e; the list's first step has the number j
 module _ (g : Model) (b : ℕ) (w : List ℕ) (i j e : ℕ) where

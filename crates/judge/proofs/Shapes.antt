@@ -1,29 +1,23 @@
 -- What the yes of refusals 11 to 14 says: the two lengths are right, and the bytes are a plan of the model. Assumes nothing.
 use mathlib.Core.Path.{_≡_, refl, sym, _∙_, subst}
-use mathlib.Core.Bool.{Bool, true, false, not, _||_}
+use mathlib.Core.Bool.{not, _||_}
 use mathlib.Core.List.{List, [], _∷_}
 use mathlib.Core.Logic.{_↔_}
 use Prim.Native.Nat.{ℕ, zero, suc, _+_, _<_}
 use native.Mathlib.Omega.{arith}
 use lib.Dec.{leb, ltb, eqb}
 use lib.ListN.{length, getD, take, drop, length-drop}
-use borrow.Author.Tests.{ltb-false, leb-false, eqb-false, le-ltb, lt-leb, ne-eqb}
+use borrow.Author.Tests.{eqb-false, ne-eqb}
 use Rattle.limits.specs.Ceilings.{planMost}
 use Rattle.refusals.specs.declared.Refusal.the-variants.{PlanLength, ArcNumber, OpenCycle}
 use Rattle.refusals.specs.declared.Verdict.the-variants.{Yes}
-use Rattle.refusals.proofs.Verdicts.{clash, refuse-yes, and-then-yes}
+use Rattle.refusals.proofs.Verdicts.{refuse-yes, and-then-yes}
 use Rattle.model.specs.Automaton.{Automaton}
 use Rattle.model.specs.Plans.{Leads, IsPlan}
 use Rattle.judge.specs.Shape.{planOf, lengthOf, numbers, chain, numbersThenChain, modeAfter, closing, path, shape, Lengths}
-use Rattle.refusals.proofs.Tests.{differ-no}
+use Rattle.refusals.proofs.Tests.{or-no, lt-no, le-no, differ-no}
 use Rattle.model.proofs.Leads.{leads-cut}
 use Rattle.judge.proofs.Leads.{leads-chain, leads-mode}
-
--- none of three
-or3-no : (a b c : Bool) → ((a || b || c) ≡ false) ↔ ((a ≡ false) × (b ≡ false) × (c ≡ false))
-or3-no false false c = (λ e. (refl, refl, e), λ e. e .2)
-or3-no true b c = (λ e. clash (cc), λ e. clash (cc))
-or3-no false true c = (λ e. clash (cc), λ e. clash (cc))
 
 -- 11 does not apply exactly where the lengths are right
 pub length-yes : (p q : ℕ) (w : List ℕ) → (lengthOf p q (length w) ≡ Yes) ↔ Lengths p q w
@@ -31,15 +25,15 @@ unfolding lengthOf
 length-yes p q w =
     let n = length w in
     let row = refuse-yes (eqb q 0 || not (eqb (p + q) n) || ltb planMost n) PlanLength Yes in
-    let three = or3-no (eqb q 0) (not (eqb (p + q) n)) (ltb planMost n) in (
+    let outer = or-no (eqb q 0 || not (eqb (p + q) n)) (ltb planMost n) in
+    let inner = or-no (eqb q 0) (not (eqb (p + q) n)) in (
       λ e.
-          let t = three .0 (row .0 e .0) in
-          record { some-arc = omega (arith, eqb-false q 0 (t .0)); parts = differ-no (p + q) n .0 (t .1); short = ltb-false planMost n (t .2) },
+          let (both, long) = outer .0 (row .0 e .0) in
+          let (none, other) = inner .0 both in
+          record { some-arc = omega (arith, eqb-false q 0 none); parts = differ-no (p + q) n .0 other; short = lt-no planMost n .0 long },
       λ h.
-          row .1 (
-            three .1 (ne-eqb q 0 (λ z. omega (arith, h .some-arc)), differ-no (p + q) n .1 (h .parts), le-ltb planMost n (h .short)),
-            refl,
-          ),
+          let none = ne-eqb q 0 (λ z. omega (arith, h .some-arc)) in
+          row .1 (outer .1 (inner .1 (none, differ-no (p + q) n .1 (h .parts)), lt-no planMost n .1 (h .short)), refl),
     )
 
 -- 12 does not apply exactly where every arc number is below m
@@ -49,8 +43,8 @@ numbers-yes m [] i = (λ e j h. absurd (omega arith), λ f. refl)
 numbers-yes m (a ∷ w) i =
     let row = refuse-yes (leb m a) (ArcNumber i) (numbers m w (suc i)) in
     let ih = numbers-yes m w (suc i) in (
-      λ e. each (leb-false m a (row .0 e .0)) (ih .0 (row .0 e .1)),
-      λ f. row .1 (lt-leb m a (f 0 (omega arith)), ih .1 (λ j h. f (suc j) (omega arith))),
+      λ e. each (le-no m a .0 (row .0 e .0)) (ih .0 (row .0 e .1)),
+      λ f. row .1 (le-no m a .1 (f 0 (omega arith)), ih .1 (λ j h. f (suc j) (omega arith))),
     )
   where
     each : a < m → ((j : ℕ) → j < length w → getD w j 0 < m) → (j : ℕ) → j < length (a ∷ w) → getD (a ∷ w) j 0 < m

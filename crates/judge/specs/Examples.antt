@@ -5,14 +5,16 @@ use mathlib.Core.Path.{_≡_}
 use mathlib.Core.List.{List, [], _∷_}
 use lib.IntN.{pos, negsuc}
 use Rattle.refusals.specs.declared.Answer.{Answer}
-use Rattle.refusals.specs.Refusals.{answer, answerOf}
+use Rattle.refusals.specs.declared.Verdict.the-variants.{Yes}
+use Rattle.refusals.specs.Refusals.{answer, answerOf, andThen}
 use Rattle.model.specs.Automaton.{Automaton}
 use Rattle.model.specs.Lists.{Lists, lists, automatonOf}
+use Rattle.model.specs.Fitness.{fitness, levelsOf}
 use Rattle.model.specs.Plans.{SomePlan}
 use Rattle.judge.specs.Judged.{judged}
 
--- what a row says. Found: some plan is feasible and accepted; None: no plan of any length is; Judged: of p, q and these bytes, judging's
--- number and detail
+-- what a row says. Found: the model and the levels are right, and some plan is feasible and accepted; None: they are right, and no plan of
+-- any length is; Judged: of p, q and these bytes, judging's number and detail
 pub data Claim : Type 0 where
   Found : Claim
   None : Claim
@@ -31,10 +33,14 @@ pub record Example : Type 0 where
 abbrev pub modelIn : Example → Automaton
 modelIn x = automatonOf (x .modes) 0 (x .colours) (x .arcs)
 
+-- none of 1 to 6 applies to a row
+abbrev pub Admitted : Example → Type 0
+Admitted x = andThen (fitness (x .modes) 0 (x .colours) (x .arcs)) (levelsOf (x .bound) (x .credit)) ≡ Yes
+
 -- the claim, made of a row
 abbrev pub Says : Example → Claim → Type 0
-Says x Found = SomePlan (modelIn x) (x .bound) (x .credit)
-Says x None = SomePlan (modelIn x) (x .bound) (x .credit) → ⊥
+Says x Found = Admitted x × SomePlan (modelIn x) (x .bound) (x .credit)
+Says x None = Admitted x × (SomePlan (modelIn x) (x .bound) (x .credit) → ⊥)
 Says x (Judged p q w r) = answerOf (judged (x .modes) 0 (x .colours) (x .arcs) (x .bound) (x .credit) p q w) ≡ r
 
 -- what a row says is so

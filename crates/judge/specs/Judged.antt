@@ -1,28 +1,27 @@
 -- Judging. Document 01, "What can be called" and "Where each call stops": "judging 1 to 6 and 11 to 17", top to bottom.
 use Prim.Native.Nat.{ℕ, _≤_, _<_}
-use mathlib.Core.Path.{_≡_}
 use mathlib.Core.List.{List}
 use lib.ListN.{length, getD}
 use Rattle.limits.specs.Ceilings.{arcsMost, boundMost}
 use Rattle.refusals.specs.declared.Verdict.{Verdict}
 use Rattle.refusals.specs.Refusals.{andThen}
 use Rattle.model.specs.declared.Model.{Model}
-use Rattle.model.specs.declared.Fitted.{Fitted}
 use Rattle.model.specs.Automaton.{Automaton}
 use Rattle.model.specs.Lists.{Lists, automatonOf}
 use Rattle.model.specs.Fitness.{fitness, fittedOf, levelsOf, EqualLists, Fit}
 use Rattle.model.specs.Plans.{Plan, Serves}
+use Rattle.judge.specs.declared.JudgedModel.{JudgedModel}
 use Rattle.judge.specs.Shape.{planOf, shape, Lengths}
 use Rattle.judge.specs.Charges.{charges}
 use Rattle.judge.specs.Colours.{coloursOf}
 
--- 15 to 17, of a plan that has its shape
-unfoldable pub judgedWalk : Automaton → ℕ → ℕ → Plan → Verdict
-judgedWalk g b c p = andThen (charges g b c p) (coloursOf g (p .cycle))
+-- 15 to 17, of a plan that has its shape: none applies where it is feasible and accepted
+unfoldable pub servesOf : Automaton → ℕ → ℕ → Plan → Verdict
+servesOf g b c p = andThen (charges g b c p) (coloursOf g (p .cycle))
 
 -- 11 to 17, of p, q and the bytes of a plan
 unfoldable pub judgedPlan : Automaton → ℕ → ℕ → ℕ → ℕ → List ℕ → Verdict
-judgedPlan g b c p q w = andThen (shape g p q w) (judgedWalk g b c (planOf p w))
+judgedPlan g b c p q w = andThen (shape g p q w) (servesOf g b c (planOf p w))
 
 -- 6 and 11 to 17
 unfoldable pub judgedLevels : Automaton → ℕ → ℕ → ℕ → ℕ → List ℕ → Verdict
@@ -33,10 +32,10 @@ unfoldable pub judged : ℕ → ℕ → ℕ → Lists → ℕ → ℕ → ℕ �
 judged n s k l b c p q w = andThen (fitness n s k l) (judgedLevels (automatonOf n s k l) b c p q w)
 
 -- the same, with the model as the code holds it, for calls that go on with it
-unfoldable pub judgedModel : ℕ → ℕ → ℕ → Lists → ℕ → ℕ → ℕ → ℕ → List ℕ → Fitted
+unfoldable pub judgedModel : ℕ → ℕ → ℕ → Lists → ℕ → ℕ → ℕ → ℕ → List ℕ → JudgedModel
 judgedModel n s k l b c p q w = record { verdict = judged n s k l b c p q w; model = fittedOf n s k l .model }
 
--- What the yes says: "judging says yes for exactly the feasible and accepted plans" of a fit model at right levels (theorem judged-yes)
+-- What the yes says (theorem judged-yes): the model is fit, the levels are right, the plan has its lengths, and is feasible and accepted
 pub record Right (n s k : ℕ) (l : Lists) (b c p q : ℕ) (w : List ℕ) : Type 0 where
   pub equal : EqualLists l
   pub fit : Fit (automatonOf n s k l)
@@ -45,7 +44,7 @@ pub record Right (n s k : ℕ) (l : Lists) (b c p q : ℕ) (w : List ℕ) : Type
   pub lengths : Lengths p q w
   pub serves : Serves (automatonOf n s k l) b c (planOf p w)
 
--- a list of arcs of a model: what inner functions are given once 12 lets a plan through
-pub record ArcsOf (g : Model) (w : List ℕ) : Type 0 where
+-- the numbers of a list are those of arcs that the value g counts: what inner functions are given once 12 does not apply
+pub record ArcNumbers (g : Model) (w : List ℕ) : Type 0 where
   pub few : g .count ≤ arcsMost
   pub below : (i : ℕ) → i < length w → getD w i 0 < g .count

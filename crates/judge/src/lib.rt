@@ -6,12 +6,11 @@ ghost use Rattle.limits.specs.Ceilings.{planMost};
 ghost use Rattle.refusals.specs.Refusals.{andThen};
 ghost use Rattle.model.specs.Lists.{lists, held};
 ghost use Rattle.model.specs.Fitness.{Holds};
-ghost use Rattle.judge.specs.Shape.{planOf, lengthOf, numbers, chain, numbersThenChain, closing, path, shape};
+ghost use Rattle.judge.specs.Shape.{planOf, lengthOf, numbers, path, shape};
 ghost use Rattle.judge.specs.Charges.{ran, secondRound, rounds, charges};
 ghost use Rattle.judge.specs.Colours.{metBy, coloursOf};
-ghost use Rattle.judge.specs.Judged.{judgedWalk, judgedPlan, judgedLevels, judgedModel, judged, ArcsOf};
+ghost use Rattle.judge.specs.Judged.{servesOf, judgedPlan, judgedLevels, judgedModel, judged, ArcNumbers};
 use limits::Limits;
-use model::Fitted;
 use model::Model;
 use model::check_levels;
 use model::check_model;
@@ -21,12 +20,18 @@ use walks::Step;
 use walks::bounded_step;
 
 // How a list of arcs is walked: through to its end, with the charge there, or stopped at a step that is not possible, with its number.
-pub enum Ran {
+enum Ran {
     Through(u16),
     Stops(u32),
 }
 
-// Refusal 11. The sum of p and q cannot wrap.
+// The verdict of judging, and the model of the lists where they have one; else a blank model.
+pub struct JudgedModel {
+    pub verdict: Verdict,
+    pub model: Model,
+}
+
+// Refusal 11. The sum of p and q, of 32 bits each, is made in 64 and cannot wrap.
 fn check_length(p: u32, q: u32, length: usize) -> Verdict
     ensures { λ r. ⌜ r ≡ lengthOf p q length ⌝ }
 {
@@ -69,10 +74,10 @@ fn other_mode(count: u8, plan: &[u8], at: usize) -> Verdict
     }
 }
 
-// Refusals 12 and 13: each position is looked at once.
-fn check_chain(model: Model, plan: &[u8]) -> Verdict
-    requires { ⌜ Holds model × (length (now plan) ≤ planMost) ⌝ }
-    ensures { λ r. ⌜ r ≡ numbersThenChain (held model) (model .start) (now (plan .entry)) 0 ⌝ }
+// Refusals 12 to 14, in one scan. The cycle begins at position p, in the mode that the arc there leaves.
+fn check_path(model: Model, plan: &[u8], p: usize) -> Verdict
+    requires { ⌜ Holds model × (p < length (now plan)) × (length (now plan) ≤ planMost) ⌝ }
+    ensures { λ r. ⌜ r ≡ path (held model) p (now (plan .entry)) ⌝ }
 {
     let count = model.count;
     let mut mode = model.start;
@@ -89,32 +94,11 @@ fn check_chain(model: Model, plan: &[u8]) -> Verdict
         mode = arc.target;
         i += 1;
     }
-    Verdict::Yes
-}
-
-// Refusal 14, of a plan whose arcs lead on from one to the next. The cycle begins at position p.
-fn check_closing(model: Model, plan: &[u8], p: usize) -> Verdict
-    requires { ⌜ Holds model × (p < length (now plan)) × (numbersThenChain (held model) (model .start) (now plan) 0 ≡ Verdict.Yes) ⌝ }
-    ensures { λ r. ⌜ r ≡ closing (held model) p (now (plan .entry)) ⌝ }
-{
     let first = model.arcs[plan[p] as usize];
-    let last = model.arcs[plan[plan.len() - 1] as usize];
-    if first.source != last.target {
+    if first.source != mode {
         return Verdict::Refused(Refusal::OpenCycle);
     }
     Verdict::Yes
-}
-
-// Refusals 12 to 14.
-fn check_path(model: Model, plan: &[u8], p: usize) -> Verdict
-    requires { ⌜ Holds model × (p < length (now plan)) × (length (now plan) ≤ planMost) ⌝ }
-    ensures { λ r. ⌜ r ≡ path (held model) p (now (plan .entry)) ⌝ }
-{
-    let chain = check_chain(model, plan);
-    match chain {
-        Verdict::Yes => check_closing(model, plan, p),
-        Verdict::Refused(refusal) => Verdict::Refused(refusal),
-    }
 }
 
 // Refusals 11 to 14.
@@ -131,7 +115,7 @@ fn check_shape(model: Model, plan: &[u8], p: u32, q: u32) -> Verdict
 
 // The arcs walked one after the other from a charge; the first step has the number `step`.
 fn run(model: Model, arcs: &[u8], bound: u16, charge: u16, step: u32) -> Ran
-    requires { ⌜ ArcsOf model (now arcs) × (step + length (now arcs) ≤ 2 * planMost) ⌝ }
+    requires { ⌜ ArcNumbers model (now arcs) × (step + length (now arcs) ≤ 2 * planMost) ⌝ }
     ensures { λ r. ⌜ r ≡ ran (held model) bound (now (arcs .entry)) step charge ⌝ }
 {
     let mut reached = charge;
@@ -161,7 +145,7 @@ fn check_second(
     charge: u16,
     step: u32,
 ) -> Verdict
-    requires { ⌜ ArcsOf model (now cycle) × (step + length (now cycle) ≤ 2 * planMost) × (charge < before) ⌝ }
+    requires { ⌜ ArcNumbers model (now cycle) × (step + length (now cycle) ≤ 2 * planMost) × (charge < before) ⌝ }
     ensures { λ r. ⌜ r ≡ secondRound (held model) bound (now (cycle .entry)) step before charge ⌝ }
 {
     let second = run(model, cycle, bound, charge, step);
@@ -179,7 +163,7 @@ fn check_second(
 // Refusals 15 and 16 in two rounds of the cycle. Where the first ends no lower than it began, so does the second, and it need not be
 // walked.
 fn check_rounds(model: Model, cycle: &[u8], bound: u16, charge: u16, step: u32) -> Verdict
-    requires { ⌜ ArcsOf model (now cycle) × (step + length (now cycle) ≤ planMost) ⌝ }
+    requires { ⌜ ArcNumbers model (now cycle) × (step + length (now cycle) ≤ planMost) ⌝ }
     ensures { λ r. ⌜ r ≡ rounds (held model) bound (now (cycle .entry)) step charge ⌝ }
 {
     let first = run(model, cycle, bound, charge, step);
@@ -203,7 +187,7 @@ fn check_rounds(model: Model, cycle: &[u8], bound: u16, charge: u16, step: u32) 
 
 // Refusals 15 and 16.
 fn check_charges(model: Model, plan: &[u8], p: usize, credit: u16, bound: u16) -> Verdict
-    requires { ⌜ ArcsOf model (now plan) × (p ≤ length (now plan)) × (length (now plan) ≤ planMost) ⌝ }
+    requires { ⌜ ArcNumbers model (now plan) × (p ≤ length (now plan)) × (length (now plan) ≤ planMost) ⌝ }
     ensures { λ r. ⌜ r ≡ charges (held model) bound credit (planOf p (now (plan .entry))) ⌝ }
 {
     let prefix = run(model, &plan[..p], bound, credit, 0);
@@ -215,7 +199,7 @@ fn check_charges(model: Model, plan: &[u8], p: usize, credit: u16, bound: u16) -
 
 // The colours that the arcs meet, as a mask. It stops where all that are required are met.
 fn met_colours(model: Model, arcs: &[u8], required: u32) -> u32
-    requires { ⌜ Holds model × ArcsOf model (now arcs) × (required + 1 ≡ 2 ^ (model .colours)) ⌝ }
+    requires { ⌜ Holds model × ArcNumbers model (now arcs) × (required + 1 ≡ 2 ^ (model .colours)) ⌝ }
     ensures { λ r. ⌜ r ≡ metBy (held model) (now (arcs .entry)) 0 ⌝ }
 {
     let mut met = 0u32;
@@ -231,9 +215,10 @@ fn met_colours(model: Model, arcs: &[u8], required: u32) -> u32
     met
 }
 
-// Refusal 17: the lowest bit of the mask of required colours not yet met.
+// Refusal 17: the lowest bit of the mask of required colours not yet met. No other colour is met by an arc of a fit model, so that the
+// mask is a difference.
 fn check_colours(model: Model, cycle: &[u8]) -> Verdict
-    requires { ⌜ Holds model × ArcsOf model (now cycle) ⌝ }
+    requires { ⌜ Holds model × ArcNumbers model (now cycle) ⌝ }
     ensures { λ r. ⌜ r ≡ coloursOf (held model) (now (cycle .entry)) ⌝ }
 {
     let k = model.colours;
@@ -245,10 +230,10 @@ fn check_colours(model: Model, cycle: &[u8]) -> Verdict
     Verdict::Refused(Refusal::MissingColour(u32::trailing_zeros(missing)))
 }
 
-// Refusals 15 to 17, of a plan that has its shape.
-fn judge_walk(model: Model, plan: &[u8], p: usize, credit: u16, bound: u16) -> Verdict
-    requires { ⌜ Holds model × ArcsOf model (now plan) × (p ≤ length (now plan)) × (length (now plan) ≤ planMost) ⌝ }
-    ensures { λ r. ⌜ r ≡ judgedWalk (held model) bound credit (planOf p (now (plan .entry))) ⌝ }
+// Refusals 15 to 17, of a plan that has its shape: whether it is feasible and accepted.
+fn check_serves(model: Model, plan: &[u8], p: usize, credit: u16, bound: u16) -> Verdict
+    requires { ⌜ Holds model × ArcNumbers model (now plan) × (p ≤ length (now plan)) × (length (now plan) ≤ planMost) ⌝ }
+    ensures { λ r. ⌜ r ≡ servesOf (held model) bound credit (planOf p (now (plan .entry))) ⌝ }
 {
     let charges = check_charges(model, plan, p, credit, bound);
     match charges {
@@ -264,7 +249,7 @@ fn judge_plan(model: Model, plan: &[u8], p: u32, q: u32, credit: u16, bound: u16
 {
     let shape = check_shape(model, plan, p, q);
     match shape {
-        Verdict::Yes => judge_walk(model, plan, p as usize, credit, bound),
+        Verdict::Yes => check_serves(model, plan, p as usize, credit, bound),
         Verdict::Refused(refusal) => Verdict::Refused(refusal),
     }
 }
@@ -281,7 +266,7 @@ fn judge_levels(model: Model, plan: &[u8], p: u32, q: u32, c: u32, b: u32) -> Ve
     }
 }
 
-// Judging, with the model of the lists beside the verdict where the lists have one (else a blank model). For all numbers, lists and plans.
+// Judging, for calls that go on with the model. For all numbers, lists and plans.
 pub fn judge_model(
     n: u32,
     start: u32,
@@ -295,18 +280,21 @@ pub fn judge_model(
     p: u32,
     q: u32,
     plan: &[u8],
-) -> Fitted
+) -> JudgedModel
     ensures { λ r. ⌜ r ≡ judgedModel n start k (lists (now (sources .entry)) (now (targets .entry)) (now (weights .entry)) (now (colours .entry))) b c p q (now (plan .entry)) ⌝ }
 {
     let fitted = check_model(n, start, k, sources, targets, weights, colours);
     let verdict = fitted.verdict;
     let model = fitted.model;
     match verdict {
-        Verdict::Yes => Fitted {
+        Verdict::Yes => JudgedModel {
             verdict: judge_levels(model, plan, p, q, c, b),
             model,
         },
-        Verdict::Refused(_) => fitted,
+        Verdict::Refused(refusal) => JudgedModel {
+            verdict: Verdict::Refused(refusal),
+            model,
+        },
     }
 }
 

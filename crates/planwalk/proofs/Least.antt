@@ -1,4 +1,4 @@
--- What "met" and "spent" say, of any list of arcs and of the call on a plan that judging accepts. Assumes nothing.
+-- What "met" and "spent" say, of any list of arcs and of the call on all inputs. Assumes nothing.
 use mathlib.Core.Path.{_≡_, refl, sym, ap, _∙_}
 use mathlib.Core.Bool.{Bool, true, false}
 use mathlib.Core.List.{List, [], _∷_, _++_}
@@ -9,7 +9,11 @@ use native.Mathlib.Decide.{decLe}
 use lib.ListN.{length, getD, length-append}
 use lib.Seq.{length-take-le}
 use Rattle.walks.specs.Walk.{times}
+use Rattle.refusals.specs.declared.Refusal.{Refusal}
+use Rattle.refusals.specs.declared.Refusal.the-variants.{NoSuchColour}
+use Rattle.refusals.specs.declared.Verdict.{Verdict}
 use Rattle.refusals.specs.declared.Verdict.the-variants.{Yes}
+use Rattle.refusals.specs.declared.Verdict.the-variants as verdict
 use Rattle.refusals.proofs.Verdicts.{clash}
 use Rattle.model.specs.Automaton.{Automaton, meets}
 use Rattle.model.specs.Lists.{Lists, automatonOf}
@@ -18,9 +22,10 @@ use Rattle.model.proofs.Plans.{times-length}
 use Rattle.judge.specs.Shape.{planOf}
 use Rattle.judge.specs.Judged.{judged}
 use Rattle.judge.proofs.Judged.{judged-yes}
-use Rattle.planwalk.specs.declared.Walked.the-variants.{Met, Spent}
+use Rattle.planwalk.specs.declared.Walked.the-variants.{Met, Spent, Refused}
 use Rattle.planwalk.specs.Walked.{stepsOfPlan, walkOf, firstMet}
 use Rattle.planwalk.proofs.Steps.{walk-least}
+use Rattle.planwalk.proofs.Refused.{walk-refused, walk-no-colour}
 
 -- below n the test is true at a least place, or at none
 abbrev LeastOrNone : (ℕ → Bool) → ℕ → Type 0
@@ -83,30 +88,54 @@ steps-length p t h =
     length-take-le t (p .prefix ++ times t (p .cycle))
     (omega (arith, times-length (p .cycle) h t, length-append (p .prefix) (times t (p .cycle))))
 
-module _ (n s k : ℕ) (l : Lists) (b c p q : ℕ) (w : List ℕ) (yes : judged n s k l b c p q w ≡ Yes) (j t : ℕ) (h : j < k) (x : ℕ) where
-  -- the walk of a plan has as many steps as the allowance
-  long : length (stepsOfPlan (planOf p w) t) ≡ t
-  long = steps-length (planOf p w) t (judged-yes n s k l b c p q w .0 yes .serves .plan .some-arc)
+module _ (n s k : ℕ) (l : Lists) (b c p q : ℕ) (w : List ℕ) (j t : ℕ) where
+  -- step a of the plan, counted from 0, meets colour j
+  abbrev meetsAt : ℕ → Bool
+  meetsAt a = meets (automatonOf n s k l) j (getD (stepsOfPlan (planOf p w) t) a 0)
 
-  -- the call answers "met" with x exactly where step x is within the allowance, meets colour j, and no step before it does
-  pub walk-met : (walkOf n s k l b c p q w j t ≡ Met x)
+  -- a plan is walked only where judging accepts it and the model has the colour
+  walked-only : ((r : Refusal) → walkOf n s k l b c p q w j t ≡ Refused r → ⊥) → (judged n s k l b c p q w ≡ Yes) × (j < k)
+  walked-only through = go (judged n s k l b c p q w) refl
+    where
+      go : (v : Verdict) → judged n s k l b c p q w ≡ v → (judged n s k l b c p q w ≡ Yes) × (j < k)
+      go (verdict.Refused r) e = absurd (through r (walk-refused n s k l b c p q w j t r e))
+      go Yes e =
+          elim (decLe k j) [
+            | yes h ↦ absurd (through NoSuchColour (walk-no-colour n s k l b c p q w j t e h))
+            | no h ↦ (e, omega arith)
+          ]
+
+  module _ (accepted : judged n s k l b c p q w ≡ Yes) where
+    -- the walk of a plan has as many steps as the allowance
+    long : length (stepsOfPlan (planOf p w) t) ≡ t
+    long = steps-length (planOf p w) t (judged-yes n s k l b c p q w .0 accepted .serves .plan .some-arc)
+
+  -- The call answers "met" with x exactly where judging accepts the plan, the model has colour j, and step x is within the allowance, meets
+  -- colour j, and no step before it does.
+  pub walk-met : (x : ℕ) → (walkOf n s k l b c p q w j t ≡ Met x)
       ↔ (
-      (a : ℕ) × (x ≡ suc a) × (a < t) × (meets (automatonOf n s k l) j (getD (stepsOfPlan (planOf p w) t) a 0) ≡ true)
-      × ((a' : ℕ) → a' < a → meets (automatonOf n s k l) j (getD (stepsOfPlan (planOf p w) t) a' 0) ≡ false)
+      (judged n s k l b c p q w ≡ Yes) × (j < k)
+      × ((a : ℕ) × (x ≡ suc a) × (a < t) × (meetsAt a ≡ true) × ((a' : ℕ) → a' < a → meetsAt a' ≡ false))
       )
-  walk-met =
-      let first = first-met (automatonOf n s k l) j (stepsOfPlan (planOf p w) t) 0 x in
-      let walk = walk-least n s k l b c p q w yes j t h in (
-        λ e. let (a, i, f, m, before) = first .0 (sym walk ∙ e) in (a, omega arith, omega (arith, long), m, before),
-        λ (a, i, f, m, before). walk ∙ first .1 (a, omega arith, omega (arith, long), m, before),
+  walk-met x =
+      let first = first-met (automatonOf n s k l) j (stepsOfPlan (planOf p w) t) 0 x in (
+        λ e.
+            let (accepted, h) = walked-only (λ r q. clash (cc)) in
+            let (a, i, f, m, before) = first .0 (sym (walk-least n s k l b c p q w accepted j t h) ∙ e) in
+            (accepted, h, (a, omega arith, omega (arith, long accepted), m, before)),
+        λ (accepted, h, (a, i, f, m, before)).
+            walk-least n s k l b c p q w accepted j t h ∙ first .1 (a, omega arith, omega (arith, long accepted), m, before),
       )
 
   -- "'Spent' is the answer only when exactly the allowance has been walked without meeting j."
-  pub walk-spent : (walkOf n s k l b c p q w j t ≡ Spent x)
-      ↔ ((x ≡ t) × ((a : ℕ) → a < t → meets (automatonOf n s k l) j (getD (stepsOfPlan (planOf p w) t) a 0) ≡ false))
-  walk-spent =
-      let first = first-spent (automatonOf n s k l) j (stepsOfPlan (planOf p w) t) 0 x in
-      let walk = walk-least n s k l b c p q w yes j t h in (
-        λ e. let (i, none) = first .0 (sym walk ∙ e) in (omega (arith, long), λ a f. none a (omega (arith, long))),
-        λ (i, none). walk ∙ first .1 (omega (arith, long), λ a f. none a (omega (arith, long))),
+  pub walk-spent : (x : ℕ) → (walkOf n s k l b c p q w j t ≡ Spent x)
+      ↔ ((judged n s k l b c p q w ≡ Yes) × (j < k) × (x ≡ t) × ((a : ℕ) → a < t → meetsAt a ≡ false))
+  walk-spent x =
+      let first = first-spent (automatonOf n s k l) j (stepsOfPlan (planOf p w) t) 0 x in (
+        λ e.
+            let (accepted, h) = walked-only (λ r q. clash (cc)) in
+            let (i, none) = first .0 (sym (walk-least n s k l b c p q w accepted j t h) ∙ e) in
+            (accepted, h, omega (arith, long accepted), λ a f. none a (omega (arith, long accepted))),
+        λ (accepted, h, i, none).
+            walk-least n s k l b c p q w accepted j t h ∙ first .1 (omega (arith, long accepted), λ a f. none a (omega (arith, long accepted))),
       )

@@ -17,7 +17,7 @@ use Rattle.model.specs.Automaton.{bit}
 use Rattle.model.specs.Lists.{held}
 use Rattle.model.proofs.Held.{arcIn, held-arc}
 use Rattle.judge.specs.Shape.{planOf}
-use Rattle.judge.specs.Judged.{ArcsOf}
+use Rattle.judge.specs.Judged.{ArcNumbers}
 use Rattle.planwalk.specs.declared.Walked.{Walked}
 use Rattle.planwalk.specs.declared.Walked.the-variants.{Met, Spent}
 use Rattle.planwalk.specs.Walked.{stepsOfPlan, metOr, positionAfter, firstMet}
@@ -101,7 +101,7 @@ module _ {g : Model} {j : ℕ} {w : List ℕ} {p t : ℕ} where
     unfolding firstMet
     stepping-done s h = let e : t - steps ≡ 0 = omega arith in s .rest ∙ rw e refl
 
-    module _ (arcs : ArcsOf g w) (s : Stepping g j w p t at steps) where
+    module _ (arcs : ArcNumbers g w) (s : Stepping g j w p t at steps) where
       -- the next arc is one of the array's
       pub stepping-arc : getD w at 0 < arcsMost
       stepping-arc = omega (arith, arcs .few, arcs .below at (s .inside))

@@ -1,12 +1,11 @@
 -- The walk. Document 01, "What can be called": "Walk judges a plan, then steps it from its beginning until colour j is first met or the
 -- allowance is spent (a 16-bit number, 0 to 65,535), the round repeating."
 use Prim.Native.Nat.{ℕ, suc, _+_}
-use mathlib.Core.Bool.{Bool, true, false}
+use mathlib.Core.Bool.{Bool, true, false, cond}
 use mathlib.Core.List.{List, [], _∷_, _++_}
 use lib.Dec.{leb, ltb}
 use lib.ListN.{take}
 use Rattle.walks.specs.Walk.{times}
-use Rattle.refusals.specs.declared.Answer.{Answer}
 use Rattle.refusals.specs.declared.Refusal.the-variants.{NoSuchColour}
 use Rattle.refusals.specs.declared.Verdict.{Verdict}
 use Rattle.refusals.specs.declared.Verdict.the-variants.{Yes, Refused}
@@ -18,16 +17,16 @@ use Rattle.judge.specs.Shape.{planOf}
 use Rattle.judge.specs.Judged.{judged}
 use Rattle.gauges.specs.declared.Gauge.{Gauge}
 use Rattle.gauges.specs.declared.Gauged.{Gauged}
-use Rattle.gauges.specs.Gauge.{gauge, movedOf}
+use Rattle.gauges.specs.Gauge.{startedOf, steppedOf}
 use Rattle.planwalk.specs.declared.Walked.{Walked}
-use Rattle.planwalk.specs.declared.Walked.the-variants as walked
+use Rattle.planwalk.specs.declared.Walked.the-variants as outcome
 use Rattle.planwalk.specs.declared.WalkAnswer.{WalkAnswer}
 
 -- "It answers 'met' or 'spent' and the steps made"; "where walk refuses, its steps are 0"
 abbrev pub walkAnswer : Walked → WalkAnswer
-walkAnswer (walked.Met t) = record { answer = answer 0 0; met = true; steps = t }
-walkAnswer (walked.Spent t) = record { answer = answer 0 0; met = false; steps = t }
-walkAnswer (walked.Refused r) = record { answer = numbered r; met = false; steps = 0 }
+walkAnswer (outcome.Met t) = record { answer = answer 0 0; met = true; steps = t }
+walkAnswer (outcome.Spent t) = record { answer = answer 0 0; met = false; steps = t }
+walkAnswer (outcome.Refused r) = record { answer = numbered r; met = false; steps = 0 }
 
 -- the first t steps of a plan, "the round repeating"
 abbrev pub stepsOfPlan : Plan → ℕ → List ℕ
@@ -35,41 +34,40 @@ stepsOfPlan p t = take t (p .prefix ++ times t (p .cycle))
 
 -- "the meeting step counted": the walk ends at a step that meets the colour, else it goes on
 abbrev pub metOr : Bool → ℕ → Walked → Walked
-metOr true t f = walked.Met t
+metOr true t f = outcome.Met t
 metOr false t f = f
 
--- what follows a gauge's step goes on from its gauge; a step that is refused ends the walk, which does not happen to a judged plan
--- (theorem walk-least)
-abbrev pub walkOn : Verdict → Gauge → (Gauge → Walked) → Walked
-walkOn Yes x f = f x
-walkOn (Refused r) x f = walked.Refused r
+-- what follows a start or a step goes on from its gauge; a refusal ends the walk, which does not happen to a judged plan (theorem walk-least)
+abbrev pub walkFrom : Verdict → Gauge → (Gauge → Walked) → Walked
+walkFrom Yes x f = f x
+walkFrom (Refused r) x f = outcome.Refused r
+
+abbrev pub walkOn : Gauged → (Gauge → Walked) → Walked
+walkOn y f = walkFrom (y .verdict) (y .gauge) f
 
 -- the gauge x stepped on the arcs of the list, i steps having been made, until colour j is met; "'Spent' is the answer only when exactly the
 -- allowance has been walked without meeting j": the list has as many arcs as the allowance has steps
-unfoldable pub gaugeWalk : Automaton → ℕ → ℕ → List ℕ → ℕ → Gauge → Walked
-gaugeWalk g b j [] i x = walked.Spent i
-gaugeWalk g b j (a ∷ w) i x =
-    walkOn (movedOf g b a x .verdict) (movedOf g b a x .gauge) λ y. metOr (meets g j a) (suc i) (gaugeWalk g b j w (suc i) y)
+unfoldable pub gaugeWalk : ℕ → ℕ → ℕ → Lists → ℕ → ℕ → List ℕ → ℕ → Gauge → Walked
+gaugeWalk n s k l b j [] i x = outcome.Spent i
+gaugeWalk n s k l b j (a ∷ w) i x =
+    walkOn (steppedOf n s k l b a x) λ y. metOr (meets (automatonOf n s k l) j a) (suc i) (gaugeWalk n s k l b j w (suc i) y)
 
+-- a refusal is the answer; else the walk answers
 abbrev pub walkIf : Verdict → Walked → Walked
 walkIf Yes f = f
-walkIf (Refused r) f = walked.Refused r
+walkIf (Refused r) f = outcome.Refused r
 
 -- the call: "walk 1 to 6 and 11 to 18", "j not below k, looked at after the plan"; then the walk of the gauge from its start
 unfoldable pub walkOf : ℕ → ℕ → ℕ → Lists → ℕ → ℕ → ℕ → ℕ → List ℕ → ℕ → ℕ → Walked
 walkOf n s k l b c p q w j t =
     walkIf (andThen (judged n s k l b c p q w) (refuse (leb k j) NoSuchColour Yes))
-    (gaugeWalk (automatonOf n s k l) b j (stepsOfPlan (planOf p w) t) 0 (gauge s c))
+    (walkOn (startedOf n s k l b c) (gaugeWalk n s k l b j (stepsOfPlan (planOf p w) t) 0))
 
 -- the same without the gauge: the least step, counted from 1 on behind i others, whose arc meets colour j, or all of them
 unfoldable pub firstMet : Automaton → ℕ → List ℕ → ℕ → Walked
-firstMet g j [] i = walked.Spent i
+firstMet g j [] i = outcome.Spent i
 firstMet g j (a ∷ w) i = metOr (meets g j a) (suc i) (firstMet g j w (suc i))
 
 -- As the code steps: the position after one in the bytes of a plan; behind the last stands the cycle's first, at p
-abbrev pub pick : Bool → ℕ → ℕ → ℕ
-pick true x y = x
-pick false x y = y
-
 abbrev pub positionAfter : ℕ → ℕ → ℕ → ℕ
-positionAfter i p long = pick (ltb (i + 1) long) (i + 1) p
+positionAfter i p long = cond (ltb (i + 1) long) (i + 1) p

@@ -1,12 +1,12 @@
 // The walk: a plan is judged, and then stepped from its beginning until a colour is first met or the allowance is spent.
 ghost use mathlib.Core.Path.{_≡_};
-ghost use Prim.Native.Nat.{_≤_, _<_};
+ghost use Prim.Native.Nat.{_<_};
 ghost use lib.ListN.{length};
 ghost use Rattle.limits.specs.Ceilings.{coloursMost};
 ghost use Rattle.model.specs.Automaton.{bit};
 ghost use Rattle.model.specs.Lists.{lists, held};
 ghost use Rattle.judge.specs.Shape.{planOf};
-ghost use Rattle.judge.specs.Judged.{ArcsOf};
+ghost use Rattle.judge.specs.Judged.{ArcNumbers};
 ghost use Rattle.planwalk.specs.Walked.{walkAnswer, stepsOfPlan, positionAfter, firstMet, walkOf};
 use judge::judge_model;
 use model::Model;
@@ -14,7 +14,8 @@ use refusals::Answer;
 use refusals::Refusal;
 use refusals::Verdict;
 
-// What a walk answers: the colour was met, with the steps made, the meeting step counted; or the allowance was spent, with the steps made.
+// What a walk answers: the colour was met, with the steps made, the meeting step counted; or the allowance was spent, with the steps made;
+// or a refusal.
 pub enum Walked {
     Met(u16),
     Spent(u16),
@@ -74,7 +75,7 @@ fn position_after(at: usize, p: usize, length: usize) -> usize
 
 // The steps of a plan from its beginning, the cycle repeating, until one meets colour j or the allowance is spent.
 fn step_until(model: Model, plan: &[u8], p: usize, j: u32, allowance: u16) -> Walked
-    requires { ⌜ ArcsOf model (now plan) × (p < length (now plan)) × (j < coloursMost) ⌝ }
+    requires { ⌜ ArcNumbers model (now plan) × (p < length (now plan)) × (j < coloursMost) ⌝ }
     ensures { λ r. ⌜ r ≡ firstMet (held model) j (stepsOfPlan (planOf p (now (plan .entry))) allowance) 0 ⌝ }
 {
     let mut at = 0;

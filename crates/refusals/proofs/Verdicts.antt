@@ -28,3 +28,8 @@ and-then-on u v e = rw e refl
 
 pub and-then-stop : (u v : Verdict) (r : Refusal) → u ≡ Refused r → Refused r ≡ andThen u v
 and-then-stop u v r e = rw e refl
+
+-- what ends in a refusal in any case is not followed by another check
+pub and-then-last : (u v : Verdict) (r : Refusal) → andThen u (Refused r) ≡ andThen (andThen u (Refused r)) v
+and-then-last Yes v r = refl
+and-then-last (Refused q) v r = refl

@@ -3,7 +3,7 @@ use mathlib.Core.Path.{refl, sym, _∙_}
 use native.Mathlib.Omega.{arith}
 use borrow.Author.Needs.{needs}
 use Rattle.model.proofs.Fitness.{levels-yes}
-use Rattle.gauges.specs.Gauge.{movedAt}
+use Rattle.gauges.specs.Gauge.{movedLevelled}
 use Rattle.gauges.proofs.step_levelled.Statement.{statement}
 use Rattle.gauges.proofs.step_levelled.Tie as tie
 
@@ -32,11 +32,11 @@ refused-requires : tie.Need-refused-requires
 refused-requires c κs = search needs
 
 returns : tie.Need-returns
-unfolding movedAt
+unfolding movedLevelled
 returns c = c .step-on .ensures ∙ rw (sym (c .before .before .before .check-levels .ensures) ∙ c .before .enum-told .given .1) refl
 
 returns-2 : tie.Need-returns-2
-unfolding movedAt
+unfolding movedLevelled
 returns-2 c =
     c .refused .ensures ∙ rw (sym (c .before .before .before .before .check-levels .ensures) ∙ c .before .before .levels .given .1) refl
 

@@ -14,7 +14,7 @@ use Rattle.model.specs.Fitness.{Holds}
 use Rattle.model.specs.Lists.{held}
 use Rattle.model.proofs.Bits.{one-shl}
 use Rattle.judge.specs.Colours.{coloursOf, metBy}
-use Rattle.judge.specs.Judged.{ArcsOf}
+use Rattle.judge.specs.Judged.{ArcNumbers}
 use Rattle.judge.proofs.Arcs.{arcs-coloured}
 use Rattle.judge.proofs.Masks.{met-below, colours-missing}
 use Rattle.judge.proofs.check_colours.Statement.{statement}
@@ -46,7 +46,7 @@ sub-missing c =
     omega (arith, one-shl k (omega (arith, d .pre .0 .fit .few-colours)), c .met-colours .ensures)
 
 -- the mask that is missing, as the code computes it from the mask m that is met
-module _ (g : Model) (w : List ℕ) (holds : Holds g) (arcs : ArcsOf g w) (m : ℕ) (met : m ≡ metBy (held g) w 0) where
+module _ (g : Model) (w : List ℕ) (holds : Holds g) (arcs : ArcNumbers g w) (m : ℕ) (met : m ≡ metBy (held g) w 0) where
   abbrev lack : ℕ
   lack = 1 * 2 ^ (g .colours) % 4294967296 - 1 - m
 

@@ -2,7 +2,7 @@
 use mathlib.Core.Path.{ap}
 use borrow.Author.Needs.{needs}
 use Rattle.refusals.specs.declared.Verdict.{Verdict}
-use Rattle.model.specs.declared.Fitted.{Fitted}
+use Rattle.judge.specs.declared.JudgedModel.{JudgedModel}
 use Rattle.judge.specs.Judged.{judgedModel}
 use Rattle.judge.proofs.judge.Statement.{statement}
 use Rattle.judge.proofs.judge.Tie as tie
@@ -12,7 +12,7 @@ judge-model-requires c κs = search needs
 
 returns : tie.Need-returns
 unfolding judgedModel
-returns c = ap {B = Verdict} (λ (y : Fitted). y .verdict) (c .judge-model .ensures)
+returns c = ap {B = Verdict} (λ (y : JudgedModel). y .verdict) (c .judge-model .ensures)
 
 pub judge-spec : {M : Type 1} → statement M
 judge-spec = tie.close (tie.spec judge-model-requires returns)

@@ -19,8 +19,8 @@ judge-levels-requires c κs =
     let l = lists (a .sources .now) (a .targets .now) (a .weights .now) (a .colours .now) in
     told-holds (a .n) (a .start) (a .k) l _ (r .check-model .ensures) (c .enum-told .given .1)
 
-enum-told-2 : tie.Need-enum-told-2
-enum-told-2 c = search needs
+enum-known-verdict : tie.Need-enum-known-verdict
+enum-known-verdict c = search needs
 
 returns : tie.Need-returns
 returns c =
@@ -32,12 +32,18 @@ returns c =
 
 returns-2 : tie.Need-returns-2
 returns-2 c =
-    let r = c .before .before .before in
+    let r = c .before .before .before .before in
     let a = r .before .before .before .before .before .args in
     let l = lists (a .sources .now) (a .targets .now) (a .weights .now) (a .colours .now) in
-    judged-unfit (a .n) (a .start) (a .k) l (a .b) (a .c) (a .p) (a .q) (a .plan .now) _ (r .check-model .ensures) _ (c .enum-told2 .given .1)
+    judged-unfit (a .n) (a .start) (a .k) l (a .b) (a .c) (a .p) (a .q) (a .plan .now) _ (r .check-model .ensures) _ (c .before .verdict .given .1)
 
 pub judge-model-spec : {M : Type 1} → statement M
 judge-model-spec =
     tie.close
-    (tie.spec check-model-requires enum-told judge-levels-requires enum-told-2 returns returns-2)
+    (tie.spec
+    check-model-requires
+    enum-told
+    judge-levels-requires
+    enum-known-verdict
+    returns
+    returns-2)

@@ -13,8 +13,8 @@ check-shape-requires c κs = search needs
 enum-told : tie.Need-enum-told
 enum-told c = search needs
 
-judge-walk-requires : tie.Need-judge-walk-requires
-judge-walk-requires c κs =
+check-serves-requires : tie.Need-check-serves-requires
+check-serves-requires c κs =
     let r = c .before .before in
     let d = r .before .before in
     let a = d .args in
@@ -27,7 +27,7 @@ enum-known-shape c = search needs
 returns : tie.Need-returns
 unfolding judgedPlan
 returns c =
-    c .judge-walk .ensures ∙ and-then-on _ _ (sym (c .before .before .before .check-shape .ensures) ∙ c .before .enum-told .given .1)
+    c .check-serves .ensures ∙ and-then-on _ _ (sym (c .before .before .before .check-shape .ensures) ∙ c .before .enum-told .given .1)
 
 returns-2 : tie.Need-returns-2
 unfolding judgedPlan
@@ -39,7 +39,7 @@ judge-plan-spec =
     (tie.spec
     check-shape-requires
     enum-told
-    judge-walk-requires
+    check-serves-requires
     enum-known-shape
     returns
     returns-2)

@@ -1,12 +1,11 @@
 -- `judge::met_colours` meets its contract: at every turn the mask of the list is the mask that its rest adds to. Assumes nothing.
 use mathlib.Core.Path.{_≡_, refl, _∙_, sym}
-use Prim.Native.Nat.{_+_, _-_, _^_, _≤_, _<_}
+use Prim.Native.Nat.{_-_, _^_, _≤_}
 use native.Mathlib.Omega.{arith}
 use borrow.Author.Needs.{needs}
-use lib.ListN.{length, drop, getD}
+use lib.ListN.{length, drop}
 use Rattle.model.specs.Lists.{held}
 use Rattle.judge.specs.Colours.{metBy}
-use Rattle.model.proofs.Held.{arcIn, held-arc}
 use Rattle.judge.proofs.Arcs.{arcs-drop, arcs-coloured}
 use Rattle.judge.proofs.Scans.{met-end, met-on}
 use Rattle.judge.proofs.Masks.{met-full}

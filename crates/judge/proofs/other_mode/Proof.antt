@@ -1,6 +1,5 @@
 -- `judge::other_mode` meets its contract: the verdict on 12 in the rest decides who answers. Assumes nothing.
 use mathlib.Core.Path.{sym, _∙_}
-use native.Mathlib.Omega.{arith}
 use borrow.Author.Needs.{needs}
 use Rattle.refusals.proofs.Verdicts.{and-then-on, and-then-stop}
 use Rattle.judge.proofs.other_mode.Statement.{statement}

@@ -1,11 +1,11 @@
--- `judge::judge_walk` meets its contract: 15 and 16 decide whether 17 answers. Assumes nothing.
+-- `judge::check_serves` meets its contract: 15 and 16 decide whether 17 answers. Assumes nothing.
 use mathlib.Core.Path.{sym, _∙_}
 use borrow.Author.Needs.{needs}
 use Rattle.refusals.proofs.Verdicts.{and-then-on, and-then-stop}
-use Rattle.judge.specs.Judged.{judgedWalk}
+use Rattle.judge.specs.Judged.{servesOf}
 use Rattle.judge.proofs.Arcs.{rest-part, arcs-drop}
-use Rattle.judge.proofs.judge_walk.Statement.{statement}
-use Rattle.judge.proofs.judge_walk.Tie as tie
+use Rattle.judge.proofs.check_serves.Statement.{statement}
+use Rattle.judge.proofs.check_serves.Tie as tie
 
 check-charges-requires : tie.Need-check-charges-requires
 check-charges-requires c κs = let h = c .before .pre in (h .1, h .2, h .3)
@@ -32,7 +32,7 @@ enum-known-charges : tie.Need-enum-known-charges
 enum-known-charges c = search needs
 
 returns : tie.Need-returns
-unfolding judgedWalk
+unfolding servesOf
 returns c =
     let e = c .before .before .before .before in
     let a = e .before .before .args in
@@ -40,11 +40,11 @@ returns c =
     ∙ and-then-on _ _ (sym (e .check-charges .ensures) ∙ c .before .before .enum-told .given .1)
 
 returns-2 : tie.Need-returns-2
-unfolding judgedWalk
+unfolding servesOf
 returns-2 c = and-then-stop _ _ _ (sym (c .before .before .before .check-charges .ensures) ∙ c .before .charges .given .1)
 
-pub judge-walk-spec : {M : Type 1} → statement M
-judge-walk-spec =
+pub check-serves-spec : {M : Type 1} → statement M
+check-serves-spec =
     tie.close
     (tie.spec
     check-charges-requires
