@@ -19,9 +19,11 @@ use Rattle.model.specs.Fitness.{fitness, levelsOf}
 use Rattle.gauges.specs.declared.Gauge.{Gauge}
 use Rattle.gauges.specs.declared.Gauged.{Gauged}
 
+-- a gauge by its mode and charge
 abbrev pub gauge : ℕ → ℕ → Gauge
 gauge mode charge = record { mode = mode; charge = charge }
 
+-- a verdict and the gauge that goes with it
 abbrev pub gauged : Verdict → Gauge → Gauged
 gauged v x = record { verdict = v; gauge = x }
 
@@ -29,6 +31,7 @@ gauged v x = record { verdict = v; gauge = x }
 abbrev pub noGauge : Gauge
 noGauge = gauge 0 0
 
+-- by the verdict on 1 to 6: the new gauge, or none
 abbrev pub startedIf : Verdict → Gauge → Gauged
 startedIf Yes x = gauged Yes x
 startedIf (Refused r) x = gauged (Refused r) noGauge
@@ -42,6 +45,7 @@ abbrev pub stopIf : Bool → Refusal → Gauge → Gauged → Gauged
 stopIf true r x y = gauged (Refused r) x
 stopIf false r x y = y
 
+-- the same by a verdict
 abbrev pub stopAt : Verdict → Gauge → Gauged → Gauged
 stopAt Yes x y = y
 stopAt (Refused r) x y = gauged (Refused r) x
@@ -71,6 +75,7 @@ abbrev pub onYes : Verdict → Gauge → (Gauge → Gauged) → Gauged
 onYes Yes x f = f x
 onYes (Refused r) x f = gauged (Refused r) x
 
+-- the same of verdict and gauge together
 abbrev pub afterGauged : Gauged → (Gauge → Gauged) → Gauged
 afterGauged y f = onYes (y .verdict) (y .gauge) f
 

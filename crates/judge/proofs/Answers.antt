@@ -39,11 +39,12 @@ module _ (n s k : ℕ) (l : Lists) (b c p q : ℕ) (w : List ℕ) (y : JudgedMod
   told-judged v e = sym (ap {B = Verdict} (λ (f : JudgedModel). f .verdict) told) ∙ e
 
   module _ (e : y .verdict ≡ Yes) where
-    -- where it is yes, none of 1 to 5 applies, and none of 11 to 14
+    -- where it is yes, none of 1 to 5 applies
     fit : fitness n s k l ≡ Yes
     unfolding judged
     fit = and-then-yes (fitness n s k l) (judgedLevels (automatonOf n s k l) b c p q w) .0 (told-judged Yes e) .0
 
+    -- nor any of 11 to 14
     shaped : shape (automatonOf n s k l) p q w ≡ Yes
     unfolding judged judgedLevels judgedPlan
     shaped =

@@ -1,4 +1,4 @@
--- Lists of arcs of a model: what 12 and the shape let through, the parts of one, and the colours of its arcs. Assumes nothing.
+-- Lists of arc numbers of a model: where 12 and the shape do not apply, the parts of one, and the colours of its arcs. Assumes nothing.
 use mathlib.Core.Path.{_≡_}
 use mathlib.Core.List.{List}
 use Prim.Native.Nat.{ℕ, _+_, _-_, _^_, _≤_, _<_}
@@ -17,14 +17,14 @@ use Rattle.judge.specs.Shape.{lengthOf, numbers, chain, numbersThenChain
 use Rattle.judge.specs.Judged.{ArcNumbers}
 use Rattle.judge.proofs.Shapes.{length-yes, numbers-yes}
 
--- what 12 lets through are arcs of the model
+-- where 12 and 13 do not apply, the numbers are those of arcs of the model
 pub path-arcs : (g : Model) → Holds g → (w : List ℕ) (s : ℕ) → numbersThenChain (held g) s w 0 ≡ Yes → ArcNumbers g w
 path-arcs g holds w s path =
     let numbered = and-then-yes (numbers (length (held g .arcs)) w 0) (chain (held g) s w 0) .0 path .0 in
     let below = numbers-yes (length (held g .arcs)) w 0 .0 numbered in
     record { few = omega (arith, holds .fit .few-arcs, holds .count); below = λ i h. omega (arith, below i h, holds .count) }
 
--- what 11 to 14 let through: arcs of the model, of which p are the prefix's
+-- where 11 to 14 do not apply, too, and p of them are the prefix's
 pub shape-arcs : (g : Model) → Holds g → (p q : ℕ) (w : List ℕ) → shape (held g) p q w ≡ Yes
     → ArcNumbers g w × (p ≤ length w) × (length w ≤ planMost)
 unfolding shape
@@ -39,7 +39,7 @@ pub rest-part : (p : ℕ) (w : List ℕ) → take (length w - p) (drop p w) ≡ 
 rest-part p w = take-all (length w - p) (drop p w) (omega (arith, length-drop p w))
 
 module _ (g : Model) (w : List ℕ) (arcs : ArcNumbers g w) where
-  -- the first p of them, and the others
+  -- so are the first p of them
   pub arcs-take : (p : ℕ) → p ≤ length w → ArcNumbers g (take p w)
   arcs-take p h =
       record {
@@ -49,6 +49,7 @@ module _ (g : Model) (w : List ℕ) (arcs : ArcNumbers g w) where
             rw (getD-take p w i 0 short) (arcs .below i (omega arith));
       }
 
+  -- and the others
   pub arcs-drop : (p : ℕ) → ArcNumbers g (drop p w)
   arcs-drop p =
       record { few = arcs .few; below = λ i q. rw (getD-drop p w i 0) (arcs .below (p + i) (omega (arith, length-drop p w))) }

@@ -1,6 +1,6 @@
 -- The mask of met colours: its bits are the colours met, and the lowest bit that it lacks is the lowest colour missing. Assumes nothing.
 use mathlib.Core.Path.{_≡_, refl, sym, ap, _∙_}
-use mathlib.Core.Bool.{Bool, true, false, _||_, or-assoc, or-false}
+use mathlib.Core.Bool.{Bool, _||_, or-assoc, or-false}
 use mathlib.Core.List.{List, [], _∷_}
 use mathlib.Core.Logic.{_⊎_, inl, inr, ⊎-elim}
 use Prim.Native.Nat.{ℕ, zero, suc, _+_, _-_, _/_, _%_, _^_, _≤_, _<_, max}
@@ -50,12 +50,13 @@ met-below g k [] m h q = q
 met-below g k (a ∷ w) m h q =
     met-below g k w (bitOr m (arcAt g a .colours)) (λ i p. h (suc i) (omega arith)) (or-lt k m (arcAt g a .colours) q (h 0 (omega arith)))
 
--- .. and where it has every colour below k, as it is
+-- `or` adds nothing to all ones
 or-full : (k x : ℕ) → x < 2 ^ k → bitOr (2 ^ k - 1) x ≡ 2 ^ k - 1
 or-full k x h =
     let and : bitAnd (2 ^ k - 1) x ≡ x = and-comm (2 ^ k - 1) x ∙ and-mask x k ∙ mod-eq-of-lt h in
     omega (arith, or-add-and (2 ^ k - 1) x)
 
+-- a mask with every colour below k stays as it is
 pub met-full : (g : Automaton) (k : ℕ) (w : List ℕ) → ((i : ℕ) → i < length w → arcAt g (getD w i 0) .colours < 2 ^ k) → metBy g w (2 ^ k - 1) ≡ 2 ^ k - 1
 unfolding metBy
 met-full g k [] h = refl
@@ -69,12 +70,13 @@ half-bit y j = ap {B = Bool} (λ (x : ℕ). eqb (x % 2) 1) (div-div-eq-div-mul y
 abbrev missingBy : ℕ → ℕ → ℕ → Verdict → Type 0
 missingBy f i x v = ((x ≡ 0) × (v ≡ Yes)) ⊎ ((0 < x) × (v ≡ Refused (MissingColour (i + trailingZeros f x))))
 
--- one colour more, below the others: it is there, or it is the one
+-- one colour more, below the others, that is met
 missing-next : (f i x : ℕ) (v : Verdict) → x % 2 ≡ 0 → missingBy f (suc i) (x / 2) v → missingBy (suc f) i x v
 unfolding trailingZeros
 missing-next f i x v even (inl (z, e)) = inl (omega arith, e)
 missing-next f i x v even (inr (z, e)) = inr (omega arith, rw (even, add-suc i (trailingZeros f (x / 2)), ← suc-add i (trailingZeros f (x / 2))) e)
 
+-- the lowest of them is missing
 missing-here : (f i x : ℕ) → x % 2 ≡ 1 → missingBy (suc f) i x (Refused (MissingColour i))
 unfolding trailingZeros
 missing-here f i x odd = inr (omega arith, rw (odd, add-zero i) refl)

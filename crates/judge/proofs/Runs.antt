@@ -34,10 +34,11 @@ pub after-ran-yes : (r : Ran) (f : ℕ → Verdict) → (afterRan r f ≡ Yes) �
 after-ran-yes (Through e) f = (λ h. (e, refl, h), λ (x, q, h). let z : e ≡ x = cc in rw z h)
 after-ran-yes (Stops i) f = (λ h. clash (cc), λ (x, q, h). clash (cc))
 
--- by how the list is walked: what follows answers, or 15 does
+-- by how the list is walked: what follows answers ..
 pub after-ran-on : (r : Ran) (f : ℕ → Verdict) (x : ℕ) → r ≡ Through x → f x ≡ afterRan r f
 after-ran-on r f x e = rw e refl
 
+-- .. or 15 does
 pub after-ran-stop : (r : Ran) (f : ℕ → Verdict) (i : ℕ) → r ≡ Stops i → Refused (ImpossibleStep i) ≡ afterRan r f
 after-ran-stop r f i e = rw e refl
 

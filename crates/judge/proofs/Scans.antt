@@ -26,28 +26,33 @@ use Rattle.judge.specs.Colours.{metBy}
 
 -- 12 at position i
 module _ (m : ℕ) (w : List ℕ) (i : ℕ) where
-  pub numbers-at : i < length w → numbers m (drop i w) i ≡ refuse (leb m (getD w i 0)) (ArcNumber i) (numbers m (drop (i + 1) w) (i + 1))
+  -- by the arc number there and the rest
+  numbers-at : i < length w → numbers m (drop i w) i ≡ refuse (leb m (getD w i 0)) (ArcNumber i) (numbers m (drop (i + 1) w) (i + 1))
   unfolding numbers
   numbers-at h = rw (drop-cons w i 0 h, add-one i) refl
 
+  -- past the last position it does not apply
   pub numbers-end : length w ≤ i → numbers m (drop i w) i ≡ Yes
   unfolding numbers
   numbers-end h = rw (drop-of-length-le w {i = i} h) refl
 
-  -- an arc number that is not below m is the verdict; after another the scan goes on
+  -- an arc number that is not below m is the verdict
   pub numbers-stop : i < length w → m ≤ getD w i 0 → numbers m (drop i w) i ≡ Refused (ArcNumber i)
   numbers-stop h q = numbers-at h ∙ rw (le-leb m (getD w i 0) q) refl
 
+  -- after another the scan goes on
   pub numbers-on : i < length w → getD w i 0 < m → numbers m (drop i w) i ≡ numbers m (drop (i + 1) w) (i + 1)
   numbers-on h q = numbers-at h ∙ rw (lt-leb m (getD w i 0) q) refl
 
 -- the walk at position i, with charge e; the list's first step has the number j
 module _ (g : Model) (b : ℕ) (w : List ℕ) (i j e : ℕ) where
+  -- past the last position it is walked through
   pub ran-end : length w ≤ i → ran (held g) b (drop i w) (j + i) e ≡ Through e
   unfolding ran
   ran-end h = rw (drop-of-length-le w {i = i} h) refl
 
   module _ (h : i < length w) (below : getD w i 0 < g .count) where
+    -- a step that is possible leads on
     pub ran-on : (x : ℕ) → stepped b (arcIn g (getD w i 0) .weight) e ≡ To x
         → ran (held g) b (drop i w) (j + i) e ≡ ran (held g) b (drop (i + 1) w) (j + (i + 1)) x
     unfolding ran
@@ -55,16 +60,19 @@ module _ (g : Model) (b : ℕ) (w : List ℕ) (i j e : ℕ) where
         let n : j + suc i ≡ suc (j + i) = omega arith in
         rw (drop-cons w i 0 h, held-arc g (getD w i 0) below, q, add-one i, n) refl
 
+    -- one that is not stops the walk
     pub ran-stop : stepped b (arcIn g (getD w i 0) .weight) e ≡ Impossible → ran (held g) b (drop i w) (j + i) e ≡ Stops (j + i)
     unfolding ran
     ran-stop q = rw (drop-cons w i 0 h, held-arc g (getD w i 0) below, q) refl
 
 -- the mask at position i
 module _ (g : Model) (w : List ℕ) (i m : ℕ) where
+  -- past the last position it is complete
   pub met-end : length w ≤ i → metBy (held g) (drop i w) m ≡ m
   unfolding metBy
   met-end h = rw (drop-of-length-le w {i = i} h) refl
 
+  -- an arc adds its colours
   pub met-on : i < length w → getD w i 0 < g .count
       → metBy (held g) (drop i w) m ≡ metBy (held g) (drop (i + 1) w) (bitOr m (arcIn g (getD w i 0) .colours))
   unfolding metBy

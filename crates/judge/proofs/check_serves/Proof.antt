@@ -1,4 +1,4 @@
--- `judge::check_serves` meets its contract: 15 and 16 decide whether 17 answers. Assumes nothing.
+-- `judge::check_serves` meets its contract: 15 or 16, else 17. Assumes nothing.
 use mathlib.Core.Path.{sym, _∙_}
 use borrow.Author.Needs.{needs}
 use Rattle.refusals.proofs.Verdicts.{and-then-on, and-then-stop}

@@ -1,4 +1,4 @@
--- `judge::check_shape` meets its contract: 11 decides whether 12 to 14 answer. Assumes nothing.
+-- `judge::check_shape` meets its contract: 11, else 12 to 14. Assumes nothing.
 use mathlib.Core.Path.{sym, _∙_}
 use native.Mathlib.Omega.{arith}
 use borrow.Author.Needs.{needs}

@@ -1,4 +1,4 @@
--- `judge::judge_model` meets its contract: fitness decides who answers. Assumes nothing.
+-- `judge::judge_model` meets its contract: the refusal of fitness, else what 6 and 11 to 17 say. Assumes nothing.
 use borrow.Author.Needs.{needs}
 use Rattle.model.specs.Lists.{lists}
 use Rattle.model.proofs.Held.{told-holds}

@@ -1,4 +1,4 @@
--- `judge::judge_plan` meets its contract: the shape decides whether 15 to 17 answer. Assumes nothing.
+-- `judge::judge_plan` meets its contract: the refusal of the shape, else 15 to 17. Assumes nothing.
 use mathlib.Core.Path.{sym, _∙_}
 use borrow.Author.Needs.{needs}
 use Rattle.refusals.proofs.Verdicts.{and-then-on, and-then-stop}

@@ -1,4 +1,4 @@
--- `judge::other_mode` meets its contract: the verdict on 12 in the rest decides who answers. Assumes nothing.
+-- `judge::other_mode` meets its contract: 12 in the rest, else 13 here. Assumes nothing.
 use mathlib.Core.Path.{sym, _∙_}
 use borrow.Author.Needs.{needs}
 use Rattle.refusals.proofs.Verdicts.{and-then-on, and-then-stop}

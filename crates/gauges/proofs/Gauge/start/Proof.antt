@@ -1,4 +1,4 @@
--- `Gauge::start` meets its contract: the verdict on fitness decides who answers. Assumes nothing.
+-- `Gauge::start` meets its contract: the refusal of fitness, else what 6 says. Assumes nothing.
 use mathlib.Core.Path.{_∙_}
 use borrow.Author.Needs.{needs}
 use Rattle.model.specs.Lists.{lists}

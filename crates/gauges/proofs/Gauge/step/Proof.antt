@@ -1,4 +1,4 @@
--- `Gauge::step` meets its contract: the verdict on fitness decides who answers. Assumes nothing.
+-- `Gauge::step` meets its contract: the refusal of fitness, else what 6 and the step say. Assumes nothing.
 use mathlib.Core.Path.{_∙_}
 use borrow.Author.Needs.{needs}
 use Rattle.model.specs.Lists.{lists}

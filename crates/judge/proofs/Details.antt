@@ -1,0 +1,182 @@
+-- When refusals 15 and 16 are answered: 15 with the first step that is not possible, counted over run-in, first and second round in one list;
+-- 16 where both rounds end lower. And that earlier rows come first: 13 after 12, and 17 after 15 and 16. Assumes nothing.
+use mathlib.Core.Path.{_≡_, refl, _∙_}
+use mathlib.Core.Bool.{Bool, true, false, _&&_}
+use mathlib.Core.List.{List, [], _∷_, _++_}
+use mathlib.Core.Logic.{_↔_}
+use Prim.Native.Nat.{ℕ, suc, _+_, _<_}
+use native.Mathlib.Nat.{add-zero, zero-add, add-suc, suc-add}
+use native.Mathlib.Omega.{arith}
+use native.Mathlib.Decide.{decLe}
+use borrow.Author.Tests.{lt-ltb, le-ltb}
+use lib.Dec.{leb, ltb}
+use lib.ListN.{length, getD, take}
+use lib.Seq.{split-at, length-take-le}
+use Rattle.walks.specs.declared.Step.{Step}
+use Rattle.walks.specs.declared.Step.the-variants.{To, Impossible}
+use Rattle.walks.specs.BoundedStep.{stepped}
+use Rattle.walks.specs.Walk.{Ends, walked}
+use Rattle.refusals.specs.declared.Refusal.{Refusal}
+use Rattle.refusals.specs.declared.Refusal.the-variants.{ArcNumber, OtherMode, ImpossibleStep, FallingCycle, MissingColour}
+use Rattle.refusals.specs.declared.Verdict.{Verdict}
+use Rattle.refusals.specs.declared.Verdict.the-variants.{Yes, Refused}
+use Rattle.refusals.specs.Refusals.{refuse, andThen}
+use Rattle.refusals.proofs.Verdicts.{clash}
+use Rattle.model.specs.Automaton.{Automaton, arcAt}
+use Rattle.model.specs.Plans.{Plan, walkedArcs}
+use Rattle.judge.specs.declared.Ran.{Ran}
+use Rattle.judge.specs.declared.Ran.the-variants.{Through, Stops}
+use Rattle.judge.specs.Shape.{numbers, chain, numbersThenChain}
+use Rattle.judge.specs.Charges.{ranOn, ran, afterRan, secondRound, rounds, charges}
+use Rattle.judge.specs.Colours.{coloursOf}
+use Rattle.judge.specs.Judged.{servesOf}
+use Rattle.judge.proofs.Runs.{ran-walked}
+
+-- a refusal that is neither this row's nor answered by what is checked after it is not answered
+refuse-not : (t : Bool) (q r : Refusal) (v : Verdict) → (Refused q ≡ Refused r → ⊥) → (v ≡ Refused r → ⊥) → refuse t q v ≡ Refused r → ⊥
+refuse-not true q r v here after = here
+refuse-not false q r v here after = after
+
+-- a refusal that the first of two checks does not answer is answered only where that check says yes
+and-then-second : (u v : Verdict) (r : Refusal) → (u ≡ Refused r → ⊥) → andThen u v ≡ Refused r → u ≡ Yes
+and-then-second Yes v r not e = refl
+and-then-second (Refused q) v r not e = absurd (not e)
+
+-- what follows a list that is walked through, as a walk
+abbrev thenRan : Ran → (ℕ → Ran) → Ran
+thenRan (Through e) f = f e
+thenRan (Stops i) f = Stops i
+
+-- 15 of a list and of what follows it
+joined : (r : Ran) (f : ℕ → Verdict) (h : ℕ → Ran) (i : ℕ) → ((x : ℕ) → (f x ≡ Refused (ImpossibleStep i)) ↔ (h x ≡ Stops i))
+    → (afterRan r f ≡ Refused (ImpossibleStep i)) ↔ (thenRan r h ≡ Stops i)
+joined (Through x) f h i q = q x
+joined (Stops k) f h i q = (λ e. cc, λ e. cc)
+
+-- 15 of the last list, after which only 16 is answered
+last : (r : Ran) (t : ℕ → Bool) (i : ℕ) → (afterRan r (λ y. refuse (t y) FallingCycle Yes) ≡ Refused (ImpossibleStep i)) ↔ (r ≡ Stops i)
+last (Through x) t i =
+    (λ e. absurd (refuse-not (t x) FallingCycle (ImpossibleStep i) Yes (λ q. clash (cc)) (λ q. clash (cc)) e), λ e. clash (cc))
+last (Stops k) t i = (λ e. cc, λ e. cc)
+
+-- 17 is not answered where what follows the list does not answer it
+after-not : (r : Ran) (f : ℕ → Verdict) (d : ℕ) → ((x : ℕ) → f x ≡ Refused (MissingColour d) → ⊥) → afterRan r f ≡ Refused (MissingColour d) → ⊥
+after-not (Through x) f d q = q x
+after-not (Stops i) f d q = λ e. clash (cc)
+
+-- 16 is answered by what follows a list that is walked through
+after-falls : (r : Ran) (f : ℕ → Verdict) → (afterRan r f ≡ Refused FallingCycle) ↔ ((x : ℕ) × (r ≡ Through x) × (f x ≡ Refused FallingCycle))
+after-falls (Through x) f = (λ e. (x, refl, e), λ (y, q, e). let z : x ≡ y = cc in rw z e)
+after-falls (Stops i) f = (λ e. clash (cc), λ (y, q, e). clash (cc))
+
+-- its test: both rounds end lower than they began
+both-lower : (e x y : ℕ) → (refuse (ltb x e && ltb y x) FallingCycle Yes ≡ Refused FallingCycle) ↔ ((x < e) × (y < x))
+both-lower e x y = (
+  λ q.
+      elim (decLe e x) [
+        | yes h ↦ clash (cc (rw (le-ltb x e h) at q))
+        | no h ↦ elim (decLe x y) [ yes i ↦ clash (cc (rw (lt-ltb x e (omega arith), le-ltb y x i) at q)) | no i ↦ (omega arith, omega arith) ]
+      ],
+  λ (h, i). rw (lt-ltb x e h, lt-ltb y x i) refl,
+)
+
+module _ (g : Automaton) (b : ℕ) where
+  -- a list of two parts is walked one part after the other
+  ran-append : (u v : List ℕ) (i e : ℕ) → ran g b (u ++ v) i e ≡ thenRan (ran g b u i e) (λ x. ran g b v (i + length u) x)
+  unfolding ran
+  ran-append [] v i e = rw (add-zero i) refl
+  ran-append (a ∷ u) v i e = go (stepped b (arcAt g a .weight) e) (ran-append u v (suc i))
+    where
+      go : (s : Step) → ((y : ℕ) → ran g b (u ++ v) (suc i) y ≡ thenRan (ran g b u (suc i) y) (λ x. ran g b v (suc i + length u) x))
+          → ranOn s i (ran g b (u ++ v) (suc i)) ≡ thenRan (ranOn s i (ran g b u (suc i))) (λ x. ran g b v (i + suc (length u)) x)
+      go (To y) ih = ih y ∙ rw (add-suc i (length u), suc-add i (length u)) refl
+      go Impossible ih = refl
+
+  -- 15 applies with detail i exactly where, of run-in, first and second round in one list, step i is the first that is not possible
+  pub impossible-step : (c : ℕ) (p : Plan) (i : ℕ)
+      → (charges g b c p ≡ Refused (ImpossibleStep i)) ↔ (ran g b (p .prefix ++ (p .cycle ++ p .cycle)) 0 c ≡ Stops i)
+  unfolding charges rounds secondRound
+  impossible-step c p i =
+      let w = p .cycle in
+      let n = length (p .prefix) in
+      rw (ran-append (p .prefix) (w ++ w) 0 c)
+      (joined (ran g b (p .prefix) 0 c) _ _ i λ e.
+      rw (zero-add n, ran-append w w n e)
+      (joined (ran g b w n e) _ _ i λ x. last (ran g b w (n + length w) x) (λ y. ltb x e && ltb y x) i))
+
+  -- the walk of the first i arcs ends at some charge, from which the next step is not possible
+  abbrev pub StopsAt : List ℕ → ℕ → ℕ → Type 0
+  StopsAt w c i = (i < length w) × ((x : ℕ) × (walkedArcs g b (take i w) c ≡ Ends x) × (stepped b (arcAt g (getD w i 0) .weight) x ≡ Impossible))
+
+  -- the step where a walk stops, counted from k on
+  stops-at : (w : List ℕ) (k c d : ℕ) → ran g b w k c ≡ Stops d → (i : ℕ) × (k + i ≡ d) × StopsAt w c i
+  unfolding ran walked
+  stops-at [] k c d q = clash (cc)
+  stops-at (a ∷ w) k c d q = go (stepped b (arcAt g a .weight) c) refl (λ y. stops-at w (suc k) y d) q
+    where
+      go : (s : Step) → stepped b (arcAt g a .weight) c ≡ s → ((y : ℕ) → ran g b w (suc k) y ≡ Stops d → (i : ℕ) × (suc k + i ≡ d) × StopsAt w y i)
+          → ranOn s k (ran g b w (suc k)) ≡ Stops d → (i : ℕ) × (k + i ≡ d) × StopsAt (a ∷ w) c i
+      go (To y) e ih q = let (i, n, (h, (x, u, v))) = ih y q in (suc i, omega arith, (omega arith, (x, rw e u, v)))
+      go Impossible e ih q = let z : k ≡ d = cc in (0, omega arith, (omega arith, (c, refl, e)))
+
+  -- a walk stops at step i exactly where the walk of the i arcs before it ends at some charge, from which step i is not possible
+  pub ran-stops : (w : List ℕ) (c i : ℕ) → (ran g b w 0 c ≡ Stops i) ↔ StopsAt w c i
+  unfolding ran
+  ran-stops w c i = (
+    λ q. let (j, n, s) = stops-at w 0 c i q in let e : j ≡ i = omega arith in rw (← e) s,
+    λ (h, (x, u, v)).
+        rw (split-at w i 0 h, ran-append (take i w) _ 0 c, ran-walked g b (take i w) 0 c x .1 u, v, length-take-le i w (omega arith), zero-add i) refl,
+  )
+
+  -- 16 applies exactly where prefix and two rounds are walked through, and both rounds end lower than they began
+  pub falling-cycle : (c : ℕ) (p : Plan) → (charges g b c p ≡ Refused FallingCycle)
+      ↔ (
+      (e : ℕ) × (x : ℕ) × (y : ℕ) × (walkedArcs g b (p .prefix) c ≡ Ends e) × (walkedArcs g b (p .cycle) e ≡ Ends x)
+      × (walkedArcs g b (p .cycle) x ≡ Ends y) × (x < e) × (y < x)
+      )
+  unfolding charges rounds secondRound
+  falling-cycle c p =
+      let u = p .prefix in
+      let w = p .cycle in
+      let n = length u in (
+        λ q.
+            let (e, r, q₁) = after-falls (ran g b u 0 c) _ .0 q in
+            let (x, r₁, q₂) = after-falls (ran g b w n e) _ .0 q₁ in
+            let (y, r₂, q₃) = after-falls (ran g b w (n + length w) x) _ .0 q₂ in
+            let (h, i) = both-lower e x y .0 q₃ in
+            (e, x, y, ran-walked g b u 0 c e .0 r, ran-walked g b w n e x .0 r₁, ran-walked g b w (n + length w) x y .0 r₂, h, i),
+        λ (e, x, y, r, r₁, r₂, h, i).
+            rw (ran-walked g b u 0 c e .1 r, ran-walked g b w n e x .1 r₁, ran-walked g b w (n + length w) x y .1 r₂) (both-lower e x y .1 (h, i)),
+      )
+
+  -- 15 and 16 come before 17: where one of them applies, it is the verdict
+  pub serves-order : (c : ℕ) (p : Plan) (r : Refusal) → charges g b c p ≡ Refused r → servesOf g b c p ≡ Refused r
+  unfolding servesOf
+  serves-order c p r e = rw e refl
+
+  -- 15 and 16 do not answer 17
+  charges-not : (c : ℕ) (p : Plan) (d : ℕ) → charges g b c p ≡ Refused (MissingColour d) → ⊥
+  unfolding charges rounds secondRound
+  charges-not c p d =
+      let w = p .cycle in
+      let n = length (p .prefix) in
+      after-not (ran g b (p .prefix) 0 c) _ d λ e.
+      after-not (ran g b w n e) _ d λ x.
+      after-not (ran g b w (n + length w) x) _ d λ y.
+      refuse-not (ltb x e && ltb y x) FallingCycle (MissingColour d) Yes (λ q. clash (cc)) (λ q. clash (cc))
+
+  -- 17 is answered only where neither 15 nor 16 applies
+  pub serves-colour : (c : ℕ) (p : Plan) (d : ℕ) → servesOf g b c p ≡ Refused (MissingColour d) → charges g b c p ≡ Yes
+  unfolding servesOf
+  serves-colour c p d = and-then-second (charges g b c p) (coloursOf g (p .cycle)) (MissingColour d) (charges-not c p d)
+
+-- 12 does not answer 13
+numbers-not : (m : ℕ) (w : List ℕ) (i d : ℕ) → numbers m w i ≡ Refused (OtherMode d) → ⊥
+unfolding numbers
+numbers-not m [] i d = λ e. clash (cc)
+numbers-not m (a ∷ w) i d = refuse-not (leb m a) (ArcNumber i) (OtherMode d) _ (λ q. clash (cc)) (numbers-not m w (suc i) d)
+
+-- 13 is answered only where 12 applies nowhere
+pub path-order : (g : Automaton) (s : ℕ) (w : List ℕ) (d : ℕ) → numbersThenChain g s w 0 ≡ Refused (OtherMode d) → numbers (length (g .arcs)) w 0 ≡ Yes
+path-order g s w d =
+    and-then-second (numbers (length (g .arcs)) w 0) (chain g s w 0) (OtherMode d) (numbers-not (length (g .arcs)) w 0 d)
