@@ -30,7 +30,7 @@ use Rattle.judge.specs.Shape.{numbers, chain, numbersThenChain}
 use Rattle.judge.specs.Charges.{ranOn, ran, afterRan, secondRound, rounds, charges}
 use Rattle.judge.specs.Colours.{coloursOf}
 use Rattle.judge.specs.Judged.{servesOf}
-use Rattle.judge.proofs.Runs.{ran-walked}
+use Rattle.judge.proofs.Runs.{after-ran, ran-walked}
 
 -- a refusal that is neither this row's nor answered by what is checked after it is not answered
 refuse-not : (t : Bool) (q r : Refusal) (v : Verdict) → (Refused q ≡ Refused r → ⊥) → (v ≡ Refused r → ⊥) → refuse t q v ≡ Refused r → ⊥
@@ -61,13 +61,11 @@ last (Stops k) t i = (λ e. cc, λ e. cc)
 
 -- 17 is not answered where what follows the list does not answer it
 after-not : (r : Ran) (f : ℕ → Verdict) (d : ℕ) → ((x : ℕ) → f x ≡ Refused (MissingColour d) → ⊥) → afterRan r f ≡ Refused (MissingColour d) → ⊥
-after-not (Through x) f d q = q x
-after-not (Stops i) f d q = λ e. clash (cc)
+after-not r f d q e = let (x, _, h) = after-ran r f (Refused (MissingColour d)) (λ i e. clash (cc)) .0 e in q x h
 
 -- 16 is answered by what follows a list that is walked through
 after-falls : (r : Ran) (f : ℕ → Verdict) → (afterRan r f ≡ Refused FallingCycle) ↔ ((x : ℕ) × (r ≡ Through x) × (f x ≡ Refused FallingCycle))
-after-falls (Through x) f = (λ e. (x, refl, e), λ (y, q, e). let z : x ≡ y = cc in rw z e)
-after-falls (Stops i) f = (λ e. clash (cc), λ (y, q, e). clash (cc))
+after-falls r f = after-ran r f (Refused FallingCycle) (λ i e. clash (cc))
 
 -- its test: both rounds end lower than they began
 both-lower : (e x y : ℕ) → (refuse (ltb x e && ltb y x) FallingCycle Yes ≡ Refused FallingCycle) ↔ ((x < e) × (y < x))

@@ -29,10 +29,15 @@ use Rattle.judge.specs.Shape.{planOf}
 use Rattle.judge.specs.Charges.{ranOn, ran, afterRan, secondRound, rounds, charges}
 use Rattle.judge.proofs.Arcs.{rest-part}
 
--- a list that is walked through says yes exactly where what follows does, from the charge at its end
+-- a verdict that is not 15 is that of what follows a list that is walked through, from the charge at its end
+pub after-ran : (r : Ran) (f : ℕ → Verdict) (v : Verdict) → ((i : ℕ) → Refused (ImpossibleStep i) ≡ v → ⊥)
+    → (afterRan r f ≡ v) ↔ ((x : ℕ) × (r ≡ Through x) × (f x ≡ v))
+after-ran (Through e) f v not = (λ h. (e, refl, h), λ (x, q, h). let z : e ≡ x = cc in rw z h)
+after-ran (Stops i) f v not = (λ h. absurd (not i h), λ (x, q, h). clash (cc))
+
+-- so is the yes
 pub after-ran-yes : (r : Ran) (f : ℕ → Verdict) → (afterRan r f ≡ Yes) ↔ ((x : ℕ) × (r ≡ Through x) × (f x ≡ Yes))
-after-ran-yes (Through e) f = (λ h. (e, refl, h), λ (x, q, h). let z : e ≡ x = cc in rw z h)
-after-ran-yes (Stops i) f = (λ h. clash (cc), λ (x, q, h). clash (cc))
+after-ran-yes r f = after-ran r f Yes (λ i e. clash (cc))
 
 -- by how the list is walked: what follows answers ..
 pub after-ran-on : (r : Ran) (f : ℕ → Verdict) (x : ℕ) → r ≡ Through x → f x ≡ afterRan r f
