@@ -21,7 +21,7 @@ use Rattle.judge.proofs.Shapes.{length-yes, numbers-yes}
 pub path-arcs : (g : Model) → Holds g → (w : List ℕ) (s : ℕ) → numbersThenChain (held g) s w 0 ≡ Yes → ArcNumbers g w
 path-arcs g holds w s path =
     let numbered = and-then-yes (numbers (length (held g .arcs)) w 0) (chain (held g) s w 0) .0 path .0 in
-    let below = numbers-yes (length (held g .arcs)) w 0 .0 numbered in
+    let below = numbers-yes (length (held g .arcs)) w .0 numbered in
     record { few = omega (arith, holds .fit .few-arcs, holds .count); below = λ i h. omega (arith, below i h, holds .count) }
 
 -- where 11 to 14 do not apply, too, and p of them are the prefix's

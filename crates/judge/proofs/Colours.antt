@@ -3,16 +3,17 @@ use mathlib.Core.Path.{_≡_, refl}
 use mathlib.Core.Bool.{Bool, true, false, not, _||_}
 use mathlib.Core.List.{List, [], _∷_}
 use mathlib.Core.Logic.{_↔_, _⊎_, inl, inr, ⊎-elim}
-use Prim.Native.Nat.{ℕ, zero, suc, _+_, _≤_, _<_}
-use native.Mathlib.Omega.{arith}
-use native.Mathlib.Decide.{ℕ-discrete}
+use Prim.Native.Nat.{ℕ, _-_}
+use native.Mathlib.Nat.{sub-zero}
 use borrow.Author.Tests.{not-false}
 use Rattle.refusals.specs.declared.Refusal.the-variants.{MissingColour}
 use Rattle.refusals.specs.declared.Verdict.the-variants.{Yes}
-use Rattle.refusals.proofs.Verdicts.{clash, refuse-yes}
+use Rattle.refusals.proofs.Verdicts.{clash}
+use Rattle.refusals.proofs.Scan.{scan-yes}
 use Rattle.model.specs.Automaton.{Automaton, meets}
 use Rattle.model.specs.Plans.{Plan, SomeArc, Accepted}
 use Rattle.judge.specs.Colours.{someArc, missingFrom, coloursOf}
+use Rattle.judge.proofs.Firsts.{missing-scan}
 
 -- one of two
 or-yes : (a b : Bool) → ((a || b) ≡ true) ↔ ((a ≡ true) ⊎ (b ≡ true))
@@ -29,27 +30,13 @@ some-arc test (a ∷ w) =
       λ h. here .1 (⊎-elim (λ q. inl q) (λ q. inr (ih .1 q)) h),
     )
 
--- no colour is missing exactly where each of the f colours from j on is there
-pub missing-yes : (has : ℕ → Bool) (f j : ℕ) → (missingFrom has f j ≡ Yes) ↔ ((i : ℕ) → j ≤ i → i < j + f → has i ≡ true)
-unfolding missingFrom
-missing-yes has zero j = (λ e i h k. absurd (omega arith), λ q. refl)
-missing-yes has (suc f) j =
-    let row = refuse-yes (not (has j)) (MissingColour j) (missingFrom has f (suc j)) in
-    let ih = missing-yes has f (suc j) in (
-      λ e i h k.
-          let t = row .0 e in
-          elim (ℕ-discrete i j) [
-            | yes q ↦ rw q (not-false (has j) (t .0))
-            | no q ↦ ih .0 (t .1) i (omega arith) (omega arith)
-          ],
-      λ q. row .1 (rw (q j (omega arith) (omega arith)) refl, ih .1 (λ i h k. q i (omega arith) (omega arith))),
-    )
-
 -- 17 does not apply exactly where the plan is accepted
 pub colours-yes : (g : Automaton) (p : Plan) → (coloursOf g (p .cycle) ≡ Yes) ↔ Accepted g p
 unfolding coloursOf
 colours-yes g p =
-    let all = missing-yes (λ j. someArc (meets g j) (p .cycle)) (g .colours) 0 in (
-      λ e j h. some-arc (meets g j) (p .cycle) .0 (all .0 e j (omega arith) (omega arith)),
-      λ f. all .1 (λ j h k. some-arc (meets g j) (p .cycle) .1 (f j (omega arith))),
+    let k = g .colours in
+    let has : ℕ → Bool = λ j. someArc (meets g j) (p .cycle) in
+    let all = rw (sub-zero k) at (scan-yes (λ j. not (has j)) MissingColour k (λ i. missingFrom has (k - i) i) (missing-scan has k)) in (
+      λ e j h. some-arc (meets g j) (p .cycle) .0 (not-false (has j) (all .0 e j h)),
+      λ f. all .1 (λ j h. rw (some-arc (meets g j) (p .cycle) .1 (f j h)) refl),
     )

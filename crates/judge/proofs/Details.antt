@@ -1,7 +1,7 @@
 -- When refusals 15 and 16 are answered: 15 with the first step that is not possible, counted over run-in, first and second round in one list;
 -- 16 where both rounds end lower. And that earlier rows come first: 13 after 12, and 17 after 15 and 16. Assumes nothing.
 use mathlib.Core.Path.{_≡_, refl, _∙_}
-use mathlib.Core.Bool.{Bool, true, false, _&&_}
+use mathlib.Core.Bool.{Bool, _&&_}
 use mathlib.Core.List.{List, [], _∷_, _++_}
 use mathlib.Core.Logic.{_↔_}
 use Prim.Native.Nat.{ℕ, suc, _+_, _<_}
@@ -20,8 +20,8 @@ use Rattle.refusals.specs.declared.Refusal.{Refusal}
 use Rattle.refusals.specs.declared.Refusal.the-variants.{ArcNumber, OtherMode, ImpossibleStep, FallingCycle, MissingColour}
 use Rattle.refusals.specs.declared.Verdict.{Verdict}
 use Rattle.refusals.specs.declared.Verdict.the-variants.{Yes, Refused}
-use Rattle.refusals.specs.Refusals.{refuse, andThen}
-use Rattle.refusals.proofs.Verdicts.{clash}
+use Rattle.refusals.specs.Refusals.{refuse}
+use Rattle.refusals.proofs.Verdicts.{clash, refuse-not, and-then-second}
 use Rattle.model.specs.Automaton.{Automaton, arcAt}
 use Rattle.model.specs.Plans.{Plan, walkedArcs}
 use Rattle.judge.specs.declared.Ran.{Ran}
@@ -31,16 +31,6 @@ use Rattle.judge.specs.Charges.{ranOn, ran, afterRan, secondRound, round
 use Rattle.judge.specs.Colours.{coloursOf}
 use Rattle.judge.specs.Judged.{servesOf}
 use Rattle.judge.proofs.Runs.{after-ran, ran-walked}
-
--- a refusal that is neither this row's nor answered by what is checked after it is not answered
-refuse-not : (t : Bool) (q r : Refusal) (v : Verdict) → (Refused q ≡ Refused r → ⊥) → (v ≡ Refused r → ⊥) → refuse t q v ≡ Refused r → ⊥
-refuse-not true q r v here after = here
-refuse-not false q r v here after = after
-
--- a refusal that the first of two checks does not answer is answered only where that check says yes
-and-then-second : (u v : Verdict) (r : Refusal) → (u ≡ Refused r → ⊥) → andThen u v ≡ Refused r → u ≡ Yes
-and-then-second Yes v r not e = refl
-and-then-second (Refused q) v r not e = absurd (not e)
 
 -- what follows a list that is walked through, as a walk
 abbrev thenRan : Ran → (ℕ → Ran) → Ran

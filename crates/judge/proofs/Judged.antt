@@ -21,9 +21,9 @@ use Rattle.judge.proofs.Colours.{colours-yes}
 
 module _ (g : Automaton) (b c : ℕ) where
   -- 15 to 17 do not apply exactly where the plan is feasible and accepted
-  pub walk-yes : (p : Plan) → c ≤ b → (servesOf g b c p ≡ Yes) ↔ (Feasible g b c p × Accepted g p)
+  pub serves-yes : (p : Plan) → c ≤ b → (servesOf g b c p ≡ Yes) ↔ (Feasible g b c p × Accepted g p)
   unfolding servesOf
-  walk-yes p h =
+  serves-yes p h =
       let both = and-then-yes (charges g b c p) (coloursOf g (p .cycle)) in (
         λ e. (charges-yes g b c p h .0 (both .0 e .0), colours-yes g p .0 (both .0 e .1)),
         λ (f, a). both .1 (charges-yes g b c p h .1 f, colours-yes g p .1 a),
@@ -34,12 +34,12 @@ module _ (g : Automaton) (b c : ℕ) where
   unfolding judgedPlan
   plan-yes p q w h =
       let both = and-then-yes (shape g p q w) (servesOf g b c (planOf p w)) in
-      let walk = walk-yes (planOf p w) h in (
+      let serves = serves-yes (planOf p w) h in (
         λ e.
             let (l, k) = shape-yes g p q w .0 (both .0 e .0) in
-            let (f, a) = walk .0 (both .0 e .1) in
+            let (f, a) = serves .0 (both .0 e .1) in
             (l, record { plan = k; feasible = f; accepted = a }),
-        λ (l, s). both .1 (shape-yes g p q w .1 (l, s .plan), walk .1 (s .feasible, s .accepted)),
+        λ (l, s). both .1 (shape-yes g p q w .1 (l, s .plan), serves .1 (s .feasible, s .accepted)),
       )
 
 -- judging says yes exactly for what is right

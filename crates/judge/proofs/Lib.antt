@@ -1,12 +1,12 @@
 -- Laws of judging, row by row in the table's order (Leads, Shapes, Runs, Colours); what its yes says (Judged); the details of its refusals
 -- and which row comes first (Firsts, Details); when no plan exists (NoPlan) and the examples (Examples). Arcs, Scans, Paths, Masks and
 -- Answers serve the proofs of the code.
+pub mod Firsts
 pub mod Leads
 pub mod Shapes
 pub mod Runs
 pub mod Colours
 pub mod Judged
-pub mod Firsts
 pub mod Details
 pub mod NoPlan
 pub mod Examples

@@ -2,7 +2,7 @@
 use mathlib.Core.Path.{_≡_, refl, sym, ap, _∙_}
 use mathlib.Core.Bool.{Bool, _||_, or-assoc, or-false}
 use mathlib.Core.List.{List, [], _∷_}
-use mathlib.Core.Logic.{_⊎_, inl, inr, ⊎-elim}
+use mathlib.Core.Logic.{_⊎_, inl, inr, ⊎-elim, _≢_}
 use Prim.Native.Nat.{ℕ, zero, suc, _+_, _-_, _/_, _%_, _^_, _≤_, _<_, max}
 use native.Mathlib.Nat.{add-zero, zero-add, suc-add, add-suc, pow-suc, pow-succ', eq-zero-or-pos, div-one, div-div-eq-div-mul, div-eq-of-lt, add-sub-of-le, mod-eq-of-lt}
 use native.Mathlib.Omega.{arith}
@@ -110,19 +110,29 @@ trail-wide (suc f) e x h l =
     (λ (z : 0 < x % 2). let o : x % 2 ≡ 1 = omega arith in simp o)
     (eq-zero-or-pos (x % 2)))
 
--- 17, by the mask of the required colours not yet met, in a word of 32 bits
-pub colours-missing : (g : Automaton) (w : List ℕ) → g .colours ≤ 32 → metBy g w 0 < 2 ^ (g .colours)
-    → ((2 ^ (g .colours) - 1 - metBy g w 0 ≡ 0) × (coloursOf g w ≡ Yes))
-    ⊎ ((0 < 2 ^ (g .colours) - 1 - metBy g w 0) × (coloursOf g w ≡ Refused (MissingColour (trailingZeros 32 (2 ^ (g .colours) - 1 - metBy g w 0)))))
-unfolding coloursOf
-colours-missing g w few below =
-    let k = g .colours in
-    let x = 2 ^ k - 1 - metBy g w 0 in
-    ⊎-elim
-    (λ (z, e). inl (z, e))
-    (λ (z, e). inr (z, e ∙ ap {B = Verdict} (λ (t : ℕ). Refused (MissingColour t)) (zero-add (trailingZeros k x) ∙ sym (wide z))))
-    (missing-from (λ j. someArc (meets g j) w) k 0 (metBy g w 0) below (λ j q. met-bit g w 0 j ∙ rw (div-eq-of-lt (pow-pos j), zero-add j) refl))
-  where
-    wide : 0 < 2 ^ (g .colours) - 1 - metBy g w 0 → trailingZeros 32 (2 ^ (g .colours) - 1 - metBy g w 0) ≡ trailingZeros (g .colours) (2 ^ (g .colours) - 1 - metBy g w 0)
-    wide z =
-        rw (add-sub-of-le few) at (trail-wide (g .colours) (32 - g .colours) (2 ^ (g .colours) - 1 - metBy g w 0) z (omega (arith, pow-pos (g .colours))))
+-- 17, by the mask x of the required colours not yet met, in a word of 32 bits
+module _ (g : Automaton) (w : List ℕ) (few : g .colours ≤ 32) (below : metBy g w 0 < 2 ^ (g .colours)) (x : ℕ) (lacks : x ≡ 2 ^ (g .colours) - 1 - metBy g w 0) where
+  by-mask : missingBy (g .colours) 0 x (coloursOf g w)
+  unfolding coloursOf
+  by-mask =
+      rw lacks (missing-from (λ j. someArc (meets g j) w) (g .colours) 0 (metBy g w 0) below λ j q.
+      met-bit g w 0 j ∙ rw (div-eq-of-lt (pow-pos j), zero-add j) refl)
+
+  -- it is empty: 17 does not apply
+  pub none-missing : x ≡ 0 → coloursOf g w ≡ Yes
+  none-missing z = go by-mask
+    where
+      go : missingBy (g .colours) 0 x (coloursOf g w) → coloursOf g w ≡ Yes
+      go (inl (y, e)) = e
+      go (inr (y, e)) = absurd (omega arith)
+
+  -- it is not: its trailing zeros are the colour
+  pub some-missing : x ≢ 0 → coloursOf g w ≡ Refused (MissingColour (trailingZeros 32 x))
+  some-missing z = go by-mask
+    where
+      wide : 0 < x → trailingZeros 32 x ≡ trailingZeros (g .colours) x
+      wide h = rw (add-sub-of-le few) at (trail-wide (g .colours) (32 - g .colours) x h (omega (arith, pow-pos (g .colours))))
+
+      go : missingBy (g .colours) 0 x (coloursOf g w) → coloursOf g w ≡ Refused (MissingColour (trailingZeros 32 x))
+      go (inl (y, e)) = absurd (z y)
+      go (inr (y, e)) = rw (wide y) (rw (zero-add (trailingZeros (g .colours) x)) at e)

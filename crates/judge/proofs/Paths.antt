@@ -2,9 +2,9 @@
 -- begins, as the code reads it. Assumes nothing.
 use mathlib.Core.Path.{_≡_, refl, sym, ap, _∙_}
 use mathlib.Core.Bool.{Bool, not}
-use mathlib.Core.List.{List, [], _∷_}
+use mathlib.Core.List.{List}
 use mathlib.Core.Logic.{_≢_}
-use Prim.Native.Nat.{ℕ, zero, suc, _+_, _≤_, _<_}
+use Prim.Native.Nat.{ℕ, _+_, _≤_, _<_}
 use native.Mathlib.Numerals.{add-one}
 use native.Mathlib.Omega.{arith}
 use borrow.Author.Tests.{eq-eqb, ne-eqb}
@@ -14,8 +14,9 @@ use lib.Seq.{drop-cons}
 use Rattle.refusals.specs.declared.Refusal.the-variants.{ArcNumber, OtherMode, OpenCycle}
 use Rattle.refusals.specs.declared.Verdict.the-variants.{Yes, Refused}
 use Rattle.refusals.specs.Refusals.{refuse, andThen}
-use Rattle.refusals.proofs.Verdicts.{refuse-yes, and-then-yes, and-then-stop, and-then-last}
+use Rattle.refusals.proofs.Verdicts.{and-then-yes, and-then-stop, and-then-last}
 use Rattle.refusals.proofs.Tests.{differ-no}
+use Rattle.refusals.proofs.Scan.{scan-yes}
 use Rattle.model.specs.declared.Arc.{Arc}
 use Rattle.model.specs.declared.Model.{Model}
 use Rattle.model.specs.Automaton.{Automaton, arcAt}
@@ -24,6 +25,7 @@ use Rattle.model.specs.Lists.{held}
 use Rattle.model.proofs.Held.{arcIn, held-arc}
 use Rattle.judge.specs.Shape.{numbers, chain, numbersThenChain, modeAfter, closing, path}
 use Rattle.judge.proofs.Arcs.{path-arcs}
+use Rattle.judge.proofs.Firsts.{strays, chain-scan}
 use Rattle.judge.proofs.Scans.{numbers-stop, numbers-on, numbers-end}
 
 -- 13 at position i, in mode s, where the arc there is one of the model
@@ -33,12 +35,10 @@ unfolding chain
 chain-at g s w i h q = rw (drop-cons w i 0 h, add-one i, held-arc g (getD w i 0) q) refl
 
 -- the arc at position p leaves the mode that the arcs before it lead to
-chain-source : (g : Automaton) (w : List ℕ) (s i p : ℕ) → p < length w → chain g s w i ≡ Yes → arcAt g (getD w p 0) .source ≡ modeAfter g s (take p w)
-unfolding chain
-chain-source g [] s i p h e = absurd (omega arith)
-chain-source g (a ∷ w) s i zero h e = differ-no (arcAt g a .source) s .0 (refuse-yes _ _ _ .0 e .0)
-chain-source g (a ∷ w) s i (suc p) h e =
-    chain-source g w (arcAt g a .target) (suc i) p (omega arith) (refuse-yes (not (eqb (arcAt g a .source) s)) (OtherMode i) _ .0 e .1)
+chain-source : (g : Automaton) (w : List ℕ) (s p : ℕ) → p < length w → chain g s w 0 ≡ Yes → arcAt g (getD w p 0) .source ≡ modeAfter g s (take p w)
+chain-source g w s p h e =
+    let none = scan-yes (strays g s w) OtherMode (length w) (λ k. chain g (modeAfter g s (take k w)) (drop k w) k) (chain-scan g s w) .0 e in
+    differ-no (arcAt g (getD w p 0) .source) (modeAfter g s (take p w)) .0 (none p h)
 
 -- the scan at position i, in mode s: the verdict on 12 and 13 is that on the rest, and the plan leads where the rest does
 pub record Following (g : Model) (w : List ℕ) (s i : ℕ) : Type 0 where
@@ -94,6 +94,6 @@ module _ (g : Model) (holds : Holds g) (w : List ℕ) (s i : ℕ) (state : Follo
       let done = following-done h in
       let follows = and-then-yes (numbers (length (held g .arcs)) w 0) (chain (held g) (g .start) w 0) .0 done .1 in
       let arc = held-arc g (getD w p 0) (path-arcs g holds w (g .start) done .below p inside) in
-      let begins = ap {B = ℕ} (λ (a : Arc). a .source) (sym arc) ∙ chain-source (held g) w (g .start) 0 p inside follows in
+      let begins = ap {B = ℕ} (λ (a : Arc). a .source) (sym arc) ∙ chain-source (held g) w (g .start) p inside follows in
       let ends : modeAfter (held g) (g .start) w ≡ s = state .leads ∙ rw (drop-of-length-le w {i = i} h) refl in
       rw (done, ← begins, ends, e) refl

@@ -1,9 +1,9 @@
 -- What the yes of refusals 11 to 14 says: the two lengths are right, and the bytes are a plan of the model. Assumes nothing.
 use mathlib.Core.Path.{_≡_, refl, sym, _∙_, subst}
 use mathlib.Core.Bool.{not, _||_}
-use mathlib.Core.List.{List, [], _∷_}
+use mathlib.Core.List.{List}
 use mathlib.Core.Logic.{_↔_}
-use Prim.Native.Nat.{ℕ, zero, suc, _+_, _<_}
+use Prim.Native.Nat.{ℕ, _+_, _<_}
 use native.Mathlib.Omega.{arith}
 use lib.Dec.{leb, ltb, eqb}
 use lib.ListN.{length, getD, take, drop, length-drop}
@@ -17,7 +17,9 @@ use Rattle.model.specs.Plans.{Leads, IsPlan}
 use Rattle.judge.specs.Shape.{planOf, lengthOf, numbers, chain, numbersThenChain, modeAfter, closing, path, shape, Lengths}
 use Rattle.refusals.proofs.Tests.{or-no, lt-no, le-no, differ-no}
 use Rattle.model.proofs.Leads.{leads-cut}
+use Rattle.refusals.proofs.Scan.{scan-yes}
 use Rattle.judge.proofs.Leads.{leads-chain, leads-mode}
+use Rattle.judge.proofs.Firsts.{numbers-scan}
 
 -- 11 does not apply exactly where the lengths are right
 pub length-yes : (p q : ℕ) (w : List ℕ) → (lengthOf p q (length w) ≡ Yes) ↔ Lengths p q w
@@ -37,19 +39,10 @@ length-yes p q w =
     )
 
 -- 12 does not apply exactly where every arc number is below m
-pub numbers-yes : (m : ℕ) (w : List ℕ) (i : ℕ) → (numbers m w i ≡ Yes) ↔ ((j : ℕ) → j < length w → getD w j 0 < m)
-unfolding numbers
-numbers-yes m [] i = (λ e j h. absurd (omega arith), λ f. refl)
-numbers-yes m (a ∷ w) i =
-    let row = refuse-yes (leb m a) (ArcNumber i) (numbers m w (suc i)) in
-    let ih = numbers-yes m w (suc i) in (
-      λ e. each (le-no m a .0 (row .0 e .0)) (ih .0 (row .0 e .1)),
-      λ f. row .1 (le-no m a .1 (f 0 (omega arith)), ih .1 (λ j h. f (suc j) (omega arith))),
-    )
-  where
-    each : a < m → ((j : ℕ) → j < length w → getD w j 0 < m) → (j : ℕ) → j < length (a ∷ w) → getD (a ∷ w) j 0 < m
-    each h f zero k = h
-    each h f (suc j) k = f j (omega arith)
+pub numbers-yes : (m : ℕ) (w : List ℕ) → (numbers m w 0 ≡ Yes) ↔ ((j : ℕ) → j < length w → getD w j 0 < m)
+numbers-yes m w =
+    let all = scan-yes (λ j. leb m (getD w j 0)) ArcNumber (length w) (λ k. numbers m (drop k w) k) (numbers-scan m w) in
+    (λ e j h. le-no m (getD w j 0) .0 (all .0 e j h), λ f. all .1 (λ j h. le-no m (getD w j 0) .1 (f j h)))
 
 module _ (g : Automaton) (p : ℕ) (w : List ℕ) where
   -- 14 does not apply exactly where the mode after the first p arcs is the mode after all

@@ -2,13 +2,14 @@
 -- the code holds is the model of the lists. Assumes nothing.
 use mathlib.Core.Path.{_≡_, refl, sym, ap, _∙_, subst}
 use mathlib.Core.Bool.{Bool, true, false, not, _||_}
-use mathlib.Core.List.{List, [], _∷_}
+use mathlib.Core.List.{List}
 use mathlib.Core.Logic.{_↔_}
-use Prim.Native.Nat.{ℕ, zero, suc, _+_, _-_, _^_, _≤_, _<_}
+use Prim.Native.Nat.{ℕ, _+_, _-_, _^_, _≤_, _<_}
 use native.Mathlib.Omega.{arith}
 use lib.Dec.{leb, ltb, eqb}
 use lib.IntN.{ℤ}
-use lib.ListN.{length, getD}
+use lib.ListN.{length, getD, drop}
+use lib.Seq.{drop-cons, drop-length}
 use lib.Signed.{ltZ, _≤ℤ_, ltZ-no, clashℤ, ltZ-yes}
 use borrow.Author.Tests.{eqb-false, ne-eqb}
 use Rattle.limits.specs.Ceilings.{modesMost, arcsMost, coloursMost, boundMost, weightLeast, weightMost}
@@ -19,6 +20,7 @@ use Rattle.refusals.specs.declared.Verdict.{Verdict}
 use Rattle.refusals.specs.declared.Verdict.the-variants.{Yes, Refused}
 use Rattle.model.specs.Automaton.{Automaton, noArc}
 use Rattle.refusals.proofs.Verdicts.{clash, refuse-yes, and-then-yes}
+use Rattle.refusals.proofs.Scan.{FirstOf, Scan, scan-yes, scan-first}
 use Rattle.refusals.proofs.Tests.{or-no, lt-no, le-no, differ-no}
 use Rattle.model.specs.Lists.{Lists, arcsOf, automatonOf, modelOf, blankModel, held}
 use Rattle.model.specs.Fitness.{unfitLists, header, headerOf, arcsFitness, unfitArc, arcsVerdict, fitness, fittedIf, fittedArcs, fittedOf, levelsOf, EqualLists, Header, ArcFits, Fit, Holds}
@@ -113,20 +115,20 @@ header-yes n s k l =
           ),
     )
 
--- 5 does not apply: no arc of the list is unfit
-pub arcs-yes : (n power : ℕ) (l : List Arc) (i : ℕ) → (arcsVerdict n power l i ≡ Yes)
-    ↔ ((a : ℕ) → a < length l → unfitArc n power (getD l a noArc) ≡ false)
+-- 5 is a scan of the arcs
+arcs-scan : (n power : ℕ) (l : List Arc) → Scan (λ j. unfitArc n power (getD l j noArc)) UnfitArc (length l) (λ k. arcsVerdict n power (drop k l) k)
 unfolding arcsVerdict
-arcs-yes n power [] i = (λ e a h. absurd (omega arith), λ f. refl)
-arcs-yes n power (x ∷ l) i =
-    let ih = arcs-yes n power l (suc i) in
-    let row = refuse-yes (unfitArc n power x) (UnfitArc i) (arcsVerdict n power l (suc i)) in
-    (λ e. each (row .0 e .0) (ih .0 (row .0 e .1)), λ f. row .1 (f 0 (omega arith), ih .1 (λ a h. f (suc a) (omega arith))))
-  where
-    each : unfitArc n power x ≡ false → ((a : ℕ) → a < length l → unfitArc n power (getD l a noArc) ≡ false)
-        → (a : ℕ) → a < length (x ∷ l) → unfitArc n power (getD (x ∷ l) a noArc) ≡ false
-    each e f zero h = e
-    each e f (suc a) h = f a (omega arith)
+arcs-scan n power l = record { turn = λ k h. rw (drop-cons l k noArc h) refl; ends = rw (drop-length l) refl; tells = λ x y e. cc }
+
+-- it does not apply exactly where no arc is unfit ..
+pub arcs-yes : (n power : ℕ) (l : List Arc) → (arcsVerdict n power l 0 ≡ Yes)
+    ↔ ((a : ℕ) → a < length l → unfitArc n power (getD l a noArc) ≡ false)
+arcs-yes n power l = scan-yes _ UnfitArc (length l) (λ k. arcsVerdict n power (drop k l) k) (arcs-scan n power l)
+
+-- .. and is answered with the "lowest such arc"
+pub arcs-first : (n power : ℕ) (l : List Arc) (d : ℕ) → (arcsVerdict n power l 0 ≡ Refused (UnfitArc d))
+    ↔ FirstOf (λ j. unfitArc n power (getD l j noArc)) (length l) d
+arcs-first n power l = scan-first _ UnfitArc (length l) (λ k. arcsVerdict n power (drop k l) k) (arcs-scan n power l)
 
 -- the verdict is yes exactly for four equal lists and a fit model
 pub fitness-yes : (n s k : ℕ) (l : Lists) → (fitness n s k l ≡ Yes) ↔ (EqualLists l × Fit (automatonOf n s k l))
@@ -136,7 +138,7 @@ fitness-yes n s k l =
     let both = and-then-yes (headerOf n s k l) (arcsFitness n (2 ^ k) l) in (
       λ e.
           let h = header-yes n s k l .0 (both .0 e .0) in
-          let f = arcs-yes n (2 ^ k) arcs 0 .0 (both .0 e .1) in (
+          let f = arcs-yes n (2 ^ k) arcs .0 (both .0 e .1) in (
             h .equal,
             record {
               some-mode = h .some-mode;
@@ -157,7 +159,7 @@ fitness-yes n s k l =
               few-arcs = omega (arith, f .few-arcs, arcs-length l (length (l .sources)) 0);
               few-colours = f .few-colours;
             }),
-            arcs-yes n (2 ^ k) arcs 0 .1 (λ a q. unfit-no n k (getD arcs a noArc) .1 (f .arcs-fit a q)),
+            arcs-yes n (2 ^ k) arcs .1 (λ a q. unfit-no n k (getD arcs a noArc) .1 (f .arcs-fit a q)),
           ),
     )
 

@@ -1,5 +1,5 @@
 -- What "met" and "spent" say, of any list of arcs and of the call on all inputs. Assumes nothing.
-use mathlib.Core.Path.{_≡_, refl, sym, ap, _∙_}
+use mathlib.Core.Path.{_≡_, refl, sym, ap, _∙_, subst}
 use mathlib.Core.Bool.{Bool, true, false}
 use mathlib.Core.List.{List, [], _∷_, _++_}
 use mathlib.Core.Logic.{_↔_, _⊎_, inl, inr, ⊎-elim}
@@ -15,6 +15,7 @@ use Rattle.refusals.specs.declared.Verdict.{Verdict}
 use Rattle.refusals.specs.declared.Verdict.the-variants.{Yes}
 use Rattle.refusals.specs.declared.Verdict.the-variants as verdict
 use Rattle.refusals.proofs.Verdicts.{clash}
+use Rattle.refusals.proofs.Scan.{FirstOf}
 use Rattle.model.specs.Automaton.{Automaton, meets}
 use Rattle.model.specs.Lists.{Lists, automatonOf}
 use Rattle.model.specs.Plans.{Plan}
@@ -27,30 +28,29 @@ use Rattle.planwalk.specs.Walked.{stepsOfPlan, walkOf, firstMet}
 use Rattle.planwalk.proofs.Steps.{walk-least}
 use Rattle.planwalk.proofs.Refused.{walk-refused, walk-no-colour}
 
--- below n the test is true at a least place, or at none
-abbrev LeastOrNone : (ℕ → Bool) → ℕ → Type 0
-LeastOrNone f n = ((a : ℕ) × (a < n) × (f a ≡ true) × ((a' : ℕ) → a' < a → f a' ≡ false)) ⊎ ((a : ℕ) → a < n → f a ≡ false)
+-- of n places one is the first that passes the test, or none passes
+abbrev FirstOrNone : (ℕ → Bool) → ℕ → Type 0
+FirstOrNone test n = ((d : ℕ) × FirstOf test n d) ⊎ ((j : ℕ) → j < n → test j ≡ false)
 
--- of every test one of the two holds
-least-or-none : (f : ℕ → Bool) (n : ℕ) → LeastOrNone f n
-least-or-none f zero = inr (λ a h. absurd (omega arith))
-least-or-none f (suc n) = go (least-or-none f n) (f n) refl
+first-or-none : (test : ℕ → Bool) (n : ℕ) → FirstOrNone test n
+first-or-none test zero = inr (λ j h. absurd (omega arith))
+first-or-none test (suc n) = go (first-or-none test n) (test n) refl
   where
-    go : LeastOrNone f n → (t : Bool) → f n ≡ t → LeastOrNone f (suc n)
-    go (inl (a, h, m, before)) t e = inl (a, omega arith, m, before)
-    go (inr none) true e = inl (n, omega arith, e, none)
+    go : FirstOrNone test n → (t : Bool) → test n ≡ t → FirstOrNone test (suc n)
+    go (inl (d, f)) t e = inl (d, record { within = omega (arith, f .within); passes = f .passes; before = f .before })
+    go (inr none) true e = inl (n, record { within = omega arith; passes = e; before = none })
     go (inr none) false e =
-        inr (λ a h. elim (decLe n a) [ yes q ↦ (let same : a ≡ n = omega arith in rw same e) | no q ↦ none a (omega arith) ])
+        inr (λ j h. elim (decLe n j) [ yes q ↦ (let same : j ≡ n = omega arith in rw same e) | no q ↦ none j (omega arith) ])
 
 module _ (g : Automaton) (j : ℕ) where
-  -- the least step that meets the colour is answered
-  least-met : (w : List ℕ) (i a : ℕ) → a < length w → meets g j (getD w a 0) ≡ true → ((a' : ℕ) → a' < a → meets g j (getD w a' 0) ≡ false)
-      → firstMet g j w i ≡ Met (suc (i + a))
+  -- the first step that meets the colour is answered
+  least-met : (w : List ℕ) (i a : ℕ) → FirstOf (λ d. meets g j (getD w d 0)) (length w) a → firstMet g j w i ≡ Met (suc (i + a))
   unfolding firstMet
-  least-met [] i a h m before = absurd (omega arith)
-  least-met (b ∷ w) i zero h m before = rw m (ap Met (omega arith))
-  least-met (b ∷ w) i (suc a) h m before =
-      rw (before 0 (omega arith)) (least-met w (suc i) a (omega arith) m (λ a' q. before (suc a') (omega arith)) ∙ ap Met (omega arith))
+  least-met [] i a f = absurd (omega (arith, f .within))
+  least-met (b ∷ w) i zero f = rw (f .passes) (ap Met (omega arith))
+  least-met (b ∷ w) i (suc a) f =
+      let rest : FirstOf (λ d. meets g j (getD w d 0)) (length w) a = record { within = omega (arith, f .within); passes = f .passes; before = λ d q. f .before (suc d) (omega arith) } in
+      rw (f .before 0 (omega arith)) (least-met w (suc i) a rest ∙ ap Met (omega arith))
 
   -- where none meets it, all steps are counted
   none-met : (w : List ℕ) (i : ℕ) → ((a : ℕ) → a < length w → meets g j (getD w a 0) ≡ false) → firstMet g j w i ≡ Spent (i + length w)
@@ -59,16 +59,15 @@ module _ (g : Automaton) (j : ℕ) where
   none-met (b ∷ w) i none = rw (none 0 (omega arith)) (none-met w (suc i) (λ a q. none (suc a) (omega arith)) ∙ ap Spent (omega arith))
 
   module _ (w : List ℕ) (i x : ℕ) where
-    -- "met" is answered for the least step that meets the colour, counted from 1 on behind the i steps before the list
-    pub first-met : (firstMet g j w i ≡ Met x)
-        ↔ ((a : ℕ) × (x ≡ suc (i + a)) × (a < length w) × (meets g j (getD w a 0) ≡ true) × ((a' : ℕ) → a' < a → meets g j (getD w a' 0) ≡ false))
+    -- "met" is answered for the first step that meets the colour, counted from 1 on behind the i steps before the list
+    pub first-met : (firstMet g j w i ≡ Met x) ↔ ((a : ℕ) × (x ≡ suc (i + a)) × FirstOf (λ d. meets g j (getD w d 0)) (length w) a)
     first-met = (
       λ q.
           ⊎-elim
-          (λ (a, h, m, before). (a, cc (least-met w i a h m before), h, m, before))
+          (λ (a, f). (a, cc (least-met w i a f), f))
           (λ none. clash (cc (none-met w i none)))
-          (least-or-none (λ a. meets g j (getD w a 0)) (length w)),
-      λ (a, q, h, m, before). least-met w i a h m before ∙ ap Met (sym q),
+          (first-or-none (λ d. meets g j (getD w d 0)) (length w)),
+      λ (a, q, f). least-met w i a f ∙ ap Met (sym q),
     )
 
     -- "spent" is answered where no step meets the colour, and all are counted
@@ -76,9 +75,9 @@ module _ (g : Automaton) (j : ℕ) where
     first-spent = (
       λ q.
           ⊎-elim
-          (λ (a, h, m, before). clash (cc (least-met w i a h m before)))
+          (λ (a, f). clash (cc (least-met w i a f)))
           (λ none. (cc (none-met w i none), none))
-          (least-or-none (λ a. meets g j (getD w a 0)) (length w)),
+          (first-or-none (λ d. meets g j (getD w d 0)) (length w)),
       λ (q, none). none-met w i none ∙ ap Spent (sym q),
     )
 
@@ -110,21 +109,19 @@ module _ (n s k : ℕ) (l : Lists) (b c p q : ℕ) (w : List ℕ) (j t : ℕ) wh
     long : length (stepsOfPlan (planOf p w) t) ≡ t
     long = steps-length (planOf p w) t (judged-yes n s k l b c p q w .0 accepted .serves .plan .some-arc)
 
-  -- The call answers "met" with x exactly where judging accepts the plan, the model has colour j, and step x is within the allowance, meets
-  -- colour j, and no step before it does.
+  -- The call answers "met" with x exactly where judging accepts the plan, the model has colour j, and of the allowance's steps x, counted from
+  -- 1 on, is the first that meets colour j.
   pub walk-met : (x : ℕ) → (walkOf n s k l b c p q w j t ≡ Met x)
-      ↔ (
-      (judged n s k l b c p q w ≡ Yes) × (j < k)
-      × ((a : ℕ) × (x ≡ suc a) × (a < t) × (meetsAt a ≡ true) × ((a' : ℕ) → a' < a → meetsAt a' ≡ false))
-      )
+      ↔ ((judged n s k l b c p q w ≡ Yes) × (j < k) × ((a : ℕ) × (x ≡ suc a) × FirstOf meetsAt t a))
   walk-met x =
       let first = first-met (automatonOf n s k l) j (stepsOfPlan (planOf p w) t) 0 x in (
         λ e.
             let (accepted, h) = walked-only (λ r q. clash (cc)) in
-            let (a, i, f, m, before) = first .0 (sym (walk-least n s k l b c p q w accepted j t h) ∙ e) in
-            (accepted, h, (a, omega arith, omega (arith, long accepted), m, before)),
-        λ (accepted, h, (a, i, f, m, before)).
-            walk-least n s k l b c p q w accepted j t h ∙ first .1 (a, omega arith, omega (arith, long accepted), m, before),
+            let (a, i, f) = first .0 (sym (walk-least n s k l b c p q w accepted j t h) ∙ e) in
+            (accepted, h, (a, omega arith, subst (λ (u : ℕ). FirstOf meetsAt u a) (long accepted) f)),
+        λ (accepted, h, (a, i, f)).
+            walk-least n s k l b c p q w accepted j t h
+            ∙ first .1 (a, omega arith, subst (λ (u : ℕ). FirstOf meetsAt u a) (sym (long accepted)) f),
       )
 
   -- "'Spent' is the answer only when exactly the allowance has been walked without meeting j."

@@ -1,3 +1,4 @@
--- Laws of verdicts, and of the tests they are made of.
+-- Laws of verdicts (Verdicts), of the tests they are made of (Tests), and of scans for the first place that is refused (Scan).
 pub mod Verdicts
 pub mod Tests
+pub mod Scan

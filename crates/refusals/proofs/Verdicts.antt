@@ -33,3 +33,13 @@ and-then-stop u v r e = rw e refl
 pub and-then-last : (u v : Verdict) (r : Refusal) → andThen u (Refused r) ≡ andThen (andThen u (Refused r)) v
 and-then-last Yes v r = refl
 and-then-last (Refused q) v r = refl
+
+-- a refusal that is neither this row's nor answered by what is checked after it is not answered
+pub refuse-not : (t : Bool) (q r : Refusal) (v : Verdict) → (Refused q ≡ Refused r → ⊥) → (v ≡ Refused r → ⊥) → refuse t q v ≡ Refused r → ⊥
+refuse-not true q r v here after = here
+refuse-not false q r v here after = after
+
+-- a refusal that the first of two checks does not answer is answered only where that check says yes
+pub and-then-second : (u v : Verdict) (r : Refusal) → (u ≡ Refused r → ⊥) → andThen u v ≡ Refused r → u ≡ Yes
+and-then-second Yes v r not e = refl
+and-then-second (Refused q) v r not e = absurd (not e)

@@ -33,23 +33,17 @@ returns c =
 shared-slice-read-arc : tie.Need-shared-slice-read-arc Inv-loop μ-loop
 shared-slice-read-arc c = search needs
 
-cast-arc : tie.Need-cast-arc Inv-loop μ-loop
-cast-arc c =
+arc-number : tie.Need-element-copy-out-arc Inv-loop μ-loop
+arc-number c =
     let d = c .before .before .before in
     let o = d .before .pre .1 in
     omega (arith, o .few, o .below (d .loop .i) (omega arith))
+
+cast-arc : tie.Need-cast-arc Inv-loop μ-loop
+cast-arc c = omega (arith, arc-number c)
 
 mul-arc : tie.Need-mul-arc Inv-loop μ-loop
-mul-arc c =
-    let d = c .before .before .before in
-    let o = d .before .pre .1 in
-    omega (arith, o .few, o .below (d .loop .i) (omega arith))
-
-element-copy-out-arc : tie.Need-element-copy-out-arc Inv-loop μ-loop
-element-copy-out-arc c =
-    let d = c .before .before .before in
-    let o = d .before .pre .1 in
-    omega (arith, o .few, o .below (d .loop .i) (omega arith))
+mul-arc c = omega (arith, arc-number c)
 
 cast-met : tie.Need-cast-met Inv-loop μ-loop
 cast-met c = search needs
@@ -83,7 +77,7 @@ met-colours-spec =
     shared-slice-read-arc
     cast-arc
     mul-arc
-    element-copy-out-arc
+    arc-number
     cast-met
     add-i
     loop-less

@@ -27,23 +27,17 @@ loop-holds c = (omega arith, rw (add-zero (c .before .args .step)) refl)
 shared-slice-read-arc : tie.Need-shared-slice-read-arc Inv-loop μ-loop
 shared-slice-read-arc c = search needs
 
-cast-arc : tie.Need-cast-arc Inv-loop μ-loop
-cast-arc c =
+arc-number : tie.Need-element-copy-out-arc Inv-loop μ-loop
+arc-number c =
     let d = c .before .before in
     let o = d .before .before .pre .0 in
     omega (arith, o .few, o .below (d .loop .i) (omega arith))
+
+cast-arc : tie.Need-cast-arc Inv-loop μ-loop
+cast-arc c = omega (arith, arc-number c)
 
 mul-arc : tie.Need-mul-arc Inv-loop μ-loop
-mul-arc c =
-    let d = c .before .before in
-    let o = d .before .before .pre .0 in
-    omega (arith, o .few, o .below (d .loop .i) (omega arith))
-
-element-copy-out-arc : tie.Need-element-copy-out-arc Inv-loop μ-loop
-element-copy-out-arc c =
-    let d = c .before .before in
-    let o = d .before .before .pre .0 in
-    omega (arith, o .few, o .below (d .loop .i) (omega arith))
+mul-arc c = omega (arith, arc-number c)
 
 bounded-step-requires : tie.Need-bounded-step-requires Inv-loop μ-loop
 bounded-step-requires c κs = search needs
@@ -108,7 +102,7 @@ run-spec =
     shared-slice-read-arc
     cast-arc
     mul-arc
-    element-copy-out-arc
+    arc-number
     bounded-step-requires
     enum-known-next
     enum-told
