@@ -27,7 +27,7 @@ use Rattle.model.proofs.Fitness.{fitness-yes, levels-yes}
 use Rattle.model.proofs.Plans.{serves-walked}
 use Rattle.gauges.specs.declared.Gauge.{Gauge}
 use Rattle.gauges.specs.declared.Gauged.{Gauged}
-use Rattle.gauges.specs.Gauge.{gauge, gauged, startedOf, landed, movedOf, movedLevelled, steppedOf, onYes, afterGauged, stepsOf}
+use Rattle.gauges.specs.Gauge.{gauge, gauged, startedOf, landed, movedOf, movedLevelled, steppedOf, stopAt, afterGauged, stepsOf}
 use Rattle.gauges.proofs.Gauges.{moved-number, moved-mode, moved-lands}
 
 -- two accepted gauges are equal exactly where their modes and their charges are
@@ -82,7 +82,7 @@ mode-refused n s k l b a x fit levels h far =
 after-yes : (y : Gauged) (f : Gauge → Gauged) (z : Gauge) → (afterGauged y f ≡ gauged Yes z) ↔ ((u : Gauge) × (y ≡ gauged Yes u) × (f u ≡ gauged Yes z))
 after-yes y f z = go (y .verdict) (y .gauge)
   where
-    go : (v : Verdict) (x : Gauge) → (onYes v x f ≡ gauged Yes z) ↔ ((u : Gauge) × (gauged v x ≡ gauged Yes u) × (f u ≡ gauged Yes z))
+    go : (v : Verdict) (x : Gauge) → (stopAt v x (f x) ≡ gauged Yes z) ↔ ((u : Gauge) × (gauged v x ≡ gauged Yes u) × (f u ≡ gauged Yes z))
     go Yes x = (λ q. (x, refl, q), λ (u, p, q). ap {B = Gauged} (λ (t : Gauged). f (t .gauge)) p ∙ q)
     go (Refused r) x = (λ q. not-yes r x z q, λ (u, p, q). not-yes r x u p)
 

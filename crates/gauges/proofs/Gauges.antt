@@ -18,7 +18,7 @@ use Rattle.model.specs.Lists.{Lists, held}
 use Rattle.model.specs.Fitness.{fittedOf, levelsOf, Holds}
 use Rattle.model.proofs.Held.{arcIn, held-arc, told-verdict, told-held}
 use Rattle.gauges.specs.declared.Gauge.{Gauge}
-use Rattle.gauges.specs.Gauge.{gauge, gauged, noGauge, landed, startedIf, startedOf, movedOf, movedLevelled, steppedOf}
+use Rattle.gauges.specs.Gauge.{gauge, gauged, noGauge, stopAt, landed, startedOf, movedOf, movedLevelled, steppedOf}
 
 module _ (g : Automaton) (b a : ℕ) (x : Gauge) where
   -- 12 applies
@@ -62,7 +62,7 @@ module _ (g : Model) (holds : Holds g) (b a : ℕ) (x : Gauge) where
 module _ (n s k : ℕ) (l : Lists) (y : Fitted) (told : y ≡ fittedOf n s k l) where
   module _ (b c : ℕ) where
     -- starting on a fit model: 6 decides
-    pub start-fit : y .verdict ≡ Yes → startedIf (levelsOf b c) (gauge (y .model .start) c) ≡ startedOf n s k l b c
+    pub start-fit : y .verdict ≡ Yes → stopAt (levelsOf b c) noGauge (gauged Yes (gauge (y .model .start) c)) ≡ startedOf n s k l b c
     unfolding startedOf
     start-fit e =
         let same : y .model .start ≡ s = ap {B = ℕ} (λ (g : Automaton). g .start) (told-held n s k l y told e) in

@@ -2,7 +2,7 @@
 ghost use mathlib.Core.Path.{_≡_};
 ghost use Rattle.model.specs.Lists.{lists, held};
 ghost use Rattle.model.specs.Fitness.{levelsOf, Holds};
-ghost use Rattle.gauges.specs.Gauge.{gauge, gauged, startedIf, startedOf, movedOf, movedLevelled, steppedOf};
+ghost use Rattle.gauges.specs.Gauge.{gauge, gauged, noGauge, stopAt, startedOf, movedOf, movedLevelled, steppedOf};
 use model::Model;
 use model::check_levels;
 use model::check_model;
@@ -48,7 +48,7 @@ fn accepted(mode: u8, charge: u16) -> Gauged
 
 // Refusal 6, and the new gauge, where the model is fit.
 fn start_levelled(start: u8, c: u32, b: u32) -> Gauged
-    ensures { λ r. ⌜ r ≡ startedIf (levelsOf b c) (gauge start c) ⌝ }
+    ensures { λ r. ⌜ r ≡ stopAt (levelsOf b c) noGauge (gauged Verdict.Yes (gauge start c)) ⌝ }
 {
     let levels = check_levels(c, b);
     match levels {

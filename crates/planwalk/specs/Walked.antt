@@ -37,13 +37,14 @@ abbrev pub metOr : Bool → ℕ → Walked → Walked
 metOr true t f = outcome.Met t
 metOr false t f = f
 
--- what follows a start or a step goes on from its gauge; a refusal ends the walk, which does not happen to a judged plan (theorem walk-least)
-abbrev pub walkFrom : Verdict → Gauge → (Gauge → Walked) → Walked
-walkFrom Yes x f = f x
-walkFrom (Refused r) x f = outcome.Refused r
+-- a refusal ends the walk; where nothing refuses, what follows answers
+abbrev pub walkIf : Verdict → Walked → Walked
+walkIf Yes f = f
+walkIf (Refused r) f = outcome.Refused r
 
+-- what follows a start or a step goes on from its gauge; neither is refused where the plan is judged (theorem walk-least)
 abbrev pub walkOn : Gauged → (Gauge → Walked) → Walked
-walkOn y f = walkFrom (y .verdict) (y .gauge) f
+walkOn y f = walkIf (y .verdict) (f (y .gauge))
 
 -- the gauge x stepped on the arcs of the list, i steps having been made, until colour j is met; "'Spent' is the answer only when exactly the
 -- allowance has been walked without meeting j": the list has as many arcs as the allowance has steps
@@ -51,11 +52,6 @@ unfoldable pub gaugeWalk : ℕ → ℕ → ℕ → Lists → ℕ → ℕ → Lis
 gaugeWalk n s k l b j [] i x = outcome.Spent i
 gaugeWalk n s k l b j (a ∷ w) i x =
     walkOn (steppedOf n s k l b a x) λ y. metOr (meets (automatonOf n s k l) j a) (suc i) (gaugeWalk n s k l b j w (suc i) y)
-
--- a refusal is the answer; else the walk answers
-abbrev pub walkIf : Verdict → Walked → Walked
-walkIf Yes f = f
-walkIf (Refused r) f = outcome.Refused r
 
 -- the call: "walk 1 to 6 and 11 to 18", "j not below k, looked at after the plan"; then the walk of the gauge from its start
 unfoldable pub walkOf : ℕ → ℕ → ℕ → Lists → ℕ → ℕ → ℕ → ℕ → List ℕ → ℕ → ℕ → Walked
