@@ -1,0 +1,278 @@
+-- Laws of a pass over its queue: arcs that are tried, entries that are visited, and what the pass leaves. Assumes nothing.
+use mathlib.Core.Path.{_≡_, refl, sym, ap, subst, _∙_}
+use mathlib.Core.Bool.{Bool, true, false, true≢false, false≢true}
+use mathlib.Core.List.{List}
+use Prim.Native.Nat.{ℕ, _+_, _*_, _≤_, _<_}
+use native.Mathlib.Omega.{arith}
+use native.Mathlib.Decide.{ℕ-discrete, decLt}
+use lib.ListN.{length, getD, set, replicate, length-replicate, getD-replicate, List·getD-eq-default}
+use lib.Seq.{getD-set-same, getD-set-other}
+use borrow.Author.Count.{below-more}
+use Rattle.passes.specs.Pass.{Pass, Along, closes}
+use Rattle.passes.specs.Queue.{nodeAt, chargeAt, Entry, Queue, Pushed, Arrived, stops, knows, rises, Grown, Covers, Hits}
+use Rattle.passes.specs.Queue.{Tried, Visited, Begun, Treated, Passed}
+use Rattle.passes.proofs.Queue.{along-unique, sum-set, set-low, push-queue, push-grown}
+
+-- a state is a later state of itself ..
+grown-refl : (best w : List ℕ) (tail : ℕ) → Grown best w tail best w tail
+grown-refl best w tail =
+    record { more = omega arith; kept = λ j h. refl; up = λ v. omega arith; best-size = refl; size = refl }
+
+-- .. and a later state of a later state is one
+grown-trans : {b0 w0 b1 w1 b2 w2 : List ℕ} {t0 t1 t2 : ℕ} → Grown b0 w0 t0 b1 w1 t1 → Grown b1 w1 t1 b2 w2 t2 → Grown b0 w0 t0 b2 w2 t2
+grown-trans g h =
+    let m1 = g .more in
+    let m2 = h .more in
+    record {
+      more = omega arith;
+      kept = λ j l. h .kept j (omega arith) ∙ g .kept j l;
+      up = λ v. omega (arith, g .up v, h .up v);
+      best-size = h .best-size ∙ g .best-size;
+      size = h .size ∙ g .size;
+    }
+
+-- an entry stays as it is
+entry-same : {best w best′ w′ : List ℕ} {tail tail′ : ℕ} (i : ℕ) → Grown best w tail best′ w′ tail′ → i < tail
+    → (nodeAt w′ i ≡ nodeAt w i) × (chargeAt w′ i ≡ chargeAt w i)
+entry-same i g h = (g .kept (4 * i) (omega arith), g .kept (4 * i + 1) (omega arith))
+
+-- what holds of a node and a charge holds of equal ones
+equal-pair : (F : ℕ → ℕ → Type 0) {v v′ e e′ : ℕ} → v ≡ v′ → e ≡ e′ → F v e → F v′ e′
+equal-pair F {v} {v′} {e} {e′} pv pe f = subst (λ n. F n e′) pv (subst (λ n. F v n) pe f)
+
+-- what is covered stays covered as the table rises
+covers-up : {P : Pass} {a v e : ℕ} (best best′ : List ℕ) → ((u : ℕ) → getD best u 0 ≤ getD best′ u 0) → Covers P best a v e
+    → Covers P best′ a v e
+covers-up best best′ up c = record { knows = λ u x s. omega (arith, c .knows u x s, up u); passes = c .passes }
+
+-- an arc is covered by its one result
+covers-step : {P : Pass} {a v e u x : ℕ} (best : List ℕ) → Along P a v e u x → x + 1 ≤ getD best u 0
+    → closes (P .goal) (P .least) u x ≡ false → Covers P best a v e
+covers-step {P} {a} {v} {e} {u} {x} best s h c =
+    record {
+      knows = λ u′ x′ s′. omega (arith, h, along-unique s s′ .1, ap (λ n. getD best n 0) (along-unique s s′ .0));
+      passes = λ u′ x′ s′. rw (along-unique s s′ .0, along-unique s s′ .1) c;
+    }
+
+-- an arc that is covered, in a later state
+tried-covered : {P : Pass} {best w best′ w′ : List ℕ} {tail a v e tail′ : ℕ} → Queue P best′ w′ tail′ → Grown best w tail best′ w′ tail′
+    → Covers P best′ a v e → Tried P best w tail a (a + 1) v e best′ w′ false a tail′
+tried-covered {P} {best′ = best′} {a = a} {v = v} {e = e} q g c =
+    record {
+      queue = q;
+      grown = g;
+      covers = λ off i lo hi. subst (λ n. Covers P best′ n v e) {x = a} {y = i} (omega arith) c;
+      hits = λ on. absurd (false≢true on);
+    }
+
+-- what is done where an arc arrives is what trying it asks
+pub arrived-tried : {P : Pass} {best w best′ w′ : List ℕ} {tail h a u x tail′ : ℕ} {hit : Bool} → Queue P best w tail → h < tail
+    → Along P a (nodeAt w h) (chargeAt w h) u x → u < length best
+    → Arrived (P .goal) (P .least) best w tail u x h a best′ w′ hit tail′
+    → Tried P best w tail a (a + 1) (nodeAt w h) (chargeAt w h) best′ w′ hit a tail′
+arrived-tried {P} {best} {w} {tail = tail} {u = u} {x = x} q hh s hu (stops c eb ew eh et) =
+    rw (eb, ew, eh, et)
+    (record {
+      queue = q;
+      grown = grown-refl best w tail;
+      covers = λ off. absurd (true≢false off);
+      hits = λ on. record { node = u; charge = x; step = s; stops = c };
+    })
+arrived-tried {P} {best} {w} {tail = tail} q hh s hu (knows c known eb ew eh et) =
+    rw (eb, ew, eh, et) (tried-covered q (grown-refl best w tail) (covers-step best s known c))
+arrived-tried {P} {best} {w} {best′} {w′} {tail} {h} {a} {u} {x} q hh s hu (rises c up eb p eh et) =
+    rw (eb, eh, et)
+    (tried-covered (push-queue P best w w′ tail u x h a q p hh s hu up) (push-grown P best w w′ tail u x h a q p hh s hu up)
+    (covers-step (set best u (x + 1)) s (omega (arith, getD-set-same best u (x + 1) 0 hu)) c))
+
+-- an arc that is not possible asks nothing
+pub tried-impossible : {P : Pass} {best w : List ℕ} {tail a v e : ℕ} → Queue P best w tail → ((u x : ℕ) → Along P a v e u x → ⊥)
+    → Tried P best w tail a (a + 1) v e best w false a tail
+tried-impossible {P} {best} {w} {tail} q n =
+    tried-covered q (grown-refl best w tail) (record { knows = λ u x s. absurd (n u x s); passes = λ u x s. absurd (n u x s) })
+
+-- no arc is tried
+pub tried-none : {P : Pass} {best w : List ℕ} {tail : ℕ} (lo v e a : ℕ) → Queue P best w tail
+    → Tried P best w tail lo lo v e best w false a tail
+tried-none {P} {best} {w} {tail} lo v e a q =
+    record {
+      queue = q;
+      grown = grown-refl best w tail;
+      covers = λ off i l h. absurd (omega arith);
+      hits = λ on. absurd (false≢true on);
+    }
+
+-- some arcs and then some more
+pub tried-more : {P : Pass} {best w b1 w1 b2 w2 : List ℕ} {tail lo mid hi v e a1 a2 t1 t2 : ℕ} {hit : Bool}
+    → Tried P best w tail lo mid v e b1 w1 false a1 t1 → Tried P b1 w1 t1 mid hi v e b2 w2 hit a2 t2
+    → Tried P best w tail lo hi v e b2 w2 hit a2 t2
+tried-more {P} {b1 = b1} {b2 = b2} {lo = lo} {mid = mid} {hi = hi} {v = v} {e = e} {hit = hit} s r =
+    record {
+      queue = r .queue;
+      grown = grown-trans (s .grown) (r .grown);
+      covers = λ off i l h. go off i l h (decLt i mid);
+      hits = r .hits;
+    }
+  where
+    go : hit ≡ false → (i : ℕ) → lo ≤ i → i < hi → Dec (i < mid) → Covers P b2 i v e
+    go off i l h (yes lt) = covers-up b1 b2 (r .grown .up) (s .covers refl i l lt)
+    go off i l h (no ge) = r .covers off i (omega arith) h
+
+-- where no arc hits, the number of the arc is free
+pub tried-free : {P : Pass} {best w best′ w′ : List ℕ} {tail lo hi v e a tail′ : ℕ} (a′ : ℕ)
+    → Tried P best w tail lo hi v e best′ w′ false a tail′ → Tried P best w tail lo hi v e best′ w′ false a′ tail′
+tried-free a′ t = record { queue = t .queue; grown = t .grown; covers = t .covers; hits = λ on. absurd (false≢true on) }
+
+-- where an arc hits, the arcs after it need not be tried
+pub tried-hit : {P : Pass} {best w best′ w′ : List ℕ} {tail lo hi v e a tail′ : ℕ} (hi′ : ℕ)
+    → Tried P best w tail lo hi v e best′ w′ true a tail′ → Tried P best w tail lo hi′ v e best′ w′ true a tail′
+tried-hit hi′ t = record { queue = t .queue; grown = t .grown; covers = λ off. absurd (true≢false off); hits = t .hits }
+
+-- every arc is tried at an entry
+pub visited-tried : {P : Pass} {best w best′ w′ : List ℕ} {head tail a tail′ : ℕ} {hit : Bool}
+    → Tried P best w tail 0 (length (P .lists .sources)) (nodeAt w head) (chargeAt w head) best′ w′ hit a tail′
+    → Visited P best w tail head best′ w′ hit a tail′
+visited-tried t =
+    record {
+      queue = t .queue;
+      grown = t .grown;
+      covers =
+          λ off e i.
+          record {
+            knows = λ u x s. t .covers off i (omega arith) (s .known) .knows u x s;
+            passes = λ u x s. t .covers off i (omega arith) (s .known) .passes u x s;
+          };
+      hits = t .hits;
+    }
+
+-- an entry whose charge is no longer the greatest of its node asks nothing
+pub visited-stale : {P : Pass} {best w : List ℕ} {head tail : ℕ} (a : ℕ) → Queue P best w tail
+    → (getD best (nodeAt w head) 0 ≡ chargeAt w head + 1 → ⊥) → Visited P best w tail head best w false a tail
+visited-stale {P} {best} {w} {head} {tail} a q n =
+    record {
+      queue = q;
+      grown = grown-refl best w tail;
+      covers = λ off e. absurd (n e);
+      hits = λ on. absurd (false≢true on);
+    }
+
+-- a table that has 0 everywhere
+abbrev blank : ℕ → List ℕ
+blank m = replicate m 0
+
+zeros : (m v : ℕ) → getD (blank m) v 0 ≡ 0
+zeros m v = go (decLt v m)
+  where
+    go : Dec (v < m) → getD (blank m) v 0 ≡ 0
+    go (yes lt) = getD-replicate m v 0 0 lt
+    go (no ge) = List·getD-eq-default (blank m) 0 (rw (length-replicate {A = ℕ} m 0) (omega arith))
+
+-- the queue of the first entry alone
+pub treated-first : (P : Pass) (m : ℕ) (w w′ : List ℕ) (s c : ℕ) → s < m → c ≤ P .bound → Pushed w 0 s c 0 0 w′
+    → Treated P s c (set (replicate m 0) s (c + 1)) w′ 0 1
+treated-first P m w w′ s c hs hc p =
+    record {
+      from =
+          record {
+            queue =
+                record {
+                  some = omega arith;
+                  made = λ i h0 h1. absurd (omega arith);
+                  held = λ v h. held v h (ℕ-discrete v s);
+                  known = λ i h. known i (omega arith);
+                  low = set-low P (blank m) s c long (λ u. omega (arith, zeros m u)) hc;
+                  counted = omega (arith, sum-set (blank m) s (c + 1) long, zeros m s);
+                };
+            node = p .node;
+            charge = p .charge;
+            begun = omega (arith, same);
+          };
+      within = omega arith;
+      treated = λ i h. absurd (omega arith);
+    }
+  where
+    long : s < length (blank m)
+    long = rw (length-replicate {A = ℕ} m 0) hs
+
+    same : getD (set (blank m) s (c + 1)) s 0 ≡ c + 1
+    same = getD-set-same (blank m) s (c + 1) 0 long
+
+    known : (i : ℕ) → i ≡ 0 → chargeAt w′ i + 1 ≤ getD (set (blank m) s (c + 1)) (nodeAt w′ i) 0
+    known i e =
+        subst (λ n. chargeAt w′ n + 1 ≤ getD (set (blank m) s (c + 1)) (nodeAt w′ n) 0) (sym e)
+        (rw (p .node, p .charge) (omega (arith, same)))
+
+    held : (v : ℕ) → 0 < getD (set (blank m) s (c + 1)) v 0 → Dec (v ≡ s)
+        → Entry w′ 0 1 v (getD (set (blank m) s (c + 1)) v 0)
+    held v h (yes e) =
+        let k : getD (set (blank m) s (c + 1)) v 0 ≡ c + 1 = rw e same in
+        let pc = p .charge in
+        record { index = 0; from = omega arith; before = omega arith; node = p .node ∙ sym e; charge = omega arith }
+    held v h (no ne) = absurd (omega (arith, getD-set-other (blank m) s v (c + 1) 0 ne, zeros m v))
+
+-- a queue stays one from its first entry as it grows
+begun-grown : {P : Pass} {s c tail tail′ : ℕ} {best w best′ w′ : List ℕ} → Begun P s c best w tail → Queue P best′ w′ tail′
+    → Grown best w tail best′ w′ tail′ → Begun P s c best′ w′ tail′
+begun-grown {s = s} b q g =
+    let (en, ec) = entry-same 0 g (b .queue .some) in
+    record {
+      queue = q;
+      node = en ∙ b .node;
+      charge = ec ∙ b .charge;
+      begun = omega (arith, b .begun, g .up s);
+    }
+
+-- one entry more is treated
+pub treated-more : {P : Pass} {s c head tail a tail′ : ℕ} {best w best′ w′ : List ℕ} → Treated P s c best w head tail → head < tail
+    → Visited P best w tail head best′ w′ false a tail′ → Treated P s c best′ w′ (head + 1) tail′
+treated-more {P} {s} {c} {head} {tail} {a} {tail′} {best} {w} {best′} {w′} t h r =
+    record {
+      from = begun-grown (t .from) (r .queue) (r .grown);
+      within = omega (arith, r .grown .more);
+      treated =
+          below-more
+          (λ i. getD best′ (nodeAt w′ i) 0 ≡ chargeAt w′ i + 1 → (n : ℕ) → Covers P best′ n (nodeAt w′ i) (chargeAt w′ i))
+          head old (λ e n. move head h n (r .covers refl (was head h e) n));
+    }
+  where
+    move : (i : ℕ) → i < tail → (n : ℕ) → Covers P best′ n (nodeAt w i) (chargeAt w i) → Covers P best′ n (nodeAt w′ i) (chargeAt w′ i)
+    move i hi n = let (en, ec) = entry-same i (r .grown) hi in equal-pair (λ v e. Covers P best′ n v e) (sym en) (sym ec)
+
+    was : (i : ℕ) → i < tail → getD best′ (nodeAt w′ i) 0 ≡ chargeAt w′ i + 1 → getD best (nodeAt w i) 0 ≡ chargeAt w i + 1
+    was i hi e =
+        let (en, ec) = entry-same i (r .grown) hi in
+        let e′ : getD best′ (nodeAt w i) 0 ≡ chargeAt w i + 1 = rw (en, ec) at e in
+        omega (arith, r .grown .up (nodeAt w i), t .from .queue .known i hi)
+
+    old : (i : ℕ) → i < head → getD best′ (nodeAt w′ i) 0 ≡ chargeAt w′ i + 1 → (n : ℕ) → Covers P best′ n (nodeAt w′ i) (chargeAt w′ i)
+    old i hi e n = move i (omega arith) n (covers-up best best′ (r .grown .up) (t .treated i hi (was i (omega arith) e) n))
+
+-- every entry is treated
+pub passed-closed : {P : Pass} {s c head tail : ℕ} {best w : List ℕ} (a : ℕ) → Treated P s c best w head tail → tail ≤ head
+    → Passed P s c best w false head a tail
+passed-closed {P} {s} {c} {head} {tail} {best} {w} a t h =
+    record {
+      from = t .from;
+      closed = λ off. closed;
+      before = λ on. absurd (false≢true on);
+      hits = λ on. absurd (false≢true on);
+    }
+  where
+    closed : (v x : ℕ) → getD best v 0 ≡ x + 1 → (i : ℕ) → Covers P best i v x
+    closed v x hv i =
+        let n = t .from .queue .held v (omega arith) in
+        let nb = n .before in
+        let nc = n .charge in
+        equal-pair (λ v e. Covers P best i v e) (n .node) (omega arith)
+        (t .treated (n .index) (omega arith) (ap (λ k. getD best k 0) (n .node) ∙ sym (n .charge)) i)
+
+-- an arc hits
+pub passed-hit : {P : Pass} {s c head tail a tail′ : ℕ} {best w best′ w′ : List ℕ} → Treated P s c best w head tail → head < tail
+    → Visited P best w tail head best′ w′ true a tail′ → Passed P s c best′ w′ true head a tail′
+passed-hit {P} {head = head} {a = a} t h r =
+    record {
+      from = begun-grown (t .from) (r .queue) (r .grown);
+      closed = λ off. absurd (true≢false off);
+      before = λ on. omega (arith, r .grown .more);
+      hits = λ on. let (n, c) = entry-same head (r .grown) h in equal-pair (λ v e. Hits P a v e) (sym n) (sym c) (r .hits refl);
+    }

@@ -1,0 +1,170 @@
+-- Laws of the arcs that are read back: their number, how they are written from the last to the first, that a queue can be read; and of the
+-- search for an entry. Assumes nothing.
+use mathlib.Core.Path.{_≡_, refl, sym, ap, subst, subst₂, _∙_}
+use mathlib.Core.Bool.{Bool, true, false, true≢false, _&&_, and-eq-true-iff}
+use mathlib.Core.List.{List, [], _∷_, _++_}
+use Prim.Native.Nat.{ℕ, zero, suc, _+_, _-_, _≤_, _<_}
+use native.Mathlib.Omega.{arith}
+use native.Mathlib.Numerals.{add-one}
+use native.Mathlib.Decide.{ℕ-discrete}
+use borrow.Author.Tests.{eqb-true, eq-eqb}
+use lib.Dec.{eqb}
+use lib.ListN.{length, set, take, drop, length-set}
+use lib.Seq.{getD-set-same, slice, slice-cons, slice-empty, drop-set-lt, take-set-lt}
+use Rattle.passes.specs.Pass.{Pass, Ready}
+use Rattle.passes.specs.Queue.{nodeAt, chargeAt, parentAt, numberAt, Entry, Queue}
+use Rattle.passes.specs.Trace.{Linked, Chain, root, link, Traced, here, there, Wrote}
+use Rattle.passes.proofs.Queue.{entry-space}
+
+-- no more parents than the entry's number
+pub chain-le : {w : List ℕ} {i j d : ℕ} → Linked w i → Chain w j d → j ≤ i → d ≤ j
+chain-le l root h = omega arith
+chain-le {j = j} l (link {p = p} {d = d} pos e k) h =
+    let b = l .back j pos h in
+    let r = chain-le l k (omega arith) in
+    omega arith
+
+-- the first entry has no parent
+pub chain-zero : {w : List ℕ} {j d : ℕ} → Chain w j d → j ≡ 0 → d ≡ 0
+chain-zero root e = refl
+chain-zero (link pos e k) z = absurd (omega arith)
+
+-- one parent fewer from the parent
+pub chain-next : {w : List ℕ} {j d : ℕ} → Chain w j d → 0 < j → (k : ℕ) × (d ≡ k + 1) × Chain w (parentAt w j) k
+chain-next root h = absurd (omega arith)
+chain-next {w} (link {d = d} pos e k) h = (d, sym (add-one d), subst (λ p. Chain w p d) e k)
+
+-- one parent more than from the parent
+pub chain-more : {w : List ℕ} {j d : ℕ} → 0 < j → Chain w (parentAt w j) d → Chain w j (d + 1)
+chain-more {w} {j} {d} h k = subst (λ n. Chain w j n) (sym (add-one d)) (link h refl k)
+
+-- a byte stored before a part
+pub slice-set : (l : List ℕ) (f t v : ℕ) → f < t → t ≤ length l → slice f t (set l f v) ≡ v ∷ slice (f + 1) t l
+slice-set l f t v h k =
+    slice-cons f t (set l f v) 0 h (simp length-set k)
+    ∙ both (getD-set-same l f v 0 (omega arith))
+    (ap (λ m. drop (suc f) m) (take-set-lt t l f v h)
+    ∙ drop-set-lt (suc f) (take t l) f v (omega arith)
+    ∙ ap (λ n. drop n (take t l)) (sym (add-one f)))
+  where
+    both : {x y : ℕ} {s r : List ℕ} → x ≡ y → s ≡ r → _≡_ {A = List ℕ} (x ∷ s) (y ∷ r)
+    both p q = cc
+
+-- While the arcs are written from the last to the first: those from entry j on stand from byte at on.
+pub record Tracing (w : List ℕ) (i len : ℕ) (plan₀ plan : List ℕ) (j at : ℕ) : Type 0 where
+  pub inside : j ≤ i
+  pub within : at ≤ len
+  pub size : length plan ≡ length plan₀
+  pub chain : Chain w j at
+  pub arcs : Traced w i j (slice at len plan)
+  pub later : drop len plan ≡ drop len plan₀
+
+-- before the first store
+pub tracing-none : (w : List ℕ) (i len : ℕ) (plan : List ℕ) → Chain w i len → Tracing w i len plan plan i len
+tracing-none w i len plan c =
+    record {
+      inside = omega arith;
+      within = omega arith;
+      size = refl;
+      chain = c;
+      arcs = rw slice-empty (here refl);
+      later = refl;
+    }
+
+-- the arc of entry j is stored
+pub tracing-more : {w : List ℕ} {i len j at : ℕ} {plan₀ plan : List ℕ} (v p : ℕ) → Linked w i → len ≤ length plan₀
+    → Tracing w i len plan₀ plan j at → 0 < j → v ≡ numberAt w j → p ≡ parentAt w j → Tracing w i len plan₀ (set plan (at - 1) v) p (at - 1)
+tracing-more {w} {i} {len} {j} {at} {plan₀} {plan} v p l fits t pos ev ep = go (chain-next (t .chain) pos)
+  where
+    go : (k : ℕ) × (at ≡ k + 1) × Chain w (parentAt w j) k → Tracing w i len plan₀ (set plan (at - 1) v) p (at - 1)
+    go r =
+        let k = r .0 in
+        let e = r .1 in
+        let size = t .size in
+        let within = t .within in
+        let inside = t .inside in
+        let e1 : at - 1 ≡ k = omega arith in
+        rw e1 (record {
+          inside = omega (arith, l .back j pos inside);
+          within = omega arith;
+          size = simp length-set size;
+          chain = rw ep (r .2);
+          arcs =
+              rw (slice-set plan k len v (omega arith) (omega arith))
+              (there pos ep ev (subst (λ n. Traced w i j (slice n len plan)) e (t .arcs)));
+          later = drop-set-lt len plan k v (omega arith) ∙ t .later;
+        })
+
+-- every arc is stored
+pub tracing-all : {w : List ℕ} {i len j at : ℕ} {plan₀ plan : List ℕ} → Linked w i → Chain w i len → Tracing w i len plan₀ plan j at → j ≤ 0
+    → Wrote w i plan₀ plan len
+tracing-all {w} {i} {len} {j} {at} {plan₀} {plan} l c t h =
+    let e : j ≡ 0 = omega arith in
+    let z : at ≡ 0 = chain-zero (t .chain) e in
+    record {
+      few = chain-le l c (omega arith);
+      arcs = subst₂ (λ a b. Traced w i a (slice b len plan)) e z (t .arcs);
+      later = t .later;
+    }
+
+-- while an entry has a parent, a byte is left
+pub tracing-some : {w : List ℕ} {i len j at : ℕ} {plan₀ plan : List ℕ} → Tracing w i len plan₀ plan j at → 0 < j → 0 < at
+tracing-some t pos = omega (arith, chain-next (t .chain) pos .1)
+
+-- where the test r of entry i says yes, it has the node and the charge
+pub entry-here : {r : Bool} (w : List ℕ) (i v x : ℕ) → r ≡ (eqb (nodeAt w i) v && eqb (chargeAt w i) x) → r ≡ true
+    → (nodeAt w i ≡ v) × (chargeAt w i ≡ x)
+entry-here w i v x e same =
+    let tests = and-eq-true-iff (eqb (nodeAt w i) v) (eqb (chargeAt w i) x) .0 (sym e ∙ same) in
+    (eqb-true (nodeAt w i) v (tests .0), eqb-true (chargeAt w i) x (tests .1))
+
+-- where it says no, an entry from i + 1 on has them
+pub entry-after : {r : Bool} {w : List ℕ} {i tail v : ℕ} (x : ℕ) → Entry w i tail v (x + 1)
+    → r ≡ (eqb (nodeAt w i) v && eqb (chargeAt w i) x) → r ≡ false → Entry w (i + 1) tail v (x + 1)
+entry-after {w = w} {i} {tail} {v} x n e differs = go (ℕ-discrete i (n .index))
+  where
+    same : i ≡ n .index → (eqb (nodeAt w i) v && eqb (chargeAt w i) x) ≡ true
+    same q =
+        and-eq-true-iff (eqb (nodeAt w i) v) (eqb (chargeAt w i) x) .1 (
+          eq-eqb (nodeAt w i) v (subst (λ k. nodeAt w k ≡ v) (sym q) (n .node)),
+          eq-eqb (chargeAt w i) x (omega (arith, subst (λ k. chargeAt w k + 1 ≡ x + 1) (sym q) (n .charge))),
+        )
+
+    go : Dec (i ≡ n .index) → Entry w (i + 1) tail v (x + 1)
+    go (yes q) = absurd (true≢false (sym (e ∙ same q) ∙ differs))
+    go (no ne) =
+        let from = n .from in
+        record { index = n .index; from = omega arith; before = n .before; node = n .node; charge = n .charge }
+
+-- the entries of a queue can be read back
+pub queue-linked : {P : Pass} {best w : List ℕ} {tail i : ℕ} → Ready P (length best) (length w) → Queue P best w tail → i < tail
+    → Linked w i
+queue-linked {i = i} r q h =
+    record {
+      space = entry-space i r q h .0;
+      back = λ j h0 h1. q .made j h0 (omega arith) .back;
+      byte = λ j h0 h1. omega (arith, q .made j h0 (omega arith) .step .known, r .few-arcs);
+    }
+
+-- the arcs to an entry, with one entry more
+traced-more : {w : List ℕ} {p i a j : ℕ} {s : List ℕ} → 0 < i → p ≡ parentAt w i → a ≡ numberAt w i → Traced w p j s
+    → Traced w i j (s ++ (a ∷ []))
+traced-more hi ep ea (here q) = there hi (q ∙ ep) ea (here refl)
+traced-more hi ep ea (there hj eq er r) = there hj eq er (traced-more hi ep ea r)
+
+linked-below : {w : List ℕ} {p i : ℕ} → p < i → Linked w i → Linked w p
+linked-below h k =
+    record { space = omega (arith, k .space); back = λ j hj q. k .back j hj (omega arith); byte = λ j hj q. k .byte j hj (omega arith) }
+
+linked-from : {w : List ℕ} (f i : ℕ) → i < f → Linked w i → (s : List ℕ) × Traced w i 0 s
+linked-from zero i h k = absurd (omega arith)
+linked-from (suc f) zero h k = ([], here refl)
+linked-from {w} (suc f) (suc i) h k =
+    let p = parentAt w (suc i) in
+    let back : p < suc i = k .back (suc i) (omega arith) (omega arith) in
+    let r = linked-from f p (omega arith) (linked-below back k) in
+    (r .0 ++ (numberAt w (suc i) ∷ []), traced-more (omega arith) refl refl (r .1))
+
+-- the arcs to an entry can be read back
+pub linked-traced : {w : List ℕ} {i : ℕ} → Linked w i → (s : List ℕ) × Traced w i 0 s
+linked-traced {i = i} k = linked-from (suc i) i (omega arith) k

@@ -1,0 +1,113 @@
+-- The queue of a pass in the words of nets: the arcs read back from it are walks, every entry has such arcs, and the table that the pass
+-- leaves is the table of the greatest charges. Assumes nothing.
+use mathlib.Core.Path.{_≡_, refl, sym, ap, subst, _∙_}
+use mathlib.Core.List.{List, [], _∷_}
+use mathlib.Core.Logic.{_↔_}
+use Prim.Native.Nat.{ℕ, zero, suc, _+_, _/_, _%_, _≤_, _<_}
+use native.Mathlib.Nat.{div-eq-of-lt, mod-eq-of-lt}
+use native.Mathlib.Omega.{arith}
+use native.Mathlib.Decide.{ℕ-discrete}
+use lib.ListN.{getD}
+use Rattle.walks.specs.Moves.{after, charge, Possible}
+use Rattle.model.specs.Fitness.{Fit}
+use Rattle.nets.specs.Graph.{moves, Leads}
+use Rattle.nets.specs.Table.{next, level, Closed, Reached}
+use Rattle.passes.specs.Pass.{Pass, node}
+use Rattle.passes.specs.Queue.{nodeAt, chargeAt, parentAt, numberAt, Made, Covers, Begun}
+use Rattle.passes.specs.Trace.{Traced, here, there}
+use Rattle.passes.proofs.Nodes.{node-level, node-mode, node-first}
+use Rattle.passes.proofs.Steps.{modelAt, netAt, Taken, along-taken, arc-along}
+
+module _ (w : List ℕ) (tail : ℕ) (back : (i : ℕ) → 0 < i → i < tail → parentAt w i < i) where
+  -- the entries that lead to entry i stand before it
+  traced-le : {i j : ℕ} {arcs : List ℕ} → i < tail → Traced w i j arcs → j ≤ i
+  traced-le h (here e) = omega arith
+  traced-le h (there {j = j} pos ep ea t) =
+      let q = traced-le h t in
+      omega (arith, back j pos (omega arith))
+
+  -- what leads from entry j to entry i can be read back to the first entry
+  traced-from : (fuel i j : ℕ) (arcs : List ℕ) → i < tail → j ≤ fuel → Traced w i j arcs → (l : List ℕ) × Traced w i 0 l
+  traced-from zero i j arcs h f t = let z : j ≡ 0 = omega arith in (arcs, rw z at t)
+  traced-from (suc fuel) i j arcs h f t =
+      elim (ℕ-discrete j 0) [
+        | yes z ↦ (arcs, subst (λ (m : ℕ). Traced w i m arcs) z t)
+        | no z ↦
+            let q = traced-le h t in
+            let p = back j (omega arith) (omega arith) in
+            traced-from fuel i (parentAt w j) (numberAt w j ∷ arcs) h (omega arith) (there (omega arith) refl refl t)
+      ]
+
+  -- every entry can be read back
+  traced-some : (i : ℕ) → i < tail → (l : List ℕ) × Traced w i 0 l
+  traced-some i h = traced-from i i i [] h (omega arith) (here refl)
+
+module _ (P : Pass) (s k : ℕ) (fit : Fit (modelAt P s k)) (ok : ℕ → Type 0) (ok-known : (a : ℕ) → ok a ↔ (a < netAt P s k .count)) where
+  -- the arcs are a walk of possible steps from entry j to entry i
+  record Run (w : List ℕ) (i j : ℕ) (arcs : List ℕ) : Type 0 where
+    pub leads : Leads (netAt P s k .graph) ok (nodeAt w j % P .modes) arcs (nodeAt w i % P .modes)
+    pub levels : level (netAt P s k) (P .last) (nodeAt w j / P .modes) arcs ≡ nodeAt w i / P .modes
+    pub possible : Possible (P .bound) (moves (netAt P s k .graph) arcs) (chargeAt w j)
+    pub reaches : charge (P .bound) (moves (netAt P s k .graph) arcs) (chargeAt w j) ≡ chargeAt w i
+
+  run-none : (w : List ℕ) (i : ℕ) → Run w i i []
+  run-none w i = record { leads = refl; levels = refl; possible = tt; reaches = refl }
+
+  run-more : {w : List ℕ} {i j p a : ℕ} {arcs : List ℕ} → Taken P s k a (nodeAt w p) (chargeAt w p) (nodeAt w j) (chargeAt w j)
+      → Run w i j arcs → Run w i p (a ∷ arcs)
+  run-more {a = a} {arcs = arcs} d r =
+      record {
+        leads = (ok-known a .1 (d .known), d .leaves, rw (d .enters) (r .leads));
+        levels = rw (d .rises) (r .levels);
+        possible = (d .possible, rw (d .left) (r .possible));
+        reaches = ap {B = ℕ} (λ (y : ℕ). charge (P .bound) (moves (netAt P s k .graph) arcs) y) (d .left) ∙ r .reaches;
+      }
+
+  -- the arcs that lead from entry j to entry i are such a walk
+  traced-run : {w : List ℕ} {tail i j : ℕ} {arcs : List ℕ} → ((m : ℕ) → 0 < m → m < tail → Made P w m) → i < tail → Traced w i j arcs
+      → Run w i j arcs
+  traced-run {w} {i = i} made h (here {j = j} e) = subst (λ (m : ℕ). Run w i m []) (sym e) (run-none w i)
+  traced-run {w} {tail} {i} made h (there {j = j} pos ep ea t) =
+      let q = traced-le w tail (λ m h0 h1. made m h0 h1 .back) h t in
+      run-more (rw (ep, ea) (along-taken P s k fit (made j pos (omega arith) .step))) (traced-run made h t)
+
+  module _ (m c : ℕ) (best w : List ℕ) (tail : ℕ) (hm : m < P .modes) (begun : Begun P m c best w tail) where
+    -- the arcs that lead to entry i come to its level, mode and charge
+    pub traced-reached : (i l t x : ℕ) (arcs : List ℕ) → i < tail → nodeAt w i / P .modes ≡ l → nodeAt w i % P .modes ≡ t → chargeAt w i ≡ x
+        → Traced w i 0 arcs → (r : Reached (netAt P s k) ok (P .last) (P .bound) m c l t x) × (r .arcs ≡ arcs)
+    traced-reached i l t x arcs h el et ex d =
+        let r = traced-run (begun .queue .made) h d in
+        let z : nodeAt w 0 / P .modes ≡ 0 = rw (begun .node) (div-eq-of-lt hm) in
+        let y : nodeAt w 0 % P .modes ≡ m = rw (begun .node) (mod-eq-of-lt hm) in (
+          record {
+            arcs = arcs;
+            leads = rw (y, et) at (r .leads);
+            levels = rw (z, el) at (r .levels);
+            possible = rw (begun .charge) at (r .possible);
+            reaches = rw (begun .charge, ex) at (r .reaches);
+          },
+          refl,
+        )
+
+    -- what the table lists is reached
+    pub listed-reached : (l t x : ℕ) → t < P .modes → getD best (node (P .modes) l t) 0 ≡ suc x
+        → Reached (netAt P s k) ok (P .last) (P .bound) m c l t x
+    listed-reached l t x h q =
+        let e = begun .queue .held (node (P .modes) l t) (omega arith) in
+        let d = traced-some w tail (λ i h0 h1. begun .queue .made i h0 h1 .back) (e .index) (e .before) in
+        traced-reached (e .index) l t x (d .0) (e .before) (rw (e .node) (node-level (P .modes) l t h))
+        (rw (e .node) (node-mode (P .modes) l t h)) (omega (arith, e .charge)) (d .1) .0
+
+    -- a table whose greatest charges are all covered is closed
+    pub covered-closed : ((v x : ℕ) → getD best v 0 ≡ x + 1 → (a : ℕ) → Covers P best a v x)
+        → Closed (netAt P s k) ok (P .last) (P .bound) m c (λ l t. getD best (node (P .modes) l t) 0)
+    covered-closed covers =
+        record {
+          begins = rw (node-first (P .modes) m) (omega (arith, begun .begun));
+          steps = λ l a x hl ha q hd.
+              let g = netAt P s k .graph in
+              let u = node (P .modes) (next (netAt P s k) (P .last) l a) (g .target a) in
+              let y = after (P .bound) (g .move a) x in
+              let d = arc-along P s k fit a l x (ok-known a .0 ha) hd in
+              omega (arith, covers (node (P .modes) l (g .source a)) x (omega arith) a .knows u y d);
+        }

@@ -1,0 +1,129 @@
+-- The queue of a pass in the working space, four words for each entry, and the table of the greatest charges. Document 01, "Ceilings":
+-- "Working space: 4 × (k+1) × n × (b+1) words."
+use mathlib.Core.Path.{_≡_}
+use mathlib.Core.Bool.{Bool, true, false}
+use mathlib.Core.List.{List, [], _∷_}
+use Prim.Native.Nat.{ℕ, _+_, _*_, _≤_, _<_}
+use lib.ListN.{length, getD, set}
+use Rattle.passes.specs.Pass.{Pass, Along, closes}
+
+-- Entry i: a node, the charge with which it was reached, the entry that it was reached from, and the arc.
+abbrev pub nodeAt : List ℕ → ℕ → ℕ
+nodeAt w i = getD w (4 * i) 0
+
+abbrev pub chargeAt : List ℕ → ℕ → ℕ
+chargeAt w i = getD w (4 * i + 1) 0
+
+abbrev pub parentAt : List ℕ → ℕ → ℕ
+parentAt w i = getD w (4 * i + 2) 0
+
+abbrev pub numberAt : List ℕ → ℕ → ℕ
+numberAt w i = getD w (4 * i + 3) 0
+
+unfoldable pub sum : List ℕ → ℕ
+sum [] = 0
+sum (x ∷ xs) = x + sum xs
+
+-- entry i follows from an earlier entry by its arc
+pub record Made (P : Pass) (w : List ℕ) (i : ℕ) : Type 0 where
+  pub back : parentAt w i < i
+  pub step : Along P (numberAt w i) (nodeAt w (parentAt w i)) (chargeAt w (parentAt w i)) (nodeAt w i) (chargeAt w i)
+
+-- some entry from number i on and below tail has node v and the charge that is one less than y
+pub record Entry (w : List ℕ) (i tail v y : ℕ) : Type 0 where
+  pub index : ℕ
+  pub from : i ≤ index
+  pub before : index < tail
+  pub node : nodeAt w index ≡ v
+  pub charge : chargeAt w index + 1 ≡ y
+
+-- The invariant of the queue. The table has 0 for a node that is not reached, and otherwise its greatest charge plus 1. Each entry raised a
+-- word of the table, so that no more are made than the words add up to.
+pub record Queue (P : Pass) (best w : List ℕ) (tail : ℕ) : Type 0 where
+  pub some : 0 < tail
+  pub made : (i : ℕ) → 0 < i → i < tail → Made P w i
+  pub held : (v : ℕ) → 0 < getD best v 0 → Entry w 0 tail v (getD best v 0)
+  pub known : (i : ℕ) → i < tail → chargeAt w i + 1 ≤ getD best (nodeAt w i) 0
+  pub low : (v : ℕ) → getD best v 0 ≤ P .bound + 1
+  pub counted : tail ≤ sum best
+
+-- w′ is w with the entry (v, x, h, a) at tail; what stands before tail is kept
+pub record Pushed (w : List ℕ) (tail v x h a : ℕ) (w′ : List ℕ) : Type 0 where
+  pub size : length w′ ≡ length w
+  pub kept : (j : ℕ) → j < 4 * tail → getD w′ j 0 ≡ getD w j 0
+  pub node : nodeAt w′ tail ≡ v
+  pub charge : chargeAt w′ tail ≡ x
+  pub parent : parentAt w′ tail ≡ h
+  pub number : numberAt w′ tail ≡ a
+
+-- What is asked where arc a comes from entry h to node u with charge x: numbers that fit their words, and room where the table rises.
+pub record Arrives (best w : List ℕ) (tail u x h a : ℕ) : Type 0 where
+  pub inside : u < length best
+  pub few : length best ≤ 65536
+  pub low : x < 65535
+  pub parent : h < 65536
+  pub number : a < 65536
+  pub room : getD best u 0 < x + 1 → 4 * tail + 4 ≤ length w
+
+-- What is done there: nothing where the pass stops, nothing where the table knows as much, and else the table rises and an entry is added.
+pub data Arrived (goal least : ℕ) (best w : List ℕ) (tail u x h a : ℕ) (best′ w′ : List ℕ) (hit : Bool) (tail′ : ℕ) : Type 0 where
+  stops : closes goal least u x ≡ true → best′ ≡ best → w′ ≡ w → hit ≡ true → tail′ ≡ tail
+      → Arrived goal least best w tail u x h a best′ w′ hit tail′
+  knows : closes goal least u x ≡ false → x + 1 ≤ getD best u 0 → best′ ≡ best → w′ ≡ w → hit ≡ false → tail′ ≡ tail
+      → Arrived goal least best w tail u x h a best′ w′ hit tail′
+  rises : closes goal least u x ≡ false → getD best u 0 < x + 1 → best′ ≡ set best u (x + 1) → Pushed w tail u x h a w′ → hit ≡ false
+      → tail′ ≡ tail + 1 → Arrived goal least best w tail u x h a best′ w′ hit tail′
+
+-- a later state: entries are only added, and no word of the table falls
+pub record Grown (best w : List ℕ) (tail : ℕ) (best′ w′ : List ℕ) (tail′ : ℕ) : Type 0 where
+  pub more : tail ≤ tail′
+  pub kept : (j : ℕ) → j < 4 * tail → getD w′ j 0 ≡ getD w j 0
+  pub up : (v : ℕ) → getD best v 0 ≤ getD best′ v 0
+  pub best-size : length best′ ≡ length best
+  pub size : length w′ ≡ length w
+
+-- where arc a is possible at (v, e), the table knows what it comes to, and the pass does not stop there
+pub record Covers (P : Pass) (best : List ℕ) (a v e : ℕ) : Type 0 where
+  pub knows : (u x : ℕ) → Along P a v e u x → x + 1 ≤ getD best u 0
+  pub passes : (u x : ℕ) → Along P a v e u x → closes (P .goal) (P .least) u x ≡ false
+
+-- arc a is possible at (v, e), and the pass stops where it comes to
+pub record Hits (P : Pass) (a v e : ℕ) : Type 0 where
+  pub node : ℕ
+  pub charge : ℕ
+  pub step : Along P a v e node charge
+  pub stops : closes (P .goal) (P .least) node charge ≡ true
+
+-- what trying the arcs from lo on and below hi at (v, e) gives: all are covered, or arc a hits
+pub record Tried (P : Pass) (best w : List ℕ) (tail lo hi v e : ℕ) (best′ w′ : List ℕ) (hit : Bool) (a tail′ : ℕ) : Type 0 where
+  pub queue : Queue P best′ w′ tail′
+  pub grown : Grown best w tail best′ w′ tail′
+  pub covers : hit ≡ false → (i : ℕ) → lo ≤ i → i < hi → Covers P best′ i v e
+  pub hits : hit ≡ true → Hits P a v e
+
+-- what a visit of entry head gives: the same for every arc, or nothing where the entry's charge is no longer the greatest of its node
+pub record Visited (P : Pass) (best w : List ℕ) (tail head : ℕ) (best′ w′ : List ℕ) (hit : Bool) (a tail′ : ℕ) : Type 0 where
+  pub queue : Queue P best′ w′ tail′
+  pub grown : Grown best w tail best′ w′ tail′
+  pub covers : hit ≡ false → getD best (nodeAt w head) 0 ≡ chargeAt w head + 1 → (i : ℕ) → Covers P best′ i (nodeAt w head) (chargeAt w head)
+  pub hits : hit ≡ true → Hits P a (nodeAt w head) (chargeAt w head)
+
+-- a queue from the first entry (s, c)
+pub record Begun (P : Pass) (s c : ℕ) (best w : List ℕ) (tail : ℕ) : Type 0 where
+  pub queue : Queue P best w tail
+  pub node : nodeAt w 0 ≡ s
+  pub charge : chargeAt w 0 ≡ c
+  pub begun : c + 1 ≤ getD best s 0
+
+-- the same with its first head entries treated
+pub record Treated (P : Pass) (s c : ℕ) (best w : List ℕ) (head tail : ℕ) : Type 0 where
+  pub from : Begun P s c best w tail
+  pub within : head ≤ tail
+  pub treated : (i : ℕ) → i < head → getD best (nodeAt w i) 0 ≡ chargeAt w i + 1 → (a : ℕ) → Covers P best a (nodeAt w i) (chargeAt w i)
+
+-- what a pass leaves: every greatest charge is covered, or arc a hits at entry head
+pub record Passed (P : Pass) (s c : ℕ) (best w : List ℕ) (found : Bool) (head a tail : ℕ) : Type 0 where
+  pub from : Begun P s c best w tail
+  pub closed : found ≡ false → (v x : ℕ) → getD best v 0 ≡ x + 1 → (i : ℕ) → Covers P best i v x
+  pub before : found ≡ true → head < tail
+  pub hits : found ≡ true → Hits P a (nodeAt w head) (chargeAt w head)

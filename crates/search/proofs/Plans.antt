@@ -1,0 +1,130 @@
+-- What the steps of a search come to: the prefix and the cycle that are written, and the plan that they are. Assumes nothing.
+use mathlib.Core.Path.{_≡_, refl, sym, ap, subst, _∙_}
+use mathlib.Core.Bool.{Bool, true, false}
+use mathlib.Core.List.{List, [], _++_, append-nil}
+use mathlib.Core.Logic.{_↔_}
+use Prim.Native.Nat.{ℕ, _+_, _-_, _*_, _≤_, _<_}
+use native.Mathlib.Numerals.{add-one}
+use native.Mathlib.Omega.{arith}
+use lib.ListN.{length, getD, take, drop, set, length-append, length-drop, drop-of-length-le}
+use lib.Seq.{length-take-le, take-at, drop-at, take-append-add, drop-append-add, take-suc-set, drop-set-lt, drop-drop}
+use Rattle.limits.specs.Ceilings.{productMost, planBuffer}
+use Rattle.refusals.specs.declared.Refusal.the-variants.{NoPlan}
+use Rattle.model.specs.Automaton.{Automaton}
+use Rattle.model.specs.Fitness.{Fit}
+use Rattle.model.specs.Plans.{Serves, SomePlan}
+use Rattle.judge.specs.Shape.{planOf}
+use Rattle.judge.proofs.Arcs.{rest-part}
+use Rattle.nets.specs.Net.{Usable}
+use Rattle.nets.specs.Table.{KeptCycle}
+use Rattle.nets.specs.Whole.{whole}
+use Rattle.nets.proofs.Tables.{table-unique}
+use Rattle.nets.proofs.Whole.{reached-serves}
+use Rattle.passes.specs.Pass.{node}
+use Rattle.passes.specs.Queue.{Entry, nodeAt, chargeAt}
+use Rattle.passes.specs.Trace.{Wrote}
+use Rattle.passes.specs.Outcome.{Peak, Peaked, Toured, PrefixWritten, CycleWritten}
+use Rattle.search.specs.declared.Searched.{Searched}
+use Rattle.search.specs.declared.Searched.the-variants.{Stopped}
+use Rattle.search.specs.Search.{Found, Answered, none, found}
+use Rattle.passes.proofs.Nodes.{node-first}
+use Rattle.search.proofs.Spaces.{plan-held, plan-short}
+
+module _ {g : Automaton} {b c r : ℕ} {best w : List ℕ} (peaked : Peaked g b c best w r) where
+  -- the table that the pass leaves has the peak of a mode
+  pub peak-listed : {s e : ℕ} → Peak g b c s e → getD best s 0 ≡ e + 1
+  peak-listed {s} {e} p =
+      let table : ℕ → ℕ → ℕ = λ l t. getD best (node (g .modes) l t) 0 in
+      let same : p .high 0 s ≡ getD best (node (g .modes) 0 s) 0 =
+      table-unique (whole g) (Usable (whole g)) 0 b (g .start) c (p .high) table (p .peaks) (peaked .table) 0 s (omega arith) (p .mode)
+      in
+      omega (arith, rw (node-first (g .modes) s) at same, p .listed)
+
+  -- and the queue an entry for it
+  pub peak-entry : {s e : ℕ} → Peak g b c s e → Entry w 0 r s (e + 1)
+  peak-entry {s} {e} p =
+      let listed = peak-listed p in subst (λ (y : ℕ). Entry w 0 r s y) listed (peaked .held s (p .mode) (omega (arith, listed)))
+
+  -- the arcs that are read back from an entry are the prefix that leads to its mode with its charge
+  pub prefix-written : {i s e x : ℕ} {plan plan′ : List ℕ} → i < r → nodeAt w i ≡ s → chargeAt w i ≡ e → Wrote w i plan plan′ x
+      → PrefixWritten g b c s e plan plan′ x
+  prefix-written {i} {x = x} {plan′ = plan′} h node charge wrote =
+      record {
+        few = omega (arith, peaked .few, wrote .few);
+        arcs = rw (node, charge) at (peaked .arcs i h (take x plan′) (wrote .arcs));
+        later = wrote .later;
+      }
+
+module _ {g : Automaton} {b s e head a : ℕ} {w : List ℕ} {found : Bool} (toured : Toured g b s e w found head a)
+    (cycle : KeptCycle (whole g) b s e) where
+  -- where a cycle keeps the charge, the pass stops at one
+  pub cycle-found : found ≡ true
+  cycle-found = go found refl
+    where
+      go : (t : Bool) → found ≡ t → found ≡ true
+      go true e = e
+      go false e = absurd (toured .none e cycle)
+
+  -- the arcs that are read back from its entry, and its last arc, are the cycle
+  pub cycle-written : {r : ℕ} {plan plan₁ : List ℕ} → Wrote w head plan plan₁ r → r < length plan₁
+      → CycleWritten g b s e plan (set plan₁ r a) (r + 1)
+  cycle-written {r} {plan} {plan₁} wrote long =
+      record {
+        few = omega (arith, toured .few cycle-found, wrote .few);
+        arcs = rw (add-one r, take-suc-set plan₁ r a long) (toured .arcs cycle-found (take r plan₁) (wrote .arcs));
+        later =
+            drop-set-lt (r + 1) plan₁ r a (omega arith) ∙ sym (drop-drop 1 r plan₁) ∙ ap {B = List ℕ} (drop 1) (wrote .later)
+            ∙ drop-drop 1 r plan;
+      }
+
+module _ {g : Automaton} {b c s e p q : ℕ} {plan plan₁ part : List ℕ} (prefix : PrefixWritten g b c s e plan plan₁ p)
+    (cycle : CycleWritten g b s e (drop p plan₁) part q) (long : p ≤ length plan₁) where
+  -- the first bytes are the prefix and the cycle,
+  plan-bytes : take (p + q) (take p plan₁ ++ part) ≡ take p plan₁ ++ take q part
+  plan-bytes =
+      let size = length-take-le p plan₁ long in
+      subst (λ (x : ℕ). take (x + q) (take p plan₁ ++ part) ≡ take p plan₁ ++ take q part) size (take-append-add (take p plan₁) part q)
+
+  -- a plan that serves,
+  plan-serves : Serves g b c (planOf p (take (p + q) (take p plan₁ ++ part)))
+  plan-serves =
+      let size = length-take-le p plan₁ long in
+      let one = prefix .arcs in
+      let two = cycle .arcs in
+      rw (plan-bytes, take-at (take p plan₁) (take q part) p size, drop-at (take p plan₁) (take q part) p size)
+      (rw (one .same, two .same) at (reached-serves g b c s e (one .reached) (two .cycle)))
+
+  -- and later bytes are not touched
+  plan-later : drop (p + q) (take p plan₁ ++ part) ≡ drop (p + q) plan
+  plan-later =
+      let size = length-take-le p plan₁ long in
+      subst (λ (x : ℕ). drop (x + q) (take p plan₁ ++ part) ≡ drop q part) size (drop-append-add (take p plan₁) part q)
+      ∙ cycle .later ∙ ap {B = List ℕ} (drop q) (prefix .later) ∙ drop-drop q p plan
+
+-- the prefix, and behind it the cycle, that are written into the plan buffer are a plan
+pub plan-found : {g : Automaton} {b c s e p q : ℕ} {plan plan₁ part : List ℕ} → Fit g → g .modes * (b + 1) ≤ productMost
+    → planBuffer (g .colours) (g .modes) b ≤ length plan → PrefixWritten g b c s e plan plan₁ p → length plan₁ ≡ length plan
+    → CycleWritten g b s e (take (length plan₁ - p) (drop p plan₁)) part q → length part ≡ length (take (length plan₁ - p) (drop p plan₁))
+    → Found g b c p q plan (take p plan₁ ++ (part ++ drop (length plan₁ - p) (drop p plan₁)))
+plan-found {g} {b} {c} {s} {e} {p} {q} {plan} {plan₁} {part} fit product buffer prefix size cycle kept =
+    let k = g .colours in
+    let n = g .modes in
+    let held = plan-held k n b p q (prefix .few) (cycle .few) in
+    let long : p ≤ length plan₁ = omega (arith, held) in
+    let rest = rest-part p plan₁ in
+    let behind = subst (λ (x : List ℕ). CycleWritten g b s e x part q) rest cycle in
+    let past : drop (length plan₁ - p) (drop p plan₁) ≡ [] =
+    drop-of-length-le (drop p plan₁) {i = length plan₁ - p} (omega (arith, length-drop p plan₁))
+    in
+    rw (past, append-nil part) (record {
+      within = omega (arith, held, length-append (take p plan₁) part, length-take-le p plan₁ long, length-drop p plan₁, rw rest at kept);
+      short = omega (arith, held, plan-short k n b (fit .few-colours) product);
+      serves = plan-serves prefix behind long;
+      later = plan-later prefix behind long;
+    })
+
+-- where a plan is answered there is one
+pub plan-answered : {g : Automaton} {b c : ℕ} {plan plan′ : List ℕ} {r : Searched} → Answered g b c plan plan′ r → (r ≡ Stopped NoPlan → ⊥)
+    → (r ≡ Stopped NoPlan) ↔ (SomePlan g b c → ⊥)
+plan-answered (none e) not = absurd (not refl)
+plan-answered (found f) not = (λ e. absurd (not e), λ no. absurd (no (_, f .serves)))

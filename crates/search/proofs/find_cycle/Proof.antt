@@ -1,0 +1,56 @@
+-- `search::find_cycle` meets its contract. Assumes nothing.
+use native.Mathlib.Omega.{arith}
+use lib.ListN.{length-take}
+use borrow.Author.Needs.{needs}
+use Rattle.search.proofs.Tasks.{able-nodes, able-table, cycle-asked, cycle-left}
+use Rattle.search.proofs.find_cycle.Statement.{statement}
+use Rattle.search.proofs.find_cycle.Tie as tie
+
+add-nodes : tie.Need-add-nodes
+add-nodes c = search needs
+
+mul-nodes : tie.Need-mul-nodes
+mul-nodes c = search needs
+
+mul-t12 : tie.Need-mul-t12
+mul-t12 c = search needs
+
+add-t13 : tie.Need-add-t13
+add-t13 c = search needs
+
+array-borrow-prefix-best : tie.Need-array-borrow-prefix-best
+array-borrow-prefix-best c = able-nodes (c .before .before .before .before .before .before .before .pre .0)
+
+slice-aggregate-pass : tie.Need-slice-aggregate-pass
+slice-aggregate-pass c =
+    let s = c .before .before .before .before .before .before .before .before in
+    simp length-take (omega (arith, able-nodes (s .pre .0)))
+
+pass-requires : tie.Need-pass-requires
+pass-requires c κs =
+    let s = c .before .before .before .before .before .before .before .before .before in
+    cycle-asked (s .pre .0) (s .pre .1 .0) (s .pre .1 .1) (able-table (s .pre .0))
+
+same-length : tie.Need-same-length
+same-length c = search needs
+
+returns : tie.Need-returns
+returns c =
+    let s = c .before .before .before .before .before .before .before .before .before .before .before .before .before in
+    let k = c .before .before .before .pass in
+    let q = k .kept .1 .1 .1 .1 .1 .1 .1 in
+    cycle-left (s .pre .0) (s .pre .1 .0) (s .pre .1 .1) (able-table (s .pre .0)) (q .0) (q .1 .0) (k .ensures)
+
+pub find-cycle-spec : {M : Type 1} → statement M
+find-cycle-spec =
+    tie.close
+    (tie.spec
+    add-nodes
+    mul-nodes
+    mul-t12
+    add-t13
+    array-borrow-prefix-best
+    slice-aggregate-pass
+    pass-requires
+    same-length
+    returns)
