@@ -50,10 +50,10 @@ module _ (l : Lists) (n s k b : ℕ) (fit : Fit (automatonOf n s k l)) where
       absurd (omega (arith, along-low (h .step), closes-at 0 (b + 1) (h .node) (h .charge) .0 (h .stops) .1))
 
   -- the pass for the peaks is never stopped, and leaves the peaks
-  pub passed-peaked : (c : ℕ) {best w : List ℕ} {found : Bool} {head a tail : ℕ} → c ≤ b
+  pub passed-peaked : (c : ℕ) {best w : List ℕ} {found : Bool} {head a tail : ℕ}
       → Ready (peaksPass l n b) (length best) (length w) → Passed (peaksPass l n b) s c best w found head a tail
       → Peaked (automatonOf n s k l) b c best w tail
-  passed-peaked c {best} {w} {tail = tail} hc r p =
+  passed-peaked c {best} {w} {tail = tail} r p =
       let P = peaksPass l n b in
       let ok = whole-usable-arc model in
       let from = p .from in
@@ -123,10 +123,10 @@ module _ (l : Lists) (n s k b : ℕ) (fit : Fit (automatonOf n s k l)) where
         record { cycle = hit-kept net b m e high hit (z .0); same = ap {B = List ℕ} (λ (y : List ℕ). y ++ (a ∷ [])) (z .1) }
 
   -- the pass from mode m with charge e finds a cycle that keeps e, or there is none
-  pub passed-toured : (m e : ℕ) {best w : List ℕ} {found : Bool} {head a tail : ℕ} → m < n → e ≤ b
+  pub passed-toured : (m e : ℕ) {best w : List ℕ} {found : Bool} {head a tail : ℕ} → m < n
       → Ready (cyclePass l n k b m e) (length best) (length w) → Passed (cyclePass l n k b m e) m e best w found head a tail
       → Toured (automatonOf n s k l) b m e w found head a
-  passed-toured m e {best} {w} {head = head} {a = a} {tail = tail} hm he r p =
+  passed-toured m e {best} {w} {head = head} {a = a} {tail = tail} hm r p =
       let q = p .from .queue in
       record {
         none = λ f. toured-none m e best w tail hm (p .from) (p .closed f);

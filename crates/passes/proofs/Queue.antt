@@ -3,30 +3,24 @@ use mathlib.Core.Logic.{_≢_}
 use mathlib.Core.Path.{_≡_, refl, sym, ap, subst, _∙_}
 use mathlib.Core.Bool.{Bool, true, false, _&&_}
 use mathlib.Core.List.{List, [], _∷_}
-use Prim.Native.Nat.{ℕ, zero, suc, _+_, _*_, _/_, _%_, _≤_, _<_, min}
+use Prim.Native.Nat.{ℕ, zero, suc, _+_, _*_, _/_, _%_, _≤_, _<_}
 use native.Mathlib.Omega.{arith}
 use native.Mathlib.Nat.{suc-mul, mul-le-mul-right, le-mul-of-pos-right, mod-lt, div-lt-iff-lt-mul}
 use native.Mathlib.Decide.{ℕ-discrete, decLt}
 use lib.Dec.{ltb}
-use lib.IntN.{ℤ, pos, negsuc, _+ℤ_}
 use lib.ListN.{length, getD, set, length-set, List·getD-eq-default}
 use lib.Seq.{getD-set-same, getD-set-other}
 use borrow.Author.Tests.{ltb-true}
-use Rattle.walks.specs.declared.Step.the-variants.{To}
-use Rattle.walks.specs.BoundedStep.{clipped, stepped}
 use Rattle.model.specs.Automaton.{bit}
 use Rattle.nets.specs.Table.{raisedIf}
+use Rattle.model.specs.Lists.{arcOf}
+use Rattle.passes.proofs.Steps.{stepped-to}
 use Rattle.passes.specs.Pass.{Pass, Along, Ready, node, nodes, room, levelAfter}
 use Rattle.passes.specs.Queue.{nodeAt, chargeAt, parentAt, sum, Made, Entry, Queue, Pushed, Arrives, Grown}
 
 -- a step leads no higher than the bound
 pub along-low : {P : Pass} {a v e u x : ℕ} → Along P a v e u x → x ≤ P .bound
-unfolding stepped
-along-low {P} {a} {v} {e} {u} {x} s = go (pos e +ℤ getD (P .lists .weights) a (pos 0)) (s .steps)
-  where
-    go : (z : ℤ) → clipped (P .bound) z ≡ To x → x ≤ P .bound
-    go (pos y) q = let eq : min y (P .bound) ≡ x = cc in omega arith
-    go (negsuc y) q = absurd (let z : _≡_ {A = ℕ} 0 1 = cc in omega arith)
+along-low {P} {a} {e = e} {x = x} s = omega (arith, stepped-to (P .bound) (arcOf (P .lists) a .weight) e x .0 (s .steps) .1)
 
 -- a step has one result
 pub along-unique : {P : Pass} {a v e u x u′ x′ : ℕ} → Along P a v e u x → Along P a v e u′ x′ → (u′ ≡ u) × (x′ ≡ x)

@@ -1,6 +1,6 @@
 -- A step of a pass is a step of the net of its model. Assumes nothing.
 use mathlib.Core.Path.{_≡_, refl, sym, ap, subst, _∙_}
-use mathlib.Core.Bool.{Bool, true, false, false≢true, _&&_}
+use mathlib.Core.Bool.{true, false, false≢true, and-eq-true-iff}
 use mathlib.Core.Logic.{_↔_}
 use Prim.Native.Nat.{ℕ, _/_, _%_, _≤_, _<_}
 use native.Mathlib.Omega.{arith}
@@ -28,13 +28,9 @@ use Rattle.passes.proofs.Nodes.{node-level, node-mode}
 pub closes-at : (goal least u x : ℕ) → (closes goal least u x ≡ true) ↔ ((u ≡ goal) × (least ≤ x))
 unfolding closes
 closes-at goal least u x = (
-  λ h. let q = both (eqb u goal) (leb least x) h in (eqb-true u goal (q .0), leb-true least x (q .1)),
+  λ h. let q = and-eq-true-iff (eqb u goal) (leb least x) .0 h in (eqb-true u goal (q .0), leb-true least x (q .1)),
   λ h. rw (eq-eqb u goal (h .0), le-leb least x (h .1)) refl,
 )
-  where
-    both : (s t : Bool) → (s && t) ≡ true → (s ≡ true) × (t ≡ true)
-    both true t h = (refl, h)
-    both false t h = absurd (false≢true h)
 
 -- where the pass goes on, it is not at the goal or has less
 pub closes-not : (goal least u x : ℕ) → closes goal least u x ≡ false → u ≡ goal → least ≤ x → ⊥

@@ -2,7 +2,7 @@
 -- search for an entry. Assumes nothing.
 use mathlib.Core.Path.{_≡_, refl, sym, ap, subst, subst₂, _∙_}
 use mathlib.Core.Bool.{Bool, true, false, true≢false, _&&_, and-eq-true-iff}
-use mathlib.Core.List.{List, [], _∷_, _++_}
+use mathlib.Core.List.{List, [], _∷_}
 use Prim.Native.Nat.{ℕ, zero, suc, _+_, _-_, _≤_, _<_}
 use native.Mathlib.Omega.{arith}
 use native.Mathlib.Numerals.{add-one}
@@ -146,25 +146,30 @@ queue-linked {i = i} r q h =
       byte = λ j h0 h1. omega (arith, q .made j h0 (omega arith) .step .known, r .few-arcs);
     }
 
--- the arcs to an entry, with one entry more
-traced-more : {w : List ℕ} {p i a j : ℕ} {s : List ℕ} → 0 < i → p ≡ parentAt w i → a ≡ numberAt w i → Traced w p j s
-    → Traced w i j (s ++ (a ∷ []))
-traced-more hi ep ea (here q) = there hi (q ∙ ep) ea (here refl)
-traced-more hi ep ea (there hj eq er r) = there hj eq er (traced-more hi ep ea r)
+module _ (w : List ℕ) (tail : ℕ) (back : (i : ℕ) → 0 < i → i < tail → parentAt w i < i) where
+  -- the entries that lead to entry i stand before it
+  pub traced-le : {i j : ℕ} {arcs : List ℕ} → i < tail → Traced w i j arcs → j ≤ i
+  traced-le h (here e) = omega arith
+  traced-le h (there {j = j} pos ep ea t) =
+      let q = traced-le h t in
+      omega (arith, back j pos (omega arith))
 
-linked-below : {w : List ℕ} {p i : ℕ} → p < i → Linked w i → Linked w p
-linked-below h k =
-    record { space = omega (arith, k .space); back = λ j hj q. k .back j hj (omega arith); byte = λ j hj q. k .byte j hj (omega arith) }
+  -- what leads from entry j to entry i can be read back to the first entry
+  traced-from : (fuel i j : ℕ) (arcs : List ℕ) → i < tail → j ≤ fuel → Traced w i j arcs → (l : List ℕ) × Traced w i 0 l
+  traced-from zero i j arcs h f t = let z : j ≡ 0 = omega arith in (arcs, rw z at t)
+  traced-from (suc fuel) i j arcs h f t =
+      elim (ℕ-discrete j 0) [
+        | yes z ↦ (arcs, subst (λ (m : ℕ). Traced w i m arcs) z t)
+        | no z ↦
+            let q = traced-le h t in
+            let p = back j (omega arith) (omega arith) in
+            traced-from fuel i (parentAt w j) (numberAt w j ∷ arcs) h (omega arith) (there (omega arith) refl refl t)
+      ]
 
-linked-from : {w : List ℕ} (f i : ℕ) → i < f → Linked w i → (s : List ℕ) × Traced w i 0 s
-linked-from zero i h k = absurd (omega arith)
-linked-from (suc f) zero h k = ([], here refl)
-linked-from {w} (suc f) (suc i) h k =
-    let p = parentAt w (suc i) in
-    let back : p < suc i = k .back (suc i) (omega arith) (omega arith) in
-    let r = linked-from f p (omega arith) (linked-below back k) in
-    (r .0 ++ (numberAt w (suc i) ∷ []), traced-more (omega arith) refl refl (r .1))
+  -- every entry can be read back
+  pub traced-some : (i : ℕ) → i < tail → (l : List ℕ) × Traced w i 0 l
+  traced-some i h = traced-from i i i [] h (omega arith) (here refl)
 
--- the arcs to an entry can be read back
-pub linked-traced : {w : List ℕ} {i : ℕ} → Linked w i → (s : List ℕ) × Traced w i 0 s
-linked-traced {i = i} k = linked-from (suc i) i (omega arith) k
+-- the arcs to an entry that is linked can be read back
+pub linked-traced : {w : List ℕ} {i : ℕ} → Linked w i → (l : List ℕ) × Traced w i 0 l
+linked-traced {w} {i} k = traced-some w (suc i) (λ j h0 h1. k .back j h0 (omega arith)) i (omega arith)

@@ -3,44 +3,20 @@
 use mathlib.Core.Path.{_≡_, refl, sym, ap, subst, _∙_}
 use mathlib.Core.List.{List, [], _∷_}
 use mathlib.Core.Logic.{_↔_}
-use Prim.Native.Nat.{ℕ, zero, suc, _+_, _/_, _%_, _≤_, _<_}
+use Prim.Native.Nat.{ℕ, suc, _+_, _/_, _%_, _<_}
 use native.Mathlib.Nat.{div-eq-of-lt, mod-eq-of-lt}
 use native.Mathlib.Omega.{arith}
-use native.Mathlib.Decide.{ℕ-discrete}
 use lib.ListN.{getD}
 use Rattle.walks.specs.Moves.{after, charge, Possible}
 use Rattle.model.specs.Fitness.{Fit}
 use Rattle.nets.specs.Graph.{moves, Leads}
 use Rattle.nets.specs.Table.{next, level, Closed, Reached}
 use Rattle.passes.specs.Pass.{Pass, node}
-use Rattle.passes.specs.Queue.{nodeAt, chargeAt, parentAt, numberAt, Made, Covers, Begun}
+use Rattle.passes.specs.Queue.{nodeAt, chargeAt, Made, Covers, Begun}
 use Rattle.passes.specs.Trace.{Traced, here, there}
 use Rattle.passes.proofs.Nodes.{node-level, node-mode, node-first}
+use Rattle.passes.proofs.Traces.{traced-le, traced-some}
 use Rattle.passes.proofs.Steps.{modelAt, netAt, Taken, along-taken, arc-along}
-
-module _ (w : List ℕ) (tail : ℕ) (back : (i : ℕ) → 0 < i → i < tail → parentAt w i < i) where
-  -- the entries that lead to entry i stand before it
-  traced-le : {i j : ℕ} {arcs : List ℕ} → i < tail → Traced w i j arcs → j ≤ i
-  traced-le h (here e) = omega arith
-  traced-le h (there {j = j} pos ep ea t) =
-      let q = traced-le h t in
-      omega (arith, back j pos (omega arith))
-
-  -- what leads from entry j to entry i can be read back to the first entry
-  traced-from : (fuel i j : ℕ) (arcs : List ℕ) → i < tail → j ≤ fuel → Traced w i j arcs → (l : List ℕ) × Traced w i 0 l
-  traced-from zero i j arcs h f t = let z : j ≡ 0 = omega arith in (arcs, rw z at t)
-  traced-from (suc fuel) i j arcs h f t =
-      elim (ℕ-discrete j 0) [
-        | yes z ↦ (arcs, subst (λ (m : ℕ). Traced w i m arcs) z t)
-        | no z ↦
-            let q = traced-le h t in
-            let p = back j (omega arith) (omega arith) in
-            traced-from fuel i (parentAt w j) (numberAt w j ∷ arcs) h (omega arith) (there (omega arith) refl refl t)
-      ]
-
-  -- every entry can be read back
-  traced-some : (i : ℕ) → i < tail → (l : List ℕ) × Traced w i 0 l
-  traced-some i h = traced-from i i i [] h (omega arith) (here refl)
 
 module _ (P : Pass) (s k : ℕ) (fit : Fit (modelAt P s k)) (ok : ℕ → Type 0) (ok-known : (a : ℕ) → ok a ↔ (a < netAt P s k .count)) where
   -- the arcs are a walk of possible steps from entry j to entry i

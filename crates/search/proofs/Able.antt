@@ -7,7 +7,7 @@ use lib.Dec.{ltb}
 use lib.ListN.{length, replicate}
 use Rattle.limits.specs.Ceilings.{productMost, workSpace, planBuffer}
 use Rattle.refusals.specs.declared.Refusal.{Refusal}
-use Rattle.refusals.specs.declared.Refusal.the-variants.{Product, WorkingSpace, PlanBuffer, NoPlan}
+use Rattle.refusals.specs.declared.Refusal.the-variants.{Product, WorkingSpace, PlanBuffer}
 use Rattle.refusals.specs.declared.Verdict.{Verdict}
 use Rattle.refusals.specs.declared.Verdict.the-variants.{Yes, Refused}
 use Rattle.refusals.proofs.Verdicts.{clash, refuse-yes, and-then-yes}
@@ -18,9 +18,9 @@ use Rattle.model.specs.Fitness.{fitness, levelsOf}
 use Rattle.model.specs.Plans.{SomePlan}
 use Rattle.model.proofs.Fitness.{fitness-yes, levels-yes}
 use Rattle.search.specs.declared.Searched.{Searched}
-use Rattle.search.specs.declared.Searched.the-variants.{Stopped}
+use Rattle.search.specs.declared.Searched.the-variants as outcome
 use Rattle.search.specs.declared.Task.{Task}
-use Rattle.search.specs.Search.{spaces, levelsAndSpaces, searchable, Answered, Search}
+use Rattle.search.specs.Search.{noPlan, spaces, levelsAndSpaces, searchable, Answered, Search}
 use Rattle.search.specs.Tasks.{Able}
 
 -- none of 7 to 9 applies
@@ -76,11 +76,11 @@ told-able n s k l b c words bytes told e = searchable-yes n s k l b c words byte
 
 module _ {v : Verdict} {g : Automaton} {b c : ℕ} {work plan : List ℕ} where
   -- where the verdict is a refusal, that is answered and both buffers are left as they were
-  pub search-refused : {x : Refusal} → v ≡ Refused x → Search v g b c work plan work plan (Stopped x)
+  pub search-refused : {x : Refusal} → v ≡ Refused x → Search v g b c work plan work plan (outcome.Refused x)
   search-refused told = record { refused = λ y e. (cc, refl, refl); decided = λ e. clash (cc) }
 
   -- where it is yes, search is decided and the working space cleared
-  pub search-decided : {work′ plan′ : List ℕ} {r : Searched} → v ≡ Yes → ((r ≡ Stopped NoPlan) ↔ (SomePlan g b c → ⊥))
+  pub search-decided : {work′ plan′ : List ℕ} {r : Searched} → v ≡ Yes → ((r ≡ noPlan) ↔ (SomePlan g b c → ⊥))
       → Answered g b c plan plan′ r → work′ ≡ replicate (length work) 0 → Search v g b c work plan work′ plan′ r
   search-decided told none answered cleared =
       record { refused = λ y e. clash (cc); decided = λ e. record { no-plan = none; answered = answered; cleared = cleared } }

@@ -7,7 +7,6 @@ use Prim.Native.Nat.{ℕ, _+_}
 use native.Mathlib.Omega.{arith}
 use lib.ListN.{length, take, length-drop}
 use lib.Seq.{length-take-le}
-use Rattle.refusals.specs.declared.Refusal.the-variants.{NoPlan}
 use Rattle.refusals.specs.declared.Verdict.{Verdict}
 use Rattle.refusals.specs.declared.Verdict.the-variants.{Yes, Refused}
 use Rattle.refusals.proofs.Verdicts.{clash}
@@ -18,8 +17,8 @@ use Rattle.judge.specs.Shape.{Lengths}
 use Rattle.judge.specs.Judged.{judged}
 use Rattle.judge.proofs.Judged.{judged-yes}
 use Rattle.search.specs.declared.Searched.{Searched}
-use Rattle.search.specs.declared.Searched.the-variants.{Plan, Stopped}
-use Rattle.search.specs.Search.{searchable, Found, Answered, none, found, SearchOf}
+use Rattle.search.specs.declared.Searched.the-variants as outcome
+use Rattle.search.specs.Search.{noPlan, searchable, Found, Answered, none, found, SearchOf}
 use Rattle.search.proofs.Able.{searchable-yes}
 
 -- a plan that is handed back has its lengths
@@ -34,18 +33,18 @@ found-lengths {p = p} {q} {plan′ = plan′} f =
     }
 
 -- the plan of an answer with one
-answered-found : {g : Automaton} {b c p q : ℕ} {plan plan′ : List ℕ} → Answered g b c plan plan′ (Plan p q) → Found g b c p q plan plan′
+answered-found : {g : Automaton} {b c p q : ℕ} {plan plan′ : List ℕ} → Answered g b c plan plan′ (outcome.Plan p q) → Found g b c p q plan plan′
 answered-found (found f) = f
 
 -- an answer without the refusal 10 has a plan
-answered-plan : {g : Automaton} {b c : ℕ} {plan plan′ : List ℕ} {r : Searched} → Answered g b c plan plan′ r → (r ≡ Stopped NoPlan → ⊥)
-    → (p : ℕ) × (q : ℕ) × (r ≡ Plan p q) × Found g b c p q plan plan′
+answered-plan : {g : Automaton} {b c : ℕ} {plan plan′ : List ℕ} {r : Searched} → Answered g b c plan plan′ r → (r ≡ noPlan → ⊥)
+    → (p : ℕ) × (q : ℕ) × (r ≡ outcome.Plan p q) × Found g b c p q plan plan′
 answered-plan (none e) not = absurd (not refl)
 answered-plan (found {p} {q} f) not = (p, q, refl, f)
 
 module _ (n s k : ℕ) (l : Lists) (b c : ℕ) {work plan work′ plan′ : List ℕ} where
   -- where a plan is answered, none of 1 to 9 applies
-  pub plan-searchable : {p q : ℕ} → SearchOf n s k l b c work plan work′ plan′ (Plan p q)
+  pub plan-searchable : {p q : ℕ} → SearchOf n s k l b c work plan work′ plan′ (outcome.Plan p q)
       → searchable n s k l b c (length work) (length plan) ≡ Yes
   plan-searchable {p} {q} h = go (searchable n s k l b c (length work) (length plan)) refl
     where
@@ -54,7 +53,7 @@ module _ (n s k : ℕ) (l : Lists) (b c : ℕ) {work plan work′ plan′ : List
       go (Refused x) e = let stopped = h .refused x e .0 in clash (cc)
 
   -- judging says yes to the plan that is handed back
-  pub search-judged : {p q : ℕ} → SearchOf n s k l b c work plan work′ plan′ (Plan p q) → judged n s k l b c p q (take (p + q) plan′) ≡ Yes
+  pub search-judged : {p q : ℕ} → SearchOf n s k l b c work plan work′ plan′ (outcome.Plan p q) → judged n s k l b c p q (take (p + q) plan′) ≡ Yes
   search-judged {p} {q} h =
       let through = plan-searchable h in
       let able = searchable-yes n s k l b c (length work) (length plan) .0 through .0 in
@@ -71,10 +70,10 @@ module _ (n s k : ℕ) (l : Lists) (b c : ℕ) {work plan work′ plan′ : List
   module _ {r : Searched} (h : SearchOf n s k l b c work plan work′ plan′ r)
       (through : searchable n s k l b c (length work) (length plan) ≡ Yes) where
     -- where none of 1 to 9 applies, the answer is 10 exactly where no plan of any length is feasible and accepted
-    pub search-none : (r ≡ Stopped NoPlan) ↔ (SomePlan (automatonOf n s k l) b c → ⊥)
+    pub search-none : (r ≡ noPlan) ↔ (SomePlan (automatonOf n s k l) b c → ⊥)
     search-none = h .decided through .no-plan
 
     -- and where there is a plan, one is found
     pub search-complete : SomePlan (automatonOf n s k l) b c
-        → (p : ℕ) × (q : ℕ) × (r ≡ Plan p q) × Found (automatonOf n s k l) b c p q plan plan′
+        → (p : ℕ) × (q : ℕ) × (r ≡ outcome.Plan p q) × Found (automatonOf n s k l) b c p q plan plan′
     search-complete some = answered-plan (h .decided through .answered) (λ e. search-none .0 e some)

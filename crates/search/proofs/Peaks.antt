@@ -1,11 +1,11 @@
 -- The table of peaks: an array of which a word for each mode is lent, to the pass that fills it and to the search for the first peak that a
 -- cycle keeps. What that search says of plans. Assumes nothing.
-use mathlib.Core.Path.{_≡_, sym, subst, _∙_}
+use mathlib.Core.Path.{_≡_, sym, subst}
 use mathlib.Core.List.{List, _++_}
-use Prim.Native.Nat.{ℕ, _+_, _-_, _*_, _≤_, _<_}
+use Prim.Native.Nat.{ℕ, _+_, _-_, _≤_, _<_}
 use native.Mathlib.Omega.{arith}
-use lib.ListN.{length, getD, take, drop, replicate, length-append, length-replicate, getD-replicate, List·getD-append}
-use lib.Seq.{length-take-le, take-at, getD-take, ext-getD}
+use lib.ListN.{length, getD, take, drop, replicate, length-append, List·getD-append}
+use lib.Seq.{length-take-le, take-at}
 use Rattle.model.specs.Lists.{Lists}
 use Rattle.model.specs.Plans.{SomePlan}
 use Rattle.nets.specs.Table.{KeptCycle}

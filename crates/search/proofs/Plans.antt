@@ -9,7 +9,6 @@ use native.Mathlib.Omega.{arith}
 use lib.ListN.{length, getD, take, drop, set, length-append, length-drop, drop-of-length-le}
 use lib.Seq.{length-take-le, take-at, drop-at, take-append-add, drop-append-add, take-suc-set, drop-set-lt, drop-drop}
 use Rattle.limits.specs.Ceilings.{productMost, planBuffer}
-use Rattle.refusals.specs.declared.Refusal.the-variants.{NoPlan}
 use Rattle.model.specs.Automaton.{Automaton}
 use Rattle.model.specs.Fitness.{Fit}
 use Rattle.model.specs.Plans.{Serves, SomePlan}
@@ -25,10 +24,9 @@ use Rattle.passes.specs.Queue.{Entry, nodeAt, chargeAt}
 use Rattle.passes.specs.Trace.{Wrote}
 use Rattle.passes.specs.Outcome.{Peak, Peaked, Toured, PrefixWritten, CycleWritten}
 use Rattle.search.specs.declared.Searched.{Searched}
-use Rattle.search.specs.declared.Searched.the-variants.{Stopped}
-use Rattle.search.specs.Search.{Found, Answered, none, found}
+use Rattle.search.specs.Search.{noPlan, Found, Answered, none, found}
 use Rattle.passes.proofs.Nodes.{node-first}
-use Rattle.search.proofs.Spaces.{plan-held, plan-short}
+use Rattle.search.proofs.Spaces.{plan-held, plan-short, prefix-few, cycle-few}
 
 module _ {g : Automaton} {b c r : ℕ} {best w : List ℕ} (peaked : Peaked g b c best w r) where
   -- the table that the pass leaves has the peak of a mode
@@ -119,12 +117,14 @@ plan-found {g} {b} {c} {s} {e} {p} {q} {plan} {plan₁} {part} fit product buffe
     rw (past, append-nil part) (record {
       within = omega (arith, held, length-append (take p plan₁) part, length-take-le p plan₁ long, length-drop p plan₁, rw rest at kept);
       short = omega (arith, held, plan-short k n b (fit .few-colours) product);
+      prefix-short = prefix-few n b p (prefix .few);
+      cycle-short = cycle-few k n b q (cycle .few);
       serves = plan-serves prefix behind long;
       later = plan-later prefix behind long;
     })
 
 -- where a plan is answered there is one
-pub plan-answered : {g : Automaton} {b c : ℕ} {plan plan′ : List ℕ} {r : Searched} → Answered g b c plan plan′ r → (r ≡ Stopped NoPlan → ⊥)
-    → (r ≡ Stopped NoPlan) ↔ (SomePlan g b c → ⊥)
+pub plan-answered : {g : Automaton} {b c : ℕ} {plan plan′ : List ℕ} {r : Searched} → Answered g b c plan plan′ r → (r ≡ noPlan → ⊥)
+    → (r ≡ noPlan) ↔ (SomePlan g b c → ⊥)
 plan-answered (none e) not = absurd (not refl)
 plan-answered (found f) not = (λ e. absurd (not e), λ no. absurd (no (_, f .serves)))

@@ -3,6 +3,7 @@ use mathlib.Core.Path.{_≡_}
 use mathlib.Core.List.{List}
 use Prim.Native.Nat.{ℕ, suc, _+_, _-_, _*_, _≤_}
 use native.Mathlib.Nat.{add-zero, suc-mul, add-mul, mul-assoc, mul-le-mul}
+use native.Mathlib.Numerals.{add-one}
 use native.Mathlib.Omega.{arith}
 use lib.ListN.{length, take, drop, length-drop}
 use Rattle.limits.specs.Ceilings.{coloursMost, productMost, planMost, workSpace, planBuffer}
@@ -41,3 +42,13 @@ module _ (k n b : ℕ) where
   pub cycle-held : (p : ℕ) (plan : List ℕ) → p ≤ room n b → planBuffer k n b ≤ length plan
       → room (nodes n k) b ≤ length (take (length plan - p) (drop p plan))
   cycle-held p plan prefix buffer = rw (rest-part p plan) (omega (arith, plan-parts, length-drop p plan))
+
+-- the pairs of a mode and a charge, as document 01 counts them
+pub prefix-few : (n b p : ℕ) → p ≤ room n b → p ≤ n * (b + 1)
+unfolding room
+prefix-few n b p few = few
+
+-- and those with a level
+pub cycle-few : (k n b q : ℕ) → q ≤ room (nodes n k) b → q ≤ (k + 1) * n * (b + 1)
+unfolding room node
+cycle-few k n b q few = rw (add-one k) (rw (add-zero (suc k * n)) at few)

@@ -2,7 +2,7 @@
 -- is kept. Assumes nothing.
 use mathlib.Core.Path.{_≡_, refl, ap, _∙_}
 use mathlib.Core.Bool.{Bool, true, false}
-use mathlib.Core.List.{List, [], _∷_, _++_}
+use mathlib.Core.List.{List}
 use Prim.Native.Nat.{ℕ, zero, suc, _+_, _*_, _≤_, _<_}
 use native.Mathlib.Nat.{mul-le-mul}
 use native.Mathlib.Omega.{arith}
@@ -111,7 +111,7 @@ module _ {l : Lists} {t : Task} {words : ℕ} (able : Able l t words) where
       → length w ≡ words → Passed (peaksPass l (t .modes) (t .bound)) (t .start) (t .credit) best w found head a tail
       → Peaked (modelOf l t) (t .bound) (t .credit) best w tail
   peaks-left e hb hw p =
-      passed-peaked l (t .modes) (t .start) (t .colours) (t .bound) (able .fit) (t .credit) (able .credit)
+      passed-peaked l (t .modes) (t .start) (t .colours) (t .bound) (able .fit) (t .credit)
       (ready-kept (peaks-asked e .0) hb hw) p
 
   module _ {m e : ℕ} (hm : m < t .modes) (he : e ≤ t .bound) where
@@ -131,7 +131,7 @@ module _ {l : Lists} {t : Task} {words : ℕ} (able : Able l t words) where
         → Toured (modelOf l t) (t .bound) m e w found head a
     unfolding node
     cycle-left q hb hw p =
-        passed-toured l (t .modes) (t .start) (t .colours) (t .bound) (able .fit) m e hm he (ready-kept (cycle-asked q .0) hb hw) p
+        passed-toured l (t .modes) (t .start) (t .colours) (t .bound) (able .fit) m e hm (ready-kept (cycle-asked q .0) hb hw) p
 
 -- no peak is above the bound
 pub peaked-low : {g : Automaton} {b c r : ℕ} {best w : List ℕ} → c ≤ b → length best ≡ g .modes → Peaked g b c best w r → (s : ℕ)

@@ -6,19 +6,18 @@ use mathlib.Core.Logic.{_↔_}
 use lib.Dec.{ltb}
 use lib.ListN.{length, take, drop, replicate}
 use Rattle.limits.specs.Ceilings.{productMost, planMost, workSpace, planBuffer}
-use Rattle.refusals.specs.declared.Answer.{Answer}
 use Rattle.refusals.specs.declared.Refusal.{Refusal}
 use Rattle.refusals.specs.declared.Refusal.the-variants.{Product, WorkingSpace, PlanBuffer, NoPlan}
 use Rattle.refusals.specs.declared.Verdict.{Verdict}
 use Rattle.refusals.specs.declared.Verdict.the-variants.{Yes, Refused}
-use Rattle.refusals.specs.Refusals.{numbered, refuse, andThen}
+use Rattle.refusals.specs.Refusals.{answer, numbered, refuse, andThen}
 use Rattle.model.specs.Automaton.{Automaton}
 use Rattle.model.specs.Lists.{Lists, automatonOf}
 use Rattle.model.specs.Fitness.{fitness, levelsOf}
 use Rattle.model.specs.Plans.{Serves, SomePlan}
 use Rattle.judge.specs.Shape.{planOf}
 use Rattle.search.specs.declared.Searched.{Searched}
-use Rattle.search.specs.declared.Searched.the-variants.{Plan, Stopped}
+use Rattle.search.specs.declared.Searched.the-variants as outcome
 use Rattle.search.specs.declared.SearchAnswer.{SearchAnswer}
 
 -- 7 to 9, by the lengths of the two buffers: "n × (b+1) above 8,192", "working space too short", "plan buffer too short"
@@ -37,31 +36,37 @@ levelsAndSpaces n k b c words bytes = andThen (levelsOf b c) (spaces n k b words
 unfoldable pub searchable : ℕ → ℕ → ℕ → Lists → ℕ → ℕ → ℕ → ℕ → Verdict
 searchable n s k l b c words bytes = andThen (fitness n s k l) (levelsAndSpaces n k b c words bytes)
 
--- "Where search refuses, p and q are 0": the number, detail, p and q of each answer
-abbrev pub searchAnswerOf : Answer → ℕ → ℕ → SearchAnswer
-searchAnswerOf a p q = record { number = a .number; detail = a .detail; p = p; q = q }
-
+-- "It answers p and q"; "Where search refuses, p and q are 0"
 abbrev pub searchAnswer : Searched → SearchAnswer
-searchAnswer (Plan p q) = record { number = 0; detail = 0; p = p; q = q }
-searchAnswer (Stopped r) = searchAnswerOf (numbered r) 0 0
+searchAnswer (outcome.Plan p q) = record { answer = answer 0 0; p = p; q = q }
+searchAnswer (outcome.Refused r) = record { answer = numbered r; p = 0; q = 0 }
 
--- "the first p + q bytes of the plan buffer, as the call leaves it, are with this p and q a feasible and accepted plan, no longer than judging
--- takes"; "Later bytes of the buffer are not touched." Which plan it is, and with it p and q, is free.
+-- "no plan exists"
+abbrev pub noPlan : Searched
+noPlan = outcome.Refused NoPlan
+
+-- What holds of the plan that is handed back. Which feasible and accepted plan it is, its p and q with it, is free.
 pub record Found (g : Automaton) (b c p q : ℕ) (plan plan′ : List ℕ) : Type 0 where
-  pub within : p + q ≤ length plan′
-  pub short : p + q ≤ planMost
+  -- "the first p + q bytes of the plan buffer, as the call leaves it, are with this p and q a feasible and accepted plan"
   pub serves : Serves g b c (planOf p (take (p + q) plan′))
+  pub within : p + q ≤ length plan′
+  -- "no longer than judging takes"
+  pub short : p + q ≤ planMost
+  -- "a run-in of at most n(b+1) and a round of at most (k+1)n(b+1) arcs"
+  pub prefix-short : p ≤ g .modes * (b + 1)
+  pub cycle-short : q ≤ (g .colours + 1) * g .modes * (b + 1)
+  -- "Later bytes of the buffer are not touched."
   pub later : drop (p + q) plan′ ≡ drop (p + q) plan
 
 -- What search answers where none of 1 to 9 applies, and how it leaves the plan buffer: 10, with the buffer untouched, or a plan in it.
 pub data Answered (g : Automaton) (b c : ℕ) (plan plan′ : List ℕ) : Searched → Type 0 where
-  none : plan′ ≡ plan → Answered g b c plan plan′ (Stopped NoPlan)
-  found : {p q : ℕ} → Found g b c p q plan plan′ → Answered g b c plan plan′ (Plan p q)
+  none : plan′ ≡ plan → Answered g b c plan plan′ noPlan
+  found : {p q : ℕ} → Found g b c p q plan plan′ → Answered g b c plan plan′ (outcome.Plan p q)
 
 -- Demand 3, for a fit model and levels and buffers to which none of 6 to 9 applies, whatever stands in the buffers.
 pub record Decided (g : Automaton) (b c : ℕ) (work plan work′ plan′ : List ℕ) (r : Searched) : Type 0 where
   -- "the answer is 10 exactly when no plan of any length is feasible and accepted"
-  pub no-plan : (r ≡ Stopped NoPlan) ↔ (SomePlan g b c → ⊥)
+  pub no-plan : (r ≡ noPlan) ↔ (SomePlan g b c → ⊥)
   -- "Otherwise it is p and q", and the plan; "after 10 the plan buffer is untouched"
   pub answered : Answered g b c plan plan′ r
   -- "After 10 or a plan, the whole lent working space is zero"
@@ -69,7 +74,7 @@ pub record Decided (g : Automaton) (b c : ℕ) (work plan work′ plan′ : List
 
 -- Search, over all inputs. v: what 1 to 9 say. "Refusals 1 to 9 leave both buffers of the search untouched."
 pub record Search (v : Verdict) (g : Automaton) (b c : ℕ) (work plan work′ plan′ : List ℕ) (r : Searched) : Type 0 where
-  pub refused : (x : Refusal) → v ≡ Refused x → (r ≡ Stopped x) × (work′ ≡ work) × (plan′ ≡ plan)
+  pub refused : (x : Refusal) → v ≡ Refused x → (r ≡ outcome.Refused x) × (work′ ≡ work) × (plan′ ≡ plan)
   pub decided : v ≡ Yes → Decided g b c work plan work′ plan′ r
 
 -- the claim of the call: by its numbers, lists and buffers

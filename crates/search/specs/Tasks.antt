@@ -1,8 +1,7 @@
 -- What the inner functions of search are given: the task, once none of 1 to 9 applies, and a pass of it.
 use Prim.Native.Nat.{ℕ, _+_, _*_, _/_, _%_, _≤_}
-use mathlib.Core.Path.{_≡_}
 use mathlib.Core.List.{List}
-use Rattle.limits.specs.Ceilings.{boundMost, productMost, workSpace, planBuffer}
+use Rattle.limits.specs.Ceilings.{boundMost, productMost, workSpace}
 use Rattle.model.specs.Automaton.{Automaton}
 use Rattle.model.specs.Lists.{Lists, automatonOf}
 use Rattle.model.specs.Fitness.{EqualLists, Fit}

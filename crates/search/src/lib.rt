@@ -18,11 +18,12 @@ ghost use Rattle.passes.specs.Pass.{node, nodes, room, levelAfter, closes, Read
 ghost use Rattle.passes.specs.Queue.{nodeAt, chargeAt, parentAt, numberAt, Entry, Queue, Pushed, Arrives, Arrived, Tried, Visited, Passed};
 ghost use Rattle.passes.specs.Trace.{Linked, Chain, Wrote};
 ghost use Rattle.passes.specs.Outcome.{Peak, KeptPeak, Peaked, Toured, FirstKept, PrefixWritten, CycleWritten};
-ghost use Rattle.search.specs.Search.{spaces, levelsAndSpaces, searchable, searchAnswer, Found, Decided, Answered, SearchOf};
+ghost use Rattle.search.specs.Search.{spaces, levelsAndSpaces, searchable, searchAnswer, noPlan, Answered, SearchOf};
 ghost use Rattle.search.specs.Tasks.{modelOf, passOf, placeAt, Able};
 use limits::Limits;
 use model::check_levels;
 use model::check_model;
+use refusals::Answer;
 use refusals::Refusal;
 use refusals::Verdict;
 use walks::Step;
@@ -31,16 +32,15 @@ use walks::bounded_step;
 // The most nodes of a pass.
 const NODES: usize = ((Limits::COLOURS as usize) + 1) * (Limits::MODES as usize);
 
-// What search answers: the lengths of the prefix and of the cycle in the plan buffer, or where it stops.
+// What search answers: the lengths of the prefix and of the cycle in the plan buffer, or a refusal.
 pub enum Searched {
     Plan(u32, u32),
-    Stopped(Refusal),
+    Refused(Refusal),
 }
 
-// The number of document 01's table and its detail, with p and q.
+// The number and the detail of a search, and the lengths of prefix and cycle.
 pub struct SearchAnswer {
-    pub number: u8,
-    pub detail: u32,
+    pub answer: Answer,
     pub p: u32,
     pub q: u32,
 }
@@ -87,26 +87,21 @@ struct Outcome {
 }
 
 impl Searched {
-    // Number, detail, p and q as document 01 has them; p and q are 0 where search refuses.
+    // A refusal has its number and detail, and p and q are 0; a plan has number 0.
     pub fn answer(self) -> SearchAnswer
         ensures { λ r. ⌜ r ≡ searchAnswer self ⌝ }
     {
         match self {
             Searched::Plan(p, q) => SearchAnswer {
-                number: 0,
-                detail: 0,
+                answer: Verdict::Yes.answer(),
                 p,
                 q,
             },
-            Searched::Stopped(refusal) => {
-                let answer = refusal.answer();
-                SearchAnswer {
-                    number: answer.number,
-                    detail: answer.detail,
-                    p: 0,
-                    q: 0,
-                }
-            }
+            Searched::Refused(refusal) => SearchAnswer {
+                answer: refusal.answer(),
+                p: 0,
+                q: 0,
+            },
         }
     }
 }
@@ -711,7 +706,7 @@ fn write_plan(
     requires { ⌜ (peak ≤ task .bound) × KeptCycle (whole (modelOf (lists (now sources) (now targets) (now weights) (now colours)) task)) (task .bound) mode peak ⌝ }
     requires { ⌜ planBuffer (task .colours) (task .modes) (task .bound) ≤ length (now plan) ⌝ }
     ensures { λ r. ⌜ Answered (modelOf (lists (now (sources .entry)) (now (targets .entry)) (now (weights .entry)) (now (colours .entry))) task) (task .bound) (task .credit) (now (plan .entry)) (now (plan .exit)) r ⌝ }
-    ensures { λ r. ⌜ (r ≡ Searched.Stopped Refusal.NoPlan → ⊥) ⌝ }
+    ensures { λ r. ⌜ (r ≡ noPlan → ⊥) ⌝ }
 {
     let p = write_prefix(
         sources,
@@ -750,7 +745,7 @@ fn decide(
 ) -> Searched
     requires { ⌜ Able (lists (now sources) (now targets) (now weights) (now colours)) task (length (now work)) ⌝ }
     requires { ⌜ planBuffer (task .colours) (task .modes) (task .bound) ≤ length (now plan) ⌝ }
-    ensures no_plan { λ r. ⌜ (r ≡ Searched.Stopped Refusal.NoPlan) ↔ (SomePlan (modelOf (lists (now (sources .entry)) (now (targets .entry)) (now (weights .entry)) (now (colours .entry))) task) (task .bound) (task .credit) → ⊥) ⌝ }
+    ensures no_plan { λ r. ⌜ (r ≡ noPlan) ↔ (SomePlan (modelOf (lists (now (sources .entry)) (now (targets .entry)) (now (weights .entry)) (now (colours .entry))) task) (task .bound) (task .credit) → ⊥) ⌝ }
     ensures answered { λ r. ⌜ Answered (modelOf (lists (now (sources .entry)) (now (targets .entry)) (now (weights .entry)) (now (colours .entry))) task) (task .bound) (task .credit) (now (plan .entry)) (now (plan .exit)) r ⌝ }
 {
     let modes = task.modes;
@@ -774,7 +769,7 @@ fn decide(
         work,
     );
     if mode == modes {
-        return Searched::Stopped(Refusal::NoPlan);
+        return Searched::Refused(Refusal::NoPlan);
     }
     write_plan(
         sources,
@@ -888,6 +883,6 @@ pub fn search(
             clear(work);
             searched
         }
-        Verdict::Refused(refusal) => Searched::Stopped(refusal),
+        Verdict::Refused(refusal) => Searched::Refused(refusal),
     }
 }
