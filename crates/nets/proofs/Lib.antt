@@ -1,4 +1,4 @@
--- The laws of nets, one idea a file; Whole says them of models, in the words of the papers.
+-- The laws of nets, one idea a file; Whole and Short say them of models, in the words of the papers.
 pub mod Leads
 pub mod Cycles
 pub mod Levels
@@ -7,3 +7,5 @@ pub mod Criterion
 pub mod Decides
 pub mod GraphOf
 pub mod Whole
+pub mod Pigeons
+pub mod Short

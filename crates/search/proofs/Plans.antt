@@ -26,7 +26,7 @@ use Rattle.passes.specs.Outcome.{Peak, Peaked, Toured, PrefixWritten, CycleWrit
 use Rattle.search.specs.declared.Searched.{Searched}
 use Rattle.search.specs.Search.{noPlan, Found, Answered, none, found}
 use Rattle.passes.proofs.Nodes.{node-first}
-use Rattle.search.proofs.Spaces.{plan-held, plan-short, prefix-few, cycle-few}
+use Rattle.search.proofs.Spaces.{plan-held, buffer-short, prefix-few, cycle-few}
 
 module _ {g : Automaton} {b c r : ℕ} {best w : List ℕ} (peaked : Peaked g b c best w r) where
   -- the table that the pass leaves has the peak of a mode
@@ -116,7 +116,7 @@ plan-found {g} {b} {c} {s} {e} {p} {q} {plan} {plan₁} {part} fit product buffe
     in
     rw (past, append-nil part) (record {
       within = omega (arith, held, length-append (take p plan₁) part, length-take-le p plan₁ long, length-drop p plan₁, rw rest at kept);
-      short = omega (arith, held, plan-short k n b (fit .few-colours) product);
+      short = omega (arith, held, buffer-short k n b (fit .few-colours) product);
       prefix-short = prefix-few n b p (prefix .few);
       cycle-short = cycle-few k n b q (cycle .few);
       serves = plan-serves prefix behind long;

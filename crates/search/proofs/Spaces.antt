@@ -19,8 +19,8 @@ module _ (k n b : ℕ) where
       rw (add-zero (suc k * n)) (omega (arith, mul-assoc (suc k) n (b + 1), suc-mul k x, mul-assoc (k + 2) n (b + 1), add-mul k 2 x))
 
   -- a plan that the buffer holds is not too long to be judged
-  pub plan-short : k ≤ coloursMost → n * (b + 1) ≤ productMost → planBuffer k n b ≤ planMost
-  plan-short few product =
+  pub buffer-short : k ≤ coloursMost → n * (b + 1) ≤ productMost → planBuffer k n b ≤ planMost
+  buffer-short few product =
       omega (arith, mul-assoc (k + 2) n (b + 1), mul-le-mul {n₁ = k + 2} {m₁ = n * (b + 1)} {n₂ = 6} {m₂ = 8192} (omega arith) product)
 
   -- the working space holds the queue of the pass over the modes
