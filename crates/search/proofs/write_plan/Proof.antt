@@ -3,7 +3,7 @@ use native.Mathlib.Omega.{arith}
 use borrow.Author.Needs.{needs}
 use Rattle.refusals.proofs.Verdicts.{clash}
 use Rattle.search.specs.Search.{found}
-use Rattle.search.proofs.Spaces.{plan-held, plan-short, prefix-held, cycle-held}
+use Rattle.search.proofs.Spaces.{plan-held, buffer-short, prefix-held, cycle-held}
 use Rattle.search.proofs.Tasks.{able-kept}
 use Rattle.search.proofs.Plans.{plan-found}
 use Rattle.search.proofs.write_plan.Statement.{statement}
@@ -49,7 +49,7 @@ cast-t22 c =
     let d = c .before .before .before .before .before .before .before .before .before .before .before in
     let s = d .before .before .before .before .before .before .before .before in
     let t = s .args .task in
-    let short = plan-short (t .colours) (t .modes) (t .bound) (s .pre .0 .fit .few-colours) (s .pre .0 .product) in
+    let short = buffer-short (t .colours) (t .modes) (t .bound) (s .pre .0 .fit .few-colours) (s .pre .0 .product) in
     omega (arith, short, prefix-held (t .colours) (t .modes) (t .bound) _ short, d .write-prefix .ensures .few)
 
 cast-t23 : tie.Need-cast-t23
@@ -60,7 +60,7 @@ cast-t23 c =
     let p = d .write-prefix in
     let q = c .before .before .before .before .write-cycle in
     let held = plan-held (t .colours) (t .modes) (t .bound) (p .result) (q .result) (p .ensures .few) (q .ensures .few) in
-    omega (arith, held, plan-short (t .colours) (t .modes) (t .bound) (s .pre .0 .fit .few-colours) (s .pre .0 .product))
+    omega (arith, held, buffer-short (t .colours) (t .modes) (t .bound) (s .pre .0 .fit .few-colours) (s .pre .0 .product))
 
 same-length : tie.Need-same-length
 same-length c = search needs

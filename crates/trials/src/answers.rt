@@ -1,0 +1,296 @@
+// One random model: search's answer compared with the plain one, and a plan handed back judged and walked.
+use crate::lists::is_clear;
+use crate::lists::is_untouched;
+use crate::lists::junk_plan;
+use crate::lists::junk_work;
+use crate::models::Family;
+use crate::models::Numbers;
+use crate::models::next;
+use crate::models::numbers_of;
+use crate::models::put_arcs;
+use crate::plain::has_plan;
+use crate::plain::round_trip;
+use judge::judge;
+use planwalk::walk;
+use search::Searched;
+use search::search;
+
+// The most pairs of a node and a charge, (k + 1) × n × (b + 1), that the program keeps space for.
+const ROOM: usize = 8192;
+
+// The answer for a model: 0 a plan, 1 no plan, 2 a difference; and the next state of the generator.
+pub struct Tried {
+    pub answer: u32,
+    pub state: u32,
+}
+
+// Whether judging says yes to a plan.
+fn is_judged(
+    sources: &[u8],
+    targets: &[u8],
+    weights: &[i16],
+    colours: &[u8],
+    numbers: Numbers,
+    p: u32,
+    q: u32,
+    plan: &[u8],
+) -> bool {
+    let verdict = judge(
+        numbers.modes,
+        numbers.start,
+        numbers.colours,
+        sources,
+        targets,
+        weights,
+        colours,
+        numbers.credit,
+        numbers.bound,
+        p,
+        q,
+        plan,
+    );
+    let answer = verdict.answer();
+    answer.number == 0
+}
+
+// Whether the walk of a plan meets each colour within prefix and cycle, and is refused by 18 for the first number that is no colour.
+fn is_walked(
+    sources: &[u8],
+    targets: &[u8],
+    weights: &[i16],
+    colours: &[u8],
+    numbers: Numbers,
+    p: u32,
+    q: u32,
+    plan: &[u8],
+) -> bool {
+    let mut colour = 0;
+    let mut right = true;
+    while colour <= numbers.colours {
+        let walked = walk(
+            numbers.modes,
+            numbers.start,
+            numbers.colours,
+            sources,
+            targets,
+            weights,
+            colours,
+            numbers.credit,
+            numbers.bound,
+            p,
+            q,
+            plan,
+            colour,
+            (plan.len() % 65536) as u16,
+        );
+        let result = walked.answer();
+        let answer = result.answer;
+        if colour == numbers.colours {
+            return right && answer.number == 18;
+        }
+        right = right && result.met;
+        colour += 1;
+    }
+    false
+}
+
+// 0 where a plan is right: it was expected, the buffers are as they should be, and it is judged and walked; else 2.
+fn check_plan(
+    sources: &[u8],
+    targets: &[u8],
+    weights: &[i16],
+    colours: &[u8],
+    numbers: Numbers,
+    p: u32,
+    q: u32,
+    buffer: &[u8],
+) -> u32 {
+    let length = (p as usize) + (q as usize);
+    if length > buffer.len() {
+        return 2;
+    }
+    if !is_untouched(buffer, length) {
+        return 2;
+    }
+    let plan = &buffer[..length];
+    if !is_judged(sources, targets, weights, colours, numbers, p, q, plan) {
+        return 2;
+    }
+    if !is_walked(sources, targets, weights, colours, numbers, p, q, plan) {
+        return 2;
+    }
+    if !round_trip(sources, targets, weights, numbers, p as usize, plan) {
+        return 2;
+    }
+    0
+}
+
+// The answer compared with the expected one.
+fn check_answer(
+    sources: &[u8],
+    targets: &[u8],
+    weights: &[i16],
+    colours: &[u8],
+    numbers: Numbers,
+    searched: Searched,
+    expected: bool,
+    plan: &[u8],
+) -> u32 {
+    match searched {
+        Searched::Plan(p, q) => {
+            if !expected {
+                return 2;
+            }
+            check_plan(sources, targets, weights, colours, numbers, p, q, plan)
+        }
+        Searched::Refused(refusal) => {
+            let answer = refusal.answer();
+            if expected {
+                return 2;
+            }
+            if answer.number != 10 {
+                return 2;
+            }
+            if !is_untouched(plan, 0) {
+                return 2;
+            }
+            1
+        }
+    }
+}
+
+// Searches with buffers of junk, of these lengths, and compares.
+fn compare(
+    sources: &[u8],
+    targets: &[u8],
+    weights: &[i16],
+    colours: &[u8],
+    numbers: Numbers,
+    expected: bool,
+    work: &mut [u16],
+    plan: &mut [u8],
+) -> u32 {
+    junk_work(work);
+    junk_plan(plan);
+    let searched = search(
+        numbers.modes,
+        numbers.start,
+        numbers.colours,
+        sources,
+        targets,
+        weights,
+        colours,
+        numbers.credit,
+        numbers.bound,
+        work,
+        plan,
+    );
+    if !is_clear(work) {
+        return 2;
+    }
+    check_answer(
+        sources,
+        targets,
+        weights,
+        colours,
+        numbers,
+        searched,
+        expected,
+        plan,
+    )
+}
+
+// Whether a plan is expected, by the plain search; `pairs` is n × (b + 1).
+fn expects(
+    sources: &[u8],
+    targets: &[u8],
+    weights: &[i16],
+    colours: &[u8],
+    numbers: Numbers,
+    pairs: usize,
+) -> bool {
+    if pairs > ROOM {
+        return false;
+    }
+    let mut alive = [0u8; ROOM];
+    let mut marked = [0u8; ROOM];
+    has_plan(
+        sources,
+        targets,
+        weights,
+        colours,
+        numbers,
+        &mut alive[..pairs],
+        &mut marked[..pairs],
+    )
+}
+
+// Lends buffers as long as search asks for, and up to three places longer. A model that is too large for the program's space is a difference.
+fn lend(
+    sources: &[u8],
+    targets: &[u8],
+    weights: &[i16],
+    colours: &[u8],
+    numbers: Numbers,
+    extra: usize,
+) -> u32 {
+    let pairs = (numbers.modes as usize) * ((numbers.bound as usize) + 1);
+    if pairs > ROOM || numbers.colours > 4 {
+        return 2;
+    }
+    let room = pairs * ((numbers.colours as usize) + 1);
+    if room > ROOM {
+        return 2;
+    }
+    let expected = expects(sources, targets, weights, colours, numbers, pairs);
+    let mut work = [0u16; 4 * ROOM + 3];
+    let mut plan = [0u8; 2 * ROOM + 3];
+    let words = 4 * room + extra % 4;
+    let bytes = room + pairs + extra % 4;
+    compare(
+        sources,
+        targets,
+        weights,
+        colours,
+        numbers,
+        expected,
+        &mut work[..words],
+        &mut plan[..bytes],
+    )
+}
+
+// A random model of a family.
+pub fn try_model(family: Family, state: u32) -> Tried {
+    let numbers = numbers_of(family, state);
+    let count = numbers.arcs as usize;
+    if count > 255 {
+        return Tried {
+            answer: 2,
+            state: next(state),
+        };
+    }
+    let mut sources = [0u8; 255];
+    let mut targets = [0u8; 255];
+    let mut weights = [0i16; 255];
+    let mut colours = [0u8; 255];
+    let after = put_arcs(
+        next(state),
+        numbers,
+        family,
+        &mut sources,
+        &mut targets,
+        &mut weights,
+        &mut colours,
+    );
+    Tried {
+        answer: lend(
+            &sources[..count],
+            &targets[..count],
+            &weights[..count],
+            &colours[..count],
+            numbers,
+            after as usize,
+        ),
+        state: after,
+    }
+}

@@ -1,0 +1,85 @@
+// Document 01's examples M and N.
+use crate::print::print_end;
+use crate::print::print_next;
+use crate::print::print_number;
+use crate::print::print_word;
+use planwalk::walk;
+use search::search;
+
+// M: the walk of I for colour 0, with an allowance. I: G's model, run-in 0 0 0 0 0 1, round 2.
+fn print_walk(allowance: u16) {
+    let sources = [0u8, 0u8, 1u8];
+    let targets = [0u8, 1u8, 1u8];
+    let weights = [1i16, -5i16, 0i16];
+    let colours = [0u8, 0u8, 1u8];
+    let plan = [0u8, 0u8, 0u8, 0u8, 0u8, 1u8, 2u8];
+    let walked = walk(
+        2,
+        0,
+        1,
+        &sources,
+        &targets,
+        &weights,
+        &colours,
+        0,
+        5,
+        6,
+        1,
+        &plan,
+        0,
+        allowance,
+    );
+    let result = walked.answer();
+    print_word(b"M");
+    if result.met {
+        print_next(b"met");
+    } else {
+        print_next(b"spent");
+    }
+    print_number(result.steps as u32);
+    print_end();
+}
+
+// N: n, start mode, k and b of a model without arcs, and the number that search answers.
+fn print_search(n: u32, start: u32, k: u32, b: u32) {
+    let sources = [0u8; 1];
+    let targets = [0u8; 1];
+    let weights = [0i16; 1];
+    let colours = [0u8; 1];
+    let mut work = [0u16; 32768];
+    let mut plan = [0u8; 16384];
+    let none = 0;
+    let searched = search(
+        n,
+        start,
+        k,
+        &sources[..none],
+        &targets[..none],
+        &weights[..none],
+        &colours[..none],
+        0,
+        b,
+        &mut work,
+        &mut plan,
+    );
+    let result = searched.answer();
+    let answer = result.answer;
+    print_word(b"N");
+    print_number(n);
+    print_number(start);
+    print_number(k);
+    print_number(b);
+    print_number(answer.number as u32);
+    print_end();
+}
+
+// A line for each call.
+pub fn print_examples() {
+    print_walk(7);
+    print_walk(6);
+    print_search(64, 0, 0, 127);
+    print_search(64, 0, 0, 128);
+    print_search(1, 0, 0, 8191);
+    print_search(1, 0, 0, 8192);
+    print_search(64, 64, 5, 127);
+}

@@ -1,0 +1,143 @@
+// Tries search: document 01's examples M and N, and random models, each compared with a plain search over mode and charge. The buffers hold
+// junk before each call; every plan handed back is judged, walked for each colour, and walked plainly. Prints the examples' answers, and for
+// each family of models how many there were, how many have a plan, how many have none, and the differences.
+mod answers;
+mod examples;
+mod lists;
+mod models;
+mod plain;
+mod print;
+
+use answers::try_model;
+use models::Family;
+use print::print_end;
+use print::print_next;
+use print::print_number;
+use print::print_word;
+
+// The family with small numbers, from which the others are made.
+fn small(models: u16) -> Family {
+    Family {
+        models,
+        modes_least: 1,
+        modes_span: 4,
+        colours_least: 0,
+        colours_span: 4,
+        arcs_least: 0,
+        arcs_span: 8,
+        bound_least: 0,
+        bound_span: 8,
+        weight_span: 9,
+        weight_low: 5,
+        repeats: false,
+    }
+}
+
+// Prints the line of a family.
+fn print_family(name: &[u8], models: u16, plans: u32, none: u32, differences: u32) {
+    print_word(name);
+    print_number(models as u32);
+    print_next(b"plans");
+    print_number(plans);
+    print_next(b"none");
+    print_number(none);
+    print_next(b"differences");
+    print_number(differences);
+    print_end();
+}
+
+// Tries the models of a family, from a state of the generator, and prints the line of the family. Returns the next state.
+fn try_family(name: &[u8], family: Family, first: u32) -> u32 {
+    let mut state = first;
+    let mut plans = 0u32;
+    let mut none = 0u32;
+    let mut differences = 0u32;
+    let mut i = 0u16;
+    while i < family.models {
+        let tried = try_model(family, state);
+        state = tried.state;
+        if tried.answer == 0 {
+            plans += 1;
+        } else if tried.answer == 1 {
+            none += 1;
+        } else {
+            differences += 1;
+        }
+        i += 1;
+    }
+    print_family(name, i, plans, none, differences);
+    state
+}
+
+// Families with small and with medium numbers, with bound 0, with arcs equal in all fields and with no arcs.
+fn try_small(first: u32) -> u32 {
+    let mut medium = small(600);
+    medium.modes_span = 8;
+    medium.colours_span = 5;
+    medium.arcs_least = 4;
+    medium.arcs_span = 24;
+    medium.bound_span = 32;
+    medium.weight_span = 33;
+    medium.weight_low = 18;
+    let mut empty = small(500);
+    empty.bound_span = 1;
+    empty.colours_span = 5;
+    empty.weight_span = 3;
+    empty.weight_low = 1;
+    empty.arcs_span = 16;
+    let mut equal = small(500);
+    equal.repeats = true;
+    equal.colours_span = 5;
+    let mut none = small(50);
+    none.modes_span = 64;
+    none.arcs_span = 1;
+    none.colours_span = 5;
+    none.bound_span = 24;
+    let second = try_family(b"small", small(4000), first);
+    let third = try_family(b"medium", medium, second);
+    let fourth = try_family(b"bound-0", empty, third);
+    let fifth = try_family(b"equal-arcs", equal, fourth);
+    try_family(b"no-arcs", none, fifth)
+}
+
+// Families at the ceilings: 64 modes with bound 127, one mode with bound 8,191, and all four colours over as many pairs as there is space for.
+fn try_large(first: u32) {
+    let mut modes = small(16);
+    modes.modes_least = 64;
+    modes.modes_span = 1;
+    modes.colours_span = 1;
+    modes.arcs_least = 200;
+    modes.arcs_span = 56;
+    modes.bound_least = 127;
+    modes.bound_span = 1;
+    modes.weight_span = 121;
+    modes.weight_low = 97;
+    let mut bound = small(16);
+    bound.modes_span = 1;
+    bound.colours_span = 1;
+    bound.arcs_least = 1;
+    bound.arcs_span = 4;
+    bound.bound_least = 8191;
+    bound.bound_span = 1;
+    bound.weight_span = 8001;
+    bound.weight_low = 6000;
+    let mut colours = small(24);
+    colours.modes_least = 8;
+    colours.modes_span = 1;
+    colours.colours_least = 4;
+    colours.colours_span = 1;
+    colours.arcs_least = 24;
+    colours.arcs_span = 24;
+    colours.bound_least = 203;
+    colours.bound_span = 1;
+    colours.weight_span = 201;
+    colours.weight_low = 170;
+    let second = try_family(b"64-modes", modes, first);
+    let third = try_family(b"bound-8191", bound, second);
+    try_family(b"4-colours", colours, third);
+}
+
+fn main() {
+    examples::print_examples();
+    try_large(try_small(20261115));
+}

@@ -1,0 +1,160 @@
+// Random models: a fixed generator, families of models, and the four lists of one.
+ghost use Prim.Native.Nat.{_≤_};
+use crate::lists::put;
+use crate::lists::put_weight;
+
+// The numbers of a model, with credit and bound; arcs: how many it has.
+pub struct Numbers {
+    pub modes: u32,
+    pub start: u32,
+    pub colours: u32,
+    pub arcs: u32,
+    pub credit: u32,
+    pub bound: u32,
+}
+
+// A family of models: from `least` on, `span` values of each number. A weight is a number below weight_span less weight_low. Where
+// `repeats`, an arc is as likely as not equal in all fields to the one before.
+pub struct Family {
+    pub models: u16,
+    pub modes_least: u16,
+    pub modes_span: u16,
+    pub colours_least: u16,
+    pub colours_span: u16,
+    pub arcs_least: u16,
+    pub arcs_span: u16,
+    pub bound_least: u16,
+    pub bound_span: u16,
+    pub weight_span: u16,
+    pub weight_low: u16,
+    pub repeats: bool,
+}
+
+// The generator: x ↦ 48271·x modulo 2³¹ − 1.
+pub fn next(state: u32) -> u32 {
+    ((state as u64) * 48271 % 2147483647) as u32
+}
+
+// A number below a limit, from a state of the generator; 0 where the limit is 0.
+pub fn pick(state: u32, limit: u32) -> u32
+    ensures { λ r. ⌜ r ≤ limit ⌝ }
+{
+    if limit == 0 {
+        return 0;
+    }
+    (state / 8) % limit
+}
+
+fn low_byte(x: u32) -> u8 {
+    (x % 256) as u8
+}
+
+// x less low, both below 10,001 or cut down to that.
+fn difference(x: u32, low: u32) -> i16 {
+    if x < low {
+        return -(((low - x) % 10001) as i16);
+    }
+    ((x - low) % 10001) as i16
+}
+
+// A number of a family: least, or up to span − 1 more.
+fn number(state: u32, least: u16, span: u16) -> u32
+    ensures { λ r. ⌜ r ≤ 131070 ⌝ }
+{
+    (least as u32) + pick(state, span as u32)
+}
+
+// The numbers of a model of a family, from a state.
+pub fn numbers_of(family: Family, state: u32) -> Numbers {
+    let first = next(state);
+    let second = next(first);
+    let third = next(second);
+    let fourth = next(third);
+    let fifth = next(fourth);
+    let modes = number(first, family.modes_least, family.modes_span);
+    let bound = number(fourth, family.bound_least, family.bound_span);
+    Numbers {
+        modes,
+        start: pick(fifth, modes),
+        colours: number(second, family.colours_least, family.colours_span),
+        arcs: number(third, family.arcs_least, family.arcs_span),
+        credit: pick(next(fifth), bound + 1),
+        bound,
+    }
+}
+
+// Writes the arc that a seed gives at a place of the lists.
+fn put_arc(
+    seed: u32,
+    numbers: Numbers,
+    family: Family,
+    at: usize,
+    sources: &mut [u8],
+    targets: &mut [u8],
+    weights: &mut [i16],
+    colours: &mut [u8],
+) {
+    let first = next(seed);
+    let second = next(first);
+    let third = next(second);
+    let fourth = next(third);
+    let fifth = next(fourth);
+    // No model has more than 4 colours; the remainder keeps the shift within its word.
+    let masks = 1u32 << (numbers.colours % 8);
+    put(sources, at, low_byte(pick(first, numbers.modes)));
+    put(targets, at, low_byte(pick(second, numbers.modes)));
+    put_weight(
+        weights,
+        at,
+        difference(
+            pick(third, family.weight_span as u32),
+            family.weight_low as u32,
+        ),
+    );
+    put(
+        colours,
+        at,
+        low_byte(pick(fourth, masks) & pick(fifth, masks)),
+    );
+}
+
+// The seed of the next arc: the last one again where the family repeats arcs and the state says so.
+fn seed_of(family: Family, state: u32, last: u32) -> u32 {
+    if family.repeats {
+        if pick(state, 2) == 0 {
+            return last;
+        }
+    }
+    state
+}
+
+// Fills the lists with random arcs, and returns the next state.
+pub fn put_arcs(
+    state: u32,
+    numbers: Numbers,
+    family: Family,
+    sources: &mut [u8],
+    targets: &mut [u8],
+    weights: &mut [i16],
+    colours: &mut [u8],
+) -> u32 {
+    let mut seed = state;
+    let mut reached = state;
+    let mut i = 0;
+    while i < numbers.arcs {
+        reached = next(next(next(reached)));
+        seed = seed_of(family, reached, seed);
+        put_arc(
+            seed,
+            numbers,
+            family,
+            i as usize,
+            sources,
+            targets,
+            weights,
+            colours,
+        );
+        i += 1;
+    }
+    next(reached)
+}

@@ -1,0 +1,385 @@
+// A plain search over pairs of a mode and a charge, which shares no code with the real one. A pair stays alive while, for each colour, a
+// walk over pairs that are alive leads from it to an arc with the colour. What is left when no pair dies any more are the pairs from which
+// every colour can be met again and again; a plan exists where the start mode with the credit is one of them.
+ghost use Prim.Native.Nat.{_+_, _*_, _≤_};
+use crate::lists::byte;
+use crate::lists::fill;
+use crate::lists::put;
+use crate::lists::weight;
+use crate::models::Numbers;
+
+// A weight without its sign.
+fn magnitude(w: i16) -> u16 {
+    if w < 0 {
+        return (0 - (w as i32)) as u16;
+    }
+    w as u16
+}
+
+// The charge that a weight leads to, cut off at the bound, plus 1; 0 where it leads below 0.
+fn charge_after(charge: usize, w: i16, bound: u32) -> usize
+    requires { ⌜ charge ≤ bound ⌝ }
+    ensures { λ r. ⌜ r ≤ bound + 1 ⌝ }
+{
+    let high = bound as usize;
+    let size = magnitude(w) as usize;
+    if w < 0 {
+        if charge < size {
+            return 0;
+        }
+        return charge - size + 1;
+    }
+    if charge + size > high {
+        return high + 1;
+    }
+    charge + size + 1
+}
+
+// The number of the pair of a mode and a charge.
+fn pair_of(mode: u32, charge: u32, bound: u32) -> usize
+    ensures { λ r. ⌜ r ≤ mode * 4294967296 + charge ⌝ }
+{
+    (mode as usize) * ((bound as usize) + 1) + (charge as usize)
+}
+
+// The pair that an arc leads to from a pair, plus 1; 0 where it leads nowhere.
+fn pair_after(
+    sources: &[u8],
+    targets: &[u8],
+    weights: &[i16],
+    bound: u32,
+    pair: usize,
+    a: usize,
+) -> usize {
+    let charges = (bound as usize) + 1;
+    if (byte(sources, a) as usize) != pair / charges {
+        return 0;
+    }
+    let after = charge_after(pair % charges, weight(weights, a), bound);
+    if after == 0 {
+        return 0;
+    }
+    pair_of(byte(targets, a) as u32, (after - 1) as u32, bound) + 1
+}
+
+// Whether an arc counts: it has a colour of the mask, or the mask is 0, which asks for no colour.
+fn counts(colours: &[u8], a: usize, mask: u8) -> bool {
+    if mask == 0 {
+        return true;
+    }
+    byte(colours, a) & mask != 0
+}
+
+// Whether some arc from a pair leads to a pair that is alive, and either counts or leads to a pair that is marked.
+fn leads_on(
+    sources: &[u8],
+    targets: &[u8],
+    weights: &[i16],
+    colours: &[u8],
+    bound: u32,
+    mask: u8,
+    pair: usize,
+    alive: &[u8],
+    marked: &[u8],
+) -> bool {
+    let mut a = 0;
+    while a < sources.len() {
+        let after = pair_after(sources, targets, weights, bound, pair, a);
+        if after > 0 {
+            if byte(alive, after - 1) == 1 {
+                if counts(colours, a, mask) {
+                    return true;
+                }
+                if byte(marked, after - 1) == 1 {
+                    return true;
+                }
+            }
+        }
+        a += 1;
+    }
+    false
+}
+
+// Whether a pair is to be marked: it is alive, not marked, and leads on.
+fn is_next(
+    sources: &[u8],
+    targets: &[u8],
+    weights: &[i16],
+    colours: &[u8],
+    bound: u32,
+    mask: u8,
+    pair: usize,
+    alive: &[u8],
+    marked: &[u8],
+) -> bool {
+    if byte(alive, pair) != 1 {
+        return false;
+    }
+    if byte(marked, pair) == 1 {
+        return false;
+    }
+    leads_on(
+        sources,
+        targets,
+        weights,
+        colours,
+        bound,
+        mask,
+        pair,
+        alive,
+        marked,
+    )
+}
+
+// Sets a byte of a list where the test says so; returns the test.
+fn put_if(test: bool, list: &mut [u8], at: usize, value: u8) -> bool {
+    if test {
+        put(list, at, value);
+    }
+    test
+}
+
+// Marks the pairs that lead on, each looked at once; whether there was one.
+fn sweep(
+    sources: &[u8],
+    targets: &[u8],
+    weights: &[i16],
+    colours: &[u8],
+    bound: u32,
+    mask: u8,
+    alive: &[u8],
+    marked: &mut [u8],
+) -> bool {
+    let mut more = false;
+    let mut pair = 0;
+    while pair < alive.len() {
+        let test = is_next(
+            sources,
+            targets,
+            weights,
+            colours,
+            bound,
+            mask,
+            pair,
+            alive,
+            marked,
+        );
+        if put_if(test, marked, pair, 1) {
+            more = true;
+        }
+        pair += 1;
+    }
+    more
+}
+
+// Marks the pairs from which a walk over pairs that are alive leads to an arc that counts. Each sweep but the last marks one more.
+fn mark(
+    sources: &[u8],
+    targets: &[u8],
+    weights: &[i16],
+    colours: &[u8],
+    bound: u32,
+    mask: u8,
+    alive: &[u8],
+    marked: &mut [u8],
+) {
+    fill(marked, 0);
+    let mut sweeps = 0;
+    let mut more = true;
+    while sweeps < alive.len() {
+        if !more {
+            return;
+        }
+        more = sweep(
+            sources,
+            targets,
+            weights,
+            colours,
+            bound,
+            mask,
+            alive,
+            marked,
+        );
+        sweeps += 1;
+    }
+}
+
+// Keeps alive what is marked; whether a pair died.
+fn keep_marked(alive: &mut [u8], marked: &[u8]) -> bool {
+    let mut died = false;
+    let mut pair = 0;
+    while pair < alive.len() {
+        let test = alive[pair] != byte(marked, pair);
+        if put_if(test, alive, pair, 0) {
+            died = true;
+        }
+        pair += 1;
+    }
+    died
+}
+
+// The mask of a colour; 0, for no colour, where there is none.
+fn mask_of(k: u32, colour: u32) -> u8 {
+    if k == 0 {
+        return 0;
+    }
+    1u8 << (colour % 8)
+}
+
+// How many masks are asked for: one for each colour, and one for none.
+fn masks(k: u32) -> u32 {
+    if k == 0 {
+        return 1;
+    }
+    k
+}
+
+// Lets die what cannot meet one of the colours; whether a pair died.
+fn die(
+    sources: &[u8],
+    targets: &[u8],
+    weights: &[i16],
+    colours: &[u8],
+    bound: u32,
+    k: u32,
+    alive: &mut [u8],
+    marked: &mut [u8],
+) -> bool {
+    let count = masks(k);
+    let mut died = false;
+    let mut colour = 0;
+    while colour < count {
+        mark(
+            sources,
+            targets,
+            weights,
+            colours,
+            bound,
+            mask_of(k, colour),
+            alive,
+            marked,
+        );
+        if keep_marked(alive, marked) {
+            died = true;
+        }
+        colour += 1;
+    }
+    died
+}
+
+// Lets die until nothing dies any more. Each round but the last lets a pair die.
+fn settle(
+    sources: &[u8],
+    targets: &[u8],
+    weights: &[i16],
+    colours: &[u8],
+    bound: u32,
+    k: u32,
+    alive: &mut [u8],
+    marked: &mut [u8],
+) {
+    fill(alive, 1);
+    let mut rounds = 0;
+    while rounds <= alive.len() {
+        if !die(sources, targets, weights, colours, bound, k, alive, marked) {
+            return;
+        }
+        rounds += 1;
+    }
+}
+
+// Whether a plan exists.
+pub fn has_plan(
+    sources: &[u8],
+    targets: &[u8],
+    weights: &[i16],
+    colours: &[u8],
+    numbers: Numbers,
+    alive: &mut [u8],
+    marked: &mut [u8],
+) -> bool {
+    settle(
+        sources,
+        targets,
+        weights,
+        colours,
+        numbers.bound,
+        numbers.colours,
+        alive,
+        marked,
+    );
+    let first = pair_of(numbers.start, numbers.credit, numbers.bound);
+    byte(alive, first) == 1
+}
+
+// Walks a list of arcs from a pair (as pair_after has it, plus 1), and returns the pair that it comes to; 0 where a step is not possible or
+// leaves another mode.
+fn walk(
+    sources: &[u8],
+    targets: &[u8],
+    weights: &[i16],
+    bound: u32,
+    pair: usize,
+    arcs: &[u8],
+) -> usize {
+    let mut reached = pair;
+    let mut i = 0;
+    while i < arcs.len() {
+        if reached == 0 {
+            return 0;
+        }
+        reached = pair_after(
+            sources,
+            targets,
+            weights,
+            bound,
+            reached - 1,
+            byte(arcs, i) as usize,
+        );
+        i += 1;
+    }
+    reached
+}
+
+// Whether three rounds can be walked from a pair (as pair_after has it, plus 1), and the last ends in the mode where the first began.
+fn three_rounds(
+    sources: &[u8],
+    targets: &[u8],
+    weights: &[i16],
+    bound: u32,
+    first: usize,
+    cycle: &[u8],
+) -> bool {
+    let second = walk(sources, targets, weights, bound, first, cycle);
+    let third = walk(sources, targets, weights, bound, second, cycle);
+    let last = walk(sources, targets, weights, bound, third, cycle);
+    if first == 0 {
+        return false;
+    }
+    if last == 0 {
+        return false;
+    }
+    let charges = (bound as usize) + 1;
+    (first - 1) / charges == (last - 1) / charges
+}
+
+// Whether a plan can be walked plainly: its prefix from the start mode, and three rounds.
+pub fn round_trip(
+    sources: &[u8],
+    targets: &[u8],
+    weights: &[i16],
+    numbers: Numbers,
+    p: usize,
+    plan: &[u8],
+) -> bool {
+    if p > plan.len() {
+        return false;
+    }
+    if numbers.start >= numbers.modes {
+        return false;
+    }
+    let bound = numbers.bound;
+    let start = pair_of(numbers.start, numbers.credit, bound);
+    let first = walk(sources, targets, weights, bound, start + 1, &plan[0..p]);
+    three_rounds(sources, targets, weights, bound, first, &plan[p..])
+}
