@@ -7,5 +7,5 @@ pub mod Criterion
 pub mod Decides
 pub mod GraphOf
 pub mod Whole
-pub mod Pigeons
+pub mod Pigeonhole
 pub mod Short

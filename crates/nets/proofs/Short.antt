@@ -20,7 +20,7 @@ use Rattle.nets.specs.Graph.{moves, Leads}
 use Rattle.nets.specs.Net.{Net, Usable, Lasts, Fits, AcceptedLasso}
 use Rattle.nets.specs.Table.{level, Reached, KeptCycle}
 use Rattle.nets.specs.Whole.{whole}
-use Rattle.nets.proofs.Pigeons.{pigeons, paired-bound, paired-same}
+use Rattle.nets.proofs.Pigeonhole.{pigeonhole, paired-bound, paired-same}
 use Rattle.nets.proofs.Leads.{moves-append, moves-times, leads-append, leads-times, leads-weaken, leads-usable, leads-bound}
 use Rattle.nets.proofs.Levels.{level-append, level-bound, passed-met, times-level}
 use Rattle.nets.proofs.Cycles.{lasso-possible}
@@ -99,7 +99,7 @@ module _ (g : Net) (ok : ℕ → Type 0) (K b s e l t x : ℕ) where
         let w = r .arcs in
         let c : (n : ℕ) → Cut g ok K b s e l t x (take n w) (drop n w) = λ n. reached-cut r (take n w) (drop n w) (take-append-drop n w) in
         let (i, j, u, k, q) =
-        pigeons (suc K * g .modes * suc b) (λ n. configuration (take n w) (drop n w) (c n)) (λ n z. configuration-bound (take n w) (drop n w) (c n))
+        pigeonhole (suc K * g .modes * suc b) (λ n. configuration (take n w) (drop n w) (c n)) (λ n z. configuration-bound (take n w) (drop n w) (c n))
         in
         let (r′, a) = joined (take i w) (drop i w) (take j w) (drop j w) (c i) (c j) q in
         (r′, rw a (omega (arith, length-append (take i w) (drop j w), length-take i w, length-drop j w)))

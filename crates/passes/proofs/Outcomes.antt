@@ -29,7 +29,7 @@ use Rattle.passes.proofs.Walks.{traced-reached, listed-reached, covered
 abbrev pub peaksPass : Lists → ℕ → ℕ → Pass
 peaksPass l n b = record { lists = l; modes = n; last = 0; bound = b; goal = 0; least = b + 1 }
 
--- the pass from mode m with charge e: a level for each colour, and back to m in the last level with e or more
+-- the pass from mode m with charge e: the levels 0 to k, and back to m in the last one with e or more
 abbrev pub cyclePass : Lists → ℕ → ℕ → ℕ → ℕ → ℕ → Pass
 cyclePass l n k b m e = record { lists = l; modes = n; last = k; bound = b; goal = node n k m; least = e }
 

@@ -16,7 +16,7 @@ use Rattle.nets.specs.Table.{raisedIf}
 use Rattle.model.specs.Lists.{arcOf}
 use Rattle.passes.proofs.Steps.{stepped-to}
 use Rattle.passes.specs.Pass.{Pass, Along, Ready, node, nodes, room, levelAfter}
-use Rattle.passes.specs.Queue.{nodeAt, chargeAt, parentAt, sum, Made, Entry, Queue, Pushed, Arrives, Grown}
+use Rattle.passes.specs.Queue.{wordCount, nodeAt, chargeAt, parentAt, sum, Made, Entry, Queue, Pushed, Arrives, Grown}
 
 -- a step leads no higher than the bound
 pub along-low : {P : Pass} {a v e u x : ℕ} → Along P a v e u x → x ≤ P .bound
@@ -106,7 +106,7 @@ entry-low {P} {best} {w} {tail} i q h = (go (decLt (nodeAt w i) (length best)), 
 
 -- an entry stands within the working space, and its number is a word
 pub entry-space : {P : Pass} {best w : List ℕ} {tail : ℕ} (i : ℕ) → Ready P (length best) (length w) → Queue P best w tail → i < tail
-    → (4 * i + 4 ≤ length w) × (i < 65536)
+    → (4 * i + 4 ≤ length w) × (i < wordCount)
 entry-space i r q h = (omega (arith, r .space, queue-room q), omega (arith, r .small, queue-room q))
 
 -- a charge up to the bound keeps the table low
@@ -284,7 +284,7 @@ pub ready-kept : {P : Pass} {m size m′ size′ : ℕ} → Ready P m size → m
 ready-kept r em es = rw (em, es) r
 
 -- there is a node, and room for the first entry
-pub ready-some : {P : Pass} {m size : ℕ} → Ready P m size → (0 < m) × (m ≤ 65536) × (4 ≤ size)
+pub ready-some : {P : Pass} {m size : ℕ} → Ready P m size → (0 < m) × (m ≤ wordCount) × (4 ≤ size)
 unfolding node
 ready-some {P} {m} r =
     let most = room-most m (P .bound) in

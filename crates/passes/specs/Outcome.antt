@@ -2,7 +2,7 @@
 use mathlib.Core.Path.{_≡_}
 use mathlib.Core.Bool.{Bool, true, false}
 use mathlib.Core.List.{List, [], _∷_, _++_}
-use Prim.Native.Nat.{ℕ, suc, _+_, _≤_, _<_}
+use Prim.Native.Nat.{ℕ, suc, _≤_, _<_}
 use lib.ListN.{getD, take, drop}
 use Rattle.model.specs.Automaton.{Automaton}
 use Rattle.nets.specs.Net.{Usable}
@@ -57,7 +57,7 @@ pub record FirstKept (g : Automaton) (b : ℕ) (peaks : List ℕ) (r : ℕ) : Ty
   pub kept : r < g .modes → KeptPeak g b r (getD peaks r 0)
   pub none : (s : ℕ) → s < r → KeptPeak g b s (getD peaks s 0) → ⊥
 
--- the first r bytes of plan′, at most as many as `most`, are the prefix, from the start to mode s with charge e; the others are plan's
+-- the first r bytes of plan′ are the prefix, from the start to mode s with charge e; the others are plan's
 pub record PrefixWritten (g : Automaton) (b c s e : ℕ) (plan plan′ : List ℕ) (r : ℕ) : Type 0 where
   pub few : r ≤ room (g .modes) b
   pub arcs : Arrival g b c s e (take r plan′)

@@ -7,6 +7,10 @@ use Prim.Native.Nat.{ℕ, _+_, _*_, _≤_, _<_}
 use lib.ListN.{length, getD, set}
 use Rattle.passes.specs.Pass.{Pass, Along, closes}
 
+-- the numbers that a word holds
+abbrev pub wordCount : ℕ
+wordCount = 65536
+
 -- Entry i: a node, the charge with which it was reached, the entry that it was reached from, and the arc.
 abbrev pub nodeAt : List ℕ → ℕ → ℕ
 nodeAt w i = getD w (4 * i) 0
@@ -59,10 +63,10 @@ pub record Pushed (w : List ℕ) (tail v x h a : ℕ) (w′ : List ℕ) : Type 0
 -- What is asked where arc a comes from entry h to node u with charge x: numbers that fit their words, and room where the table rises.
 pub record Arrives (best w : List ℕ) (tail u x h a : ℕ) : Type 0 where
   pub inside : u < length best
-  pub few : length best ≤ 65536
-  pub low : x < 65535
-  pub parent : h < 65536
-  pub number : a < 65536
+  pub few : length best ≤ wordCount
+  pub low : x + 1 < wordCount
+  pub parent : h < wordCount
+  pub number : a < wordCount
   pub room : getD best u 0 < x + 1 → 4 * tail + 4 ≤ length w
 
 -- What is done there: nothing where the pass stops, nothing where the table knows as much, and else the table rises and an entry is added.

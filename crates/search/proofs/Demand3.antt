@@ -18,8 +18,8 @@ use Rattle.judge.specs.Judged.{judged}
 use Rattle.judge.proofs.Judged.{judged-yes}
 use Rattle.search.specs.declared.Searched.{Searched}
 use Rattle.search.specs.declared.Searched.the-variants as outcome
-use Rattle.search.specs.Search.{noPlan, searchable, Found, Answered, none, found, SearchOf}
-use Rattle.search.proofs.Able.{searchable-yes}
+use Rattle.search.specs.Search.{noPlan, searchAnswer, searchable, Found, Answered, none, found, SearchOf}
+use Rattle.search.proofs.Searchable.{searchable-yes}
 
 -- a plan that is handed back has its lengths
 found-lengths : {g : Automaton} {b c p q : ℕ} {plan plan′ : List ℕ} → Found g b c p q plan plan′ → Lengths p q (take (p + q) plan′)
@@ -41,6 +41,12 @@ answered-plan : {g : Automaton} {b c : ℕ} {plan plan′ : List ℕ} {r : Searc
     → (p : ℕ) × (q : ℕ) × (r ≡ outcome.Plan p q) × Found g b c p q plan plan′
 answered-plan (none e) not = absurd (not refl)
 answered-plan (found {p} {q} f) not = (p, q, refl, f)
+
+-- 10 is the number of that refusal alone
+answered-ten : {g : Automaton} {b c : ℕ} {plan plan′ : List ℕ} {r : Searched} → Answered g b c plan plan′ r
+    → (searchAnswer r .answer .number ≡ 10) ↔ (r ≡ noPlan)
+answered-ten (none e) = (λ h. refl, λ h. refl)
+answered-ten (found f) = (λ h. absurd (omega arith), λ h. clash (cc))
 
 module _ (n s k : ℕ) (l : Lists) (b c : ℕ) {work plan work′ plan′ : List ℕ} where
   -- where a plan is answered, none of 1 to 9 applies
@@ -72,6 +78,12 @@ module _ (n s k : ℕ) (l : Lists) (b c : ℕ) {work plan work′ plan′ : List
     -- where none of 1 to 9 applies, the answer is 10 exactly where no plan of any length is feasible and accepted
     pub search-none : (r ≡ noPlan) ↔ (SomePlan (automatonOf n s k l) b c → ⊥)
     search-none = h .decided through .no-plan
+
+    -- in the paper's number
+    pub search-ten : (searchAnswer r .answer .number ≡ 10) ↔ (SomePlan (automatonOf n s k l) b c → ⊥)
+    search-ten =
+        let t = answered-ten (h .decided through .answered) in
+        (λ e. search-none .0 (t .0 e), λ no. t .1 (search-none .1 no))
 
     -- and where there is a plan, one is found
     pub search-complete : SomePlan (automatonOf n s k l) b c

@@ -1,10 +1,10 @@
 -- The laws of search, one idea a file: an arc that is tried (Steps), the passes of a task (Tasks), what the buffers hold (Spaces), the plan
--- that is written (Plans), the table of peaks and what it decides (Peaks), where none of 1 to 9 applies (Able). Demand3 says what a caller
+-- that is written (Written), the table of peaks and what it decides (Peaks), where none of 1 to 9 applies (Searchable). Demand3 says what a caller
 -- learns.
 pub mod Steps
 pub mod Tasks
 pub mod Spaces
-pub mod Plans
+pub mod Written
 pub mod Peaks
-pub mod Able
+pub mod Searchable
 pub mod Demand3

@@ -13,8 +13,8 @@ use Rattle.nets.specs.Whole.{whole}
 use Rattle.nets.proofs.Whole.{plan-criterion}
 use Rattle.passes.specs.Pass.{node}
 use Rattle.passes.specs.Outcome.{Peak, Peaked, FirstKept}
-use Rattle.search.specs.declared.Task.{Task}
-use Rattle.search.specs.Tasks.{modelOf, Able}
+use Rattle.search.specs.declared.plans.Task.{Task}
+use Rattle.search.specs.Tasks.{taskModel, Searchable}
 use Rattle.passes.proofs.Nodes.{node-first}
 use Rattle.search.proofs.Tasks.{nodesMost, take-replicate, peaked-low}
 
@@ -26,7 +26,7 @@ zeros = replicate nodesMost 0
 abbrev pub filled : ℕ → List ℕ → List ℕ
 filled n best = best ++ drop n zeros
 
-module _ {l : Lists} {t : Task} {words : ℕ} (able : Able l t words) where
+module _ {l : Lists} {t : Task} {words : ℕ} (able : Searchable l t words) where
   -- a word for each mode is lent
   pub lent-words : t .modes ≡ length (take (t .modes) zeros)
   lent-words = sym (length-take-le (t .modes) zeros (omega (arith, able .fit .few-modes)))
@@ -36,8 +36,8 @@ module _ {l : Lists} {t : Task} {words : ℕ} (able : Able l t words) where
   lent-zeros = take-replicate (t .modes) nodesMost (omega (arith, able .fit .few-modes))
 
 -- once the pass has filled it
-module _ {l : Lists} {t : Task} {words r : ℕ} {best w : List ℕ} (able : Able l t words)
-    (peaked : Peaked (modelOf l t) (t .bound) (t .credit) best w r) (kept : length best ≡ length (take (t .modes) zeros)) where
+module _ {l : Lists} {t : Task} {words r : ℕ} {best w : List ℕ} (able : Searchable l t words)
+    (peaked : Peaked (taskModel l t) (t .bound) (t .credit) best w r) (kept : length best ≡ length (take (t .modes) zeros)) where
   best-size : length best ≡ t .modes
   best-size = omega (arith, lent-words able)
 
@@ -57,16 +57,16 @@ module _ {l : Lists} {t : Task} {words r : ℕ} {best w : List ℕ} (able : Able
   filled-low s = rw best-front (peaked-low (able .credit) best-size peaked s)
 
   -- where mode m is answered as the first whose peak is kept
-  module _ {m : ℕ} (lent : FirstKept (modelOf l t) (t .bound) (take (t .modes) (filled (t .modes) best)) m) where
-    first : FirstKept (modelOf l t) (t .bound) best m
+  module _ {m : ℕ} (lent : FirstKept (taskModel l t) (t .bound) (take (t .modes) (filled (t .modes) best)) m) where
+    first : FirstKept (taskModel l t) (t .bound) best m
     first = rw best-front at lent
 
     -- if it is none, there is no plan
-    pub no-plan : m ≡ t .modes → SomePlan (modelOf l t) (t .bound) (t .credit) → ⊥
+    pub no-plan : m ≡ t .modes → SomePlan (taskModel l t) (t .bound) (t .credit) → ⊥
     no-plan all plan =
         let n = t .modes in
         let high : ℕ → ℕ → ℕ = λ l t. getD best (node n l t) 0 in
-        let peak = plan-criterion (modelOf l t) (t .bound) (t .credit) high (able .fit) (able .credit) (peaked .table) .0 plan in
+        let peak = plan-criterion (taskModel l t) (t .bound) (t .credit) high (able .fit) (able .credit) (peaked .table) .0 plan in
         first .none (peak .mode) (omega (arith, peak .bounded))
         (record { peak = peak .peak; listed = rw (node-first n (peak .mode)) at (peak .listed); cycle = peak .cycle })
 
@@ -87,7 +87,7 @@ module _ {l : Lists} {t : Task} {words r : ℕ} {best w : List ℕ} (able : Able
       first-low = omega (arith, first-word, peaked-low (able .credit) best-size peaked m)
 
       -- of the mode's peak,
-      pub first-peak : Peak (modelOf l t) (t .bound) (t .credit) m (getD (filled (t .modes) best) m 0 - 1)
+      pub first-peak : Peak (taskModel l t) (t .bound) (t .credit) m (getD (filled (t .modes) best) m 0 - 1)
       first-peak =
           record {
             high = λ l s. getD best (node (t .modes) l s) 0;
@@ -97,7 +97,7 @@ module _ {l : Lists} {t : Task} {words r : ℕ} {best w : List ℕ} (able : Able
           }
 
       -- and of one that a cycle keeps
-      pub first-cycle : KeptCycle (whole (modelOf l t)) (t .bound) m (getD (filled (t .modes) best) m 0 - 1)
+      pub first-cycle : KeptCycle (whole (taskModel l t)) (t .bound) m (getD (filled (t .modes) best) m 0 - 1)
       first-cycle =
           let k = first .kept first-mode in
-          subst (λ (x : ℕ). KeptCycle (whole (modelOf l t)) (t .bound) m x) (omega (arith, first-word, k .listed)) (k .cycle)
+          subst (λ (x : ℕ). KeptCycle (whole (taskModel l t)) (t .bound) m x) (omega (arith, first-word, k .listed)) (k .cycle)

@@ -14,15 +14,15 @@ use Rattle.refusals.proofs.Verdicts.{clash}
 use Rattle.model.specs.Lists.{Lists}
 use Rattle.passes.specs.Pass.{Pass, Along, Ready, node, levelAfter}
 use Rattle.passes.specs.Queue.{nodeAt, chargeAt, Queue, Pushed, Arrives, Arrived, Grown, Tried, Visited, Treated, Passed}
-use Rattle.search.specs.declared.Tour.{Tour}
-use Rattle.search.specs.declared.Place.{Place}
+use Rattle.search.specs.declared.pass.PassNumbers.{PassNumbers}
+use Rattle.search.specs.declared.pass.Place.{Place}
 use Rattle.search.specs.Tasks.{passOf, placeAt}
 use Rattle.passes.proofs.Queue.{along-inside, entry-low, node-levels, queue-arrives}
 use Rattle.passes.proofs.Passes.{arrived-tried, tried-impossible}
 use Rattle.passes.proofs.Passes.{tried-more, tried-free, tried-hit, treated-first, treated-more, passed-hit}
 
 -- arc a, tried at the place of an entry, below tail, of the queue in w
-pub record Trying (l : Lists) (t : Tour) (p : Place) (best w : List ℕ) (tail a : ℕ) : Type 0 where
+pub record Trying (l : Lists) (t : PassNumbers) (p : Place) (best w : List ℕ) (tail a : ℕ) : Type 0 where
   pub ready : Ready (passOf l t) (length best) (length w)
   pub queue : Queue (passOf l t) best w tail
   pub place : p ≡ placeAt (t .modes) w (p .index)
@@ -30,13 +30,13 @@ pub record Trying (l : Lists) (t : Tour) (p : Place) (best w : List ℕ) (tail a
   pub known : a < length (l .sources)
 
 -- the arc leaves another mode
-pub relax-other : {l : Lists} {t : Tour} {p : Place} {best w : List ℕ} {tail a : ℕ} → Trying l t p best w tail a
+pub relax-other : {l : Lists} {t : PassNumbers} {p : Place} {best w : List ℕ} {tail a : ℕ} → Trying l t p best w tail a
     → (getD (l .sources) a 0 ≡ p .mode → ⊥)
     → Tried (passOf l t) best w tail a (a + 1) (nodeAt w (p .index)) (chargeAt w (p .index)) best w false a tail
 relax-other f n = tried-impossible (f .queue) (λ u x s. n (s .leaves ∙ sym (ap {B = ℕ} (λ (q : Place). q .mode) (f .place))))
 
 -- the step is not possible
-pub relax-impossible : {l : Lists} {t : Tour} {p : Place} {best w : List ℕ} {tail a : ℕ} → Trying l t p best w tail a
+pub relax-impossible : {l : Lists} {t : PassNumbers} {p : Place} {best w : List ℕ} {tail a : ℕ} → Trying l t p best w tail a
     → stepped (t .bound) (getD (l .weights) a (pos 0)) (p .charge) ≡ Impossible
     → Tried (passOf l t) best w tail a (a + 1) (nodeAt w (p .index)) (chargeAt w (p .index)) best w false a tail
 relax-impossible {l} {t} {p} {w = w} {a = a} f e =
@@ -46,7 +46,7 @@ relax-impossible {l} {t} {p} {w = w} {a = a} f e =
     let steps : stepped (t .bound) (getD (l .weights) a (pos 0)) (chargeAt w (p .index)) ≡ To x = s .steps in clash (cc))
 
 -- the step that the arc takes
-pub relax-along : {l : Lists} {t : Tour} {p : Place} {best w : List ℕ} {tail a u x : ℕ} → Trying l t p best w tail a
+pub relax-along : {l : Lists} {t : PassNumbers} {p : Place} {best w : List ℕ} {tail a u x : ℕ} → Trying l t p best w tail a
     → getD (l .sources) a 0 ≡ p .mode → stepped (t .bound) (getD (l .weights) a (pos 0)) (p .charge) ≡ To x
     → u ≡ node (t .modes) (levelAfter (t .last) (getD (l .colours) a 0) (p .level)) (getD (l .targets) a 0)
     → Along (passOf l t) a (nodeAt w (p .index)) (chargeAt w (p .index)) u x
@@ -61,21 +61,21 @@ relax-along {l} {t} {p} {w = w} {a = a} {x = x} f es ex eu =
       enters = eu ∙ ap (λ v. node (t .modes) (levelAfter (t .last) (getD (l .colours) a 0) v) (getD (l .targets) a 0)) level;
     }
 
--- the level of the place is one of the tour's
-pub relax-levels : {l : Lists} {t : Tour} {p : Place} {best w : List ℕ} {tail a : ℕ} → Trying l t p best w tail a
+-- the level of the place is one of the numbers's
+pub relax-levels : {l : Lists} {t : PassNumbers} {p : Place} {best w : List ℕ} {tail a : ℕ} → Trying l t p best w tail a
     → (p .level ≤ t .last) × (t .last ≤ coloursMost) × (t .modes ≤ modesMost)
 relax-levels {p = p} f =
     let low = node-levels (f .ready) (entry-low (p .index) (f .queue) (f .before) .0) .0 in
     (rw (ap {B = ℕ} (λ (q : Place). q .level) (f .place)) low, f .ready .levels, f .ready .few-modes)
 
 -- there is room for what the step comes to
-pub relax-arrives : {l : Lists} {t : Tour} {p : Place} {best w : List ℕ} {tail a u x : ℕ} → Trying l t p best w tail a
+pub relax-arrives : {l : Lists} {t : PassNumbers} {p : Place} {best w : List ℕ} {tail a u x : ℕ} → Trying l t p best w tail a
     → Along (passOf l t) a (nodeAt w (p .index)) (chargeAt w (p .index)) u x → Arrives best w tail u x (p .index) a
 relax-arrives {p = p} f s =
     queue-arrives (f .ready) (f .queue) (f .before) (along-inside (f .ready) (entry-low (p .index) (f .queue) (f .before) .0) s) s
 
 -- what is done there is what trying the arc asks
-pub relax-arrived : {l : Lists} {t : Tour} {p : Place} {best w best′ w′ : List ℕ} {tail a u x r tail′ : ℕ} {hit : Bool}
+pub relax-arrived : {l : Lists} {t : PassNumbers} {p : Place} {best w best′ w′ : List ℕ} {tail a u x r tail′ : ℕ} {hit : Bool}
     → Trying l t p best w tail a → Along (passOf l t) a (nodeAt w (p .index)) (chargeAt w (p .index)) u x
     → Arrived (t .goal) (t .least) best w tail u x (p .index) a best′ w′ hit tail′ → r ≡ a
     → Tried (passOf l t) best w tail a (a + 1) (nodeAt w (p .index)) (chargeAt w (p .index)) best′ w′ hit r tail′

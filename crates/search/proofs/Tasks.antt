@@ -18,8 +18,8 @@ use Rattle.nets.specs.Whole.{whole}
 use Rattle.passes.specs.Pass.{Pass, Ready, node, room}
 use Rattle.passes.specs.Queue.{Passed}
 use Rattle.passes.specs.Outcome.{KeptPeak, Peaked, Toured, FirstKept}
-use Rattle.search.specs.declared.Task.{Task}
-use Rattle.search.specs.Tasks.{modelOf, Able}
+use Rattle.search.specs.declared.plans.Task.{Task}
+use Rattle.search.specs.Tasks.{taskModel, Searchable}
 use Rattle.passes.proofs.Outcomes.{peaksPass, cyclePass, passed-peaked, passed-toured}
 use Rattle.passes.proofs.Nodes.{node-first}
 use Rattle.passes.proofs.Queue.{ready-kept}
@@ -35,7 +35,7 @@ take-replicate zero m h = refl
 take-replicate (suc n) zero h = absurd (omega arith)
 take-replicate (suc n) (suc m) h = rw (take-replicate n m (omega arith)) refl
 
-module _ {l : Lists} {t : Task} {words : ℕ} (able : Able l t words) where
+module _ {l : Lists} {t : Task} {words : ℕ} (able : Searchable l t words) where
   few-arcs : length (l .sources) ≤ arcsMost
   few-arcs = omega (arith, able .fit .few-arcs, arcs-length l (length (l .sources)) 0)
 
@@ -48,9 +48,9 @@ module _ {l : Lists} {t : Task} {words : ℕ} (able : Able l t words) where
       rw (arcs-here l (length (l .sources)) a h) at q
 
   -- the pass for the peaks is ready
-  pub able-peaks : Ready (peaksPass l (t .modes) (t .bound)) (t .modes) words
+  pub peaks-ready : Ready (peaksPass l (t .modes) (t .bound)) (t .modes) words
   unfolding room node
-  able-peaks =
+  peaks-ready =
       record {
         some-mode = able .fit .some-mode;
         few-modes = able .fit .few-modes;
@@ -65,9 +65,9 @@ module _ {l : Lists} {t : Task} {words : ℕ} (able : Able l t words) where
       }
 
   -- so is the pass from a mode
-  pub able-cycle : (m e : ℕ) → Ready (cyclePass l (t .modes) (t .colours) (t .bound) m e) ((t .colours + 1) * t .modes) words
+  pub cycle-ready : (m e : ℕ) → Ready (cyclePass l (t .modes) (t .colours) (t .bound) m e) ((t .colours + 1) * t .modes) words
   unfolding room node
-  able-cycle m e =
+  cycle-ready m e =
       record {
         some-mode = able .fit .some-mode;
         few-modes = able .fit .few-modes;
@@ -82,34 +82,34 @@ module _ {l : Lists} {t : Task} {words : ℕ} (able : Able l t words) where
       }
 
   -- the nodes of the pass from a mode fit the table of the code
-  pub able-nodes : (t .colours + 1) * t .modes ≤ nodesMost
-  able-nodes = omega (arith, mul-le-mul few-levels (able .fit .few-modes))
+  pub nodes-few : (t .colours + 1) * t .modes ≤ nodesMost
+  nodes-few = omega (arith, mul-le-mul few-levels (able .fit .few-modes))
 
   -- the part of that table which is lent to the pass is blank
-  pub able-table : take {A = ℕ} ((t .colours + 1) * t .modes) (replicate nodesMost 0) ≡ replicate ((t .colours + 1) * t .modes) 0
-  able-table = take-replicate ((t .colours + 1) * t .modes) nodesMost able-nodes
+  pub table-blank : take {A = ℕ} ((t .colours + 1) * t .modes) (replicate nodesMost 0) ≡ replicate ((t .colours + 1) * t .modes) 0
+  table-blank = take-replicate ((t .colours + 1) * t .modes) nodesMost nodes-few
 
   -- another working space, as long
-  pub able-kept : {words′ : ℕ} → words′ ≡ words → Able l t words′
-  able-kept e = rw e able
+  pub searchable-kept : {words′ : ℕ} → words′ ≡ words → Searchable l t words′
+  searchable-kept e = rw e able
 
 -- the pass from mode m with charge e, its goal as the code has it
 abbrev pub tourPass : Lists → ℕ → ℕ → ℕ → ℕ → ℕ → Pass
 tourPass l n k b m e = record { lists = l; modes = n; last = k; bound = b; goal = k * n + m; least = e }
 
-module _ {l : Lists} {t : Task} {words : ℕ} (able : Able l t words) where
+module _ {l : Lists} {t : Task} {words : ℕ} (able : Searchable l t words) where
   -- what the pass for the peaks asks of a blank table
   pub peaks-asked : {peaks : List ℕ} → peaks ≡ replicate (t .modes) 0
       → Ready (peaksPass l (t .modes) (t .bound)) (length peaks) words
       × ((t .start < length peaks) × (t .credit ≤ t .bound) × (peaks ≡ replicate (length peaks) 0))
   peaks-asked e =
       let h = ap length e ∙ length-replicate (t .modes) 0 in
-      (ready-kept (able-peaks able) h refl, (omega (arith, h, able .fit .starts), able .credit, rw h e))
+      (ready-kept (peaks-ready able) h refl, (omega (arith, h, able .fit .starts), able .credit, rw h e))
 
   -- what it leaves
   pub peaks-left : {peaks best w : List ℕ} {found : Bool} {head a tail : ℕ} → peaks ≡ replicate (t .modes) 0 → length best ≡ length peaks
       → length w ≡ words → Passed (peaksPass l (t .modes) (t .bound)) (t .start) (t .credit) best w found head a tail
-      → Peaked (modelOf l t) (t .bound) (t .credit) best w tail
+      → Peaked (taskModel l t) (t .bound) (t .credit) best w tail
   peaks-left e hb hw p =
       passed-peaked l (t .modes) (t .start) (t .colours) (t .bound) (able .fit) (t .credit)
       (ready-kept (peaks-asked e .0) hb hw) p
@@ -122,13 +122,13 @@ module _ {l : Lists} {t : Task} {words : ℕ} (able : Able l t words) where
     unfolding node
     cycle-asked q =
         let h = ap length q ∙ length-replicate ((t .colours + 1) * t .modes) 0 in
-        (ready-kept (able-cycle able m e) h refl, (omega (arith, h), he, rw h q))
+        (ready-kept (cycle-ready able m e) h refl, (omega (arith, h), he, rw h q))
 
     -- what it leaves
     pub cycle-left : {table best w : List ℕ} {found : Bool} {head a tail : ℕ} → table ≡ replicate ((t .colours + 1) * t .modes) 0
         → length best ≡ length table → length w ≡ words
         → Passed (tourPass l (t .modes) (t .colours) (t .bound) m e) m e best w found head a tail
-        → Toured (modelOf l t) (t .bound) m e w found head a
+        → Toured (taskModel l t) (t .bound) m e w found head a
     unfolding node
     cycle-left q hb hw p =
         passed-toured l (t .modes) (t .start) (t .colours) (t .bound) (able .fit) m e hm (ready-kept (cycle-asked q .0) hb hw) p

@@ -7,26 +7,26 @@ use Rattle.model.specs.Lists.{Lists, automatonOf}
 use Rattle.model.specs.Fitness.{EqualLists, Fit}
 use Rattle.passes.specs.Pass.{Pass}
 use Rattle.passes.specs.Queue.{nodeAt, chargeAt}
-use Rattle.search.specs.declared.Task.{Task}
-use Rattle.search.specs.declared.Tour.{Tour}
-use Rattle.search.specs.declared.Place.{Place}
+use Rattle.search.specs.declared.plans.Task.{Task}
+use Rattle.search.specs.declared.pass.PassNumbers.{PassNumbers}
+use Rattle.search.specs.declared.pass.Place.{Place}
 
 -- the model of a task over its lists
-abbrev pub modelOf : Lists → Task → Automaton
-modelOf l t = automatonOf (t .modes) (t .start) (t .colours) l
+abbrev pub taskModel : Lists → Task → Automaton
+taskModel l t = automatonOf (t .modes) (t .start) (t .colours) l
 
--- the pass of a tour over its lists
-abbrev pub passOf : Lists → Tour → Pass
+-- the pass of a numbers over its lists
+abbrev pub passOf : Lists → PassNumbers → Pass
 passOf l t = record { lists = l; modes = t .modes; last = t .last; bound = t .bound; goal = t .goal; least = t .least }
 
 -- the place of entry i of the queue in w, of n modes
 abbrev pub placeAt : ℕ → List ℕ → ℕ → Place
 placeAt n w i = record { index = i; level = nodeAt w i / n; mode = nodeAt w i % n; charge = chargeAt w i }
 
--- none of 1 to 9 applies, where the working space has this many words
-pub record Able (l : Lists) (t : Task) (words : ℕ) : Type 0 where
+-- none of 1 to 8 applies, where the working space has this many words
+pub record Searchable (l : Lists) (t : Task) (words : ℕ) : Type 0 where
   pub equal : EqualLists l
-  pub fit : Fit (modelOf l t)
+  pub fit : Fit (taskModel l t)
   pub credit : t .credit ≤ t .bound
   pub low : t .bound ≤ boundMost
   pub product : t .modes * (t .bound + 1) ≤ productMost

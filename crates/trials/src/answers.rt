@@ -11,12 +11,18 @@ use crate::models::put_arcs;
 use crate::plain::has_plan;
 use crate::plain::round_trip;
 use judge::judge;
+use limits::Limits;
 use planwalk::walk;
 use search::Searched;
 use search::search;
 
 // The most pairs of a node and a charge, (k + 1) × n × (b + 1), that the program keeps space for.
-const ROOM: usize = 8192;
+pub const ROOM: usize = Limits::PROGRAM as usize;
+
+// The words of a working space and the bytes of a plan buffer that suffice for them, and the three places more.
+pub const WORDS: usize = Limits::WORK_WORDS * ROOM + 3;
+
+pub const BYTES: usize = 2 * ROOM + 3;
 
 // The answer for a model: 0 a plan, 1 no plan, 2 a difference; and the next state of the generator.
 pub struct Tried {
@@ -235,7 +241,7 @@ fn lend(
     extra: usize,
 ) -> u32 {
     let pairs = (numbers.modes as usize) * ((numbers.bound as usize) + 1);
-    if pairs > ROOM || numbers.colours > 4 {
+    if pairs > ROOM || numbers.colours > Limits::COLOURS {
         return 2;
     }
     let room = pairs * ((numbers.colours as usize) + 1);
@@ -243,9 +249,9 @@ fn lend(
         return 2;
     }
     let expected = expects(sources, targets, weights, colours, numbers, pairs);
-    let mut work = [0u16; 4 * ROOM + 3];
-    let mut plan = [0u8; 2 * ROOM + 3];
-    let words = 4 * room + extra % 4;
+    let mut work = [0u16; WORDS];
+    let mut plan = [0u8; BYTES];
+    let words = Limits::WORK_WORDS * room + extra % 4;
     let bytes = room + pairs + extra % 4;
     compare(
         sources,
@@ -263,16 +269,16 @@ fn lend(
 pub fn try_model(family: Family, state: u32) -> Tried {
     let numbers = numbers_of(family, state);
     let count = numbers.arcs as usize;
-    if count > 255 {
+    if count > Limits::ARCS {
         return Tried {
             answer: 2,
             state: next(state),
         };
     }
-    let mut sources = [0u8; 255];
-    let mut targets = [0u8; 255];
-    let mut weights = [0i16; 255];
-    let mut colours = [0u8; 255];
+    let mut sources = [0u8; Limits::ARCS];
+    let mut targets = [0u8; Limits::ARCS];
+    let mut weights = [0i16; Limits::ARCS];
+    let mut colours = [0u8; Limits::ARCS];
     let after = put_arcs(
         next(state),
         numbers,

@@ -1,4 +1,6 @@
 // Document 01's examples M and N.
+use crate::answers::BYTES;
+use crate::answers::WORDS;
 use crate::print::print_end;
 use crate::print::print_next;
 use crate::print::print_number;
@@ -46,8 +48,8 @@ fn print_search(n: u32, start: u32, k: u32, b: u32) {
     let targets = [0u8; 1];
     let weights = [0i16; 1];
     let colours = [0u8; 1];
-    let mut work = [0u16; 32768];
-    let mut plan = [0u8; 16384];
+    let mut work = [0u16; WORDS];
+    let mut plan = [0u8; BYTES];
     let none = 0;
     let searched = search(
         n,

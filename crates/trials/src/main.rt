@@ -71,7 +71,7 @@ fn try_family(name: &[u8], family: Family, first: u32) -> u32 {
 
 // Families with small and with medium numbers, with bound 0, with arcs equal in all fields and with no arcs.
 fn try_small(first: u32) -> u32 {
-    let mut medium = small(600);
+    let mut medium = small(2000);
     medium.modes_span = 8;
     medium.colours_span = 5;
     medium.arcs_least = 4;
@@ -79,21 +79,21 @@ fn try_small(first: u32) -> u32 {
     medium.bound_span = 32;
     medium.weight_span = 33;
     medium.weight_low = 18;
-    let mut empty = small(500);
+    let mut empty = small(1000);
     empty.bound_span = 1;
     empty.colours_span = 5;
     empty.weight_span = 3;
     empty.weight_low = 1;
     empty.arcs_span = 16;
-    let mut equal = small(500);
+    let mut equal = small(1000);
     equal.repeats = true;
     equal.colours_span = 5;
-    let mut none = small(50);
+    let mut none = small(100);
     none.modes_span = 64;
     none.arcs_span = 1;
     none.colours_span = 5;
     none.bound_span = 24;
-    let second = try_family(b"small", small(4000), first);
+    let second = try_family(b"small", small(6000), first);
     let third = try_family(b"medium", medium, second);
     let fourth = try_family(b"bound-0", empty, third);
     let fifth = try_family(b"equal-arcs", equal, fourth);
@@ -102,7 +102,7 @@ fn try_small(first: u32) -> u32 {
 
 // Families at the ceilings: 64 modes with bound 127, one mode with bound 8,191, and all four colours over as many pairs as there is space for.
 fn try_large(first: u32) {
-    let mut modes = small(16);
+    let mut modes = small(64);
     modes.modes_least = 64;
     modes.modes_span = 1;
     modes.colours_span = 1;
@@ -111,8 +111,8 @@ fn try_large(first: u32) {
     modes.bound_least = 127;
     modes.bound_span = 1;
     modes.weight_span = 121;
-    modes.weight_low = 97;
-    let mut bound = small(16);
+    modes.weight_low = 101;
+    let mut bound = small(64);
     bound.modes_span = 1;
     bound.colours_span = 1;
     bound.arcs_least = 1;
@@ -121,7 +121,7 @@ fn try_large(first: u32) {
     bound.bound_span = 1;
     bound.weight_span = 8001;
     bound.weight_low = 6000;
-    let mut colours = small(24);
+    let mut colours = small(64);
     colours.modes_least = 8;
     colours.modes_span = 1;
     colours.colours_least = 4;
@@ -131,7 +131,7 @@ fn try_large(first: u32) {
     colours.bound_least = 203;
     colours.bound_span = 1;
     colours.weight_span = 201;
-    colours.weight_low = 170;
+    colours.weight_low = 175;
     let second = try_family(b"64-modes", modes, first);
     let third = try_family(b"bound-8191", bound, second);
     try_family(b"4-colours", colours, third);

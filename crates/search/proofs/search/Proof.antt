@@ -7,7 +7,7 @@ use native.Mathlib.Omega.{arith}
 use borrow.Author.Needs.{needs}
 use lib.ListN.{replicate}
 use Rattle.model.specs.Lists.{lists}
-use Rattle.search.proofs.Able.{told-able, search-refused, search-decided}
+use Rattle.search.proofs.Searchable.{told-searchable, search-refused, search-decided}
 use Rattle.search.proofs.search.Statement.{statement}
 use Rattle.search.proofs.search.Tie as tie
 
@@ -22,7 +22,7 @@ cast-t22 c =
     let d = c .before .before in
     let a = d .before .before .before .before .before .before .args in
     let l = lists (a .sources .now) (a .targets .now) (a .weights .now) (a .colours .now) in
-    let able = told-able (a .n) (a .start) (a .k) l (a .b) (a .c) _ _ (d .check-search .ensures) (c .enum-told .given .1) .0 in
+    let able = told-searchable (a .n) (a .start) (a .k) l (a .b) (a .c) _ _ (d .check-search .ensures) (c .enum-told .given .1) .0 in
     omega (arith, able .credit, able .low)
 
 cast-t23 : tie.Need-cast-t23
@@ -30,7 +30,7 @@ cast-t23 c =
     let d = c .before .before in
     let a = d .before .before .before .before .before .before .args in
     let l = lists (a .sources .now) (a .targets .now) (a .weights .now) (a .colours .now) in
-    let able = told-able (a .n) (a .start) (a .k) l (a .b) (a .c) _ _ (d .check-search .ensures) (c .enum-told .given .1) .0 in
+    let able = told-searchable (a .n) (a .start) (a .k) l (a .b) (a .c) _ _ (d .check-search .ensures) (c .enum-told .given .1) .0 in
     omega (arith, able .low)
 
 decide-requires : tie.Need-decide-requires
@@ -38,7 +38,7 @@ decide-requires c κs =
     let d = c .before .before .before .before in
     let a = d .before .before .before .before .before .before .args in
     let l = lists (a .sources .now) (a .targets .now) (a .weights .now) (a .colours .now) in
-    told-able (a .n) (a .start) (a .k) l (a .b) (a .c) _ _ (d .check-search .ensures) (c .before .before .enum-told .given .1)
+    told-searchable (a .n) (a .start) (a .k) l (a .b) (a .c) _ _ (d .check-search .ensures) (c .before .before .enum-told .given .1)
 
 clear-requires : tie.Need-clear-requires
 clear-requires c κs = search needs

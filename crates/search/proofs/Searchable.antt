@@ -1,0 +1,86 @@
+-- Where none of 1 to 9 applies, and what search then owes. Assumes nothing.
+use mathlib.Core.Path.{_≡_, refl, sym, _∙_}
+use mathlib.Core.List.{List}
+use mathlib.Core.Logic.{_↔_}
+use Prim.Native.Nat.{ℕ, _+_, _*_, _≤_}
+use lib.Dec.{ltb}
+use lib.ListN.{length, replicate}
+use Rattle.limits.specs.Ceilings.{productMost, workSpace, planBuffer}
+use Rattle.refusals.specs.declared.Refusal.{Refusal}
+use Rattle.refusals.specs.declared.Refusal.the-variants.{Product, WorkingSpace, PlanBuffer}
+use Rattle.refusals.specs.declared.Verdict.{Verdict}
+use Rattle.refusals.specs.declared.Verdict.the-variants.{Yes, Refused}
+use Rattle.refusals.proofs.Verdicts.{clash, refuse-yes, and-then-yes}
+use Rattle.refusals.proofs.Tests.{lt-no}
+use Rattle.model.specs.Automaton.{Automaton}
+use Rattle.model.specs.Lists.{Lists}
+use Rattle.model.specs.Fitness.{fitness, levelsOf}
+use Rattle.model.specs.Plans.{SomePlan}
+use Rattle.model.proofs.Fitness.{fitness-yes, levels-yes}
+use Rattle.search.specs.declared.Searched.{Searched}
+use Rattle.search.specs.declared.Searched.the-variants as outcome
+use Rattle.search.specs.declared.plans.Task.{Task}
+use Rattle.search.specs.Search.{noPlan, spaces, levelsAndSpaces, searchable, Answered, Search}
+use Rattle.search.specs.Tasks.{Searchable}
+
+-- none of 7 to 9 applies
+pub spaces-yes : (n k b words bytes : ℕ) → (spaces n k b words bytes ≡ Yes)
+    ↔ ((n * (b + 1) ≤ productMost) × (workSpace k n b ≤ words) × (planBuffer k n b ≤ bytes))
+unfolding spaces
+spaces-yes n k b words bytes =
+    let seven = lt-no productMost (n * (b + 1)) in
+    let eight = lt-no words (workSpace k n b) in
+    let nine = lt-no bytes (planBuffer k n b) in (
+      λ e.
+          let r7 = refuse-yes (ltb productMost (n * (b + 1))) Product _ .0 e in
+          let r8 = refuse-yes (ltb words (workSpace k n b)) WorkingSpace _ .0 (r7 .1) in
+          let r9 = refuse-yes (ltb bytes (planBuffer k n b)) PlanBuffer Yes .0 (r8 .1) in
+          (seven .0 (r7 .0), eight .0 (r8 .0), nine .0 (r9 .0)),
+      λ (product, space, buffer).
+          refuse-yes (ltb productMost (n * (b + 1))) Product _ .1 (
+            seven .1 product,
+            refuse-yes (ltb words (workSpace k n b)) WorkingSpace _ .1 (
+              eight .1 space,
+              refuse-yes (ltb bytes (planBuffer k n b)) PlanBuffer Yes .1 (nine .1 buffer, refl),
+            ),
+          ),
+    )
+
+-- the task of a call
+abbrev pub taskOf : ℕ → ℕ → ℕ → ℕ → ℕ → Task
+taskOf n s k b c = record { modes = n; start = s; colours = k; credit = c; bound = b }
+
+-- none of 1 to 9 applies
+pub searchable-yes : (n s k : ℕ) (l : Lists) (b c words bytes : ℕ) → (searchable n s k l b c words bytes ≡ Yes)
+    ↔ (Searchable l (taskOf n s k b c) words × (planBuffer k n b ≤ bytes))
+unfolding searchable
+searchable-yes n s k l b c words bytes =
+    let outer = and-then-yes (fitness n s k l) (levelsAndSpaces n k b c words bytes) in
+    let inner = and-then-yes (levelsOf b c) (spaces n k b words bytes) in (
+      λ e.
+          let (equal, fit) = fitness-yes n s k l .0 (outer .0 e .0) in
+          let (low, credit) = levels-yes b c .0 (inner .0 (outer .0 e .1) .0) in
+          let (product, space, buffer) = spaces-yes n k b words bytes .0 (inner .0 (outer .0 e .1) .1) in
+          (record { equal = equal; fit = fit; credit = credit; low = low; product = product; space = space }, buffer),
+      λ (a, buffer).
+          outer .1 (
+            fitness-yes n s k l .1 (a .equal, a .fit),
+            inner .1 (levels-yes b c .1 (a .low, a .credit), spaces-yes n k b words bytes .1 (a .product, a .space, buffer)),
+          ),
+    )
+
+-- the same of the verdict that the code is told
+pub told-searchable : (n s k : ℕ) (l : Lists) (b c words bytes : ℕ) {v : Verdict} → v ≡ searchable n s k l b c words bytes → v ≡ Yes
+    → Searchable l (taskOf n s k b c) words × (planBuffer k n b ≤ bytes)
+told-searchable n s k l b c words bytes told e = searchable-yes n s k l b c words bytes .0 (sym told ∙ e)
+
+module _ {v : Verdict} {g : Automaton} {b c : ℕ} {work plan : List ℕ} where
+  -- where the verdict is a refusal, that is answered and both buffers are left as they were
+  pub search-refused : {x : Refusal} → v ≡ Refused x → Search v g b c work plan work plan (outcome.Refused x)
+  search-refused told = record { refused = λ y e. (cc, refl, refl); decided = λ e. clash (cc) }
+
+  -- where it is yes, search is decided and the working space cleared
+  pub search-decided : {work′ plan′ : List ℕ} {r : Searched} → v ≡ Yes → ((r ≡ noPlan) ↔ (SomePlan g b c → ⊥))
+      → Answered g b c plan plan′ r → work′ ≡ replicate (length work) 0 → Search v g b c work plan work′ plan′ r
+  search-decided told none answered cleared =
+      record { refused = λ y e. clash (cc); decided = λ e. record { no-plan = none; answered = answered; cleared = cleared } }

@@ -1,0 +1,83 @@
+-- `pass::arrive` meets its contract: it stops, the table knows as much, or an entry is added. Assumes nothing.
+use mathlib.Core.Path.{refl, sym, _∙_}
+use native.Mathlib.Omega.{arith}
+use borrow.Author.Needs.{needs}
+use Rattle.passes.specs.Queue.{stops, knows, rises}
+use Rattle.search.proofs.pass.arrive.Statement.{statement}
+use Rattle.search.proofs.pass.arrive.Tie as tie
+
+stops-requires : tie.Need-stops-requires
+stops-requires c κs = search needs
+
+returns : tie.Need-returns
+returns c = (stops (sym (c .before .stops .ensures) ∙ c .if1 .taken) refl refl refl refl, refl)
+
+mul-if2 : tie.Need-mul-if2
+mul-if2 c = search needs
+
+slice-read-if2 : tie.Need-slice-read-if2
+slice-read-if2 c = search needs
+
+returns-2 : tie.Need-returns-2
+returns-2 c =
+    let k = c .before .before in
+    (knows (sym (k .before .stops .ensures) ∙ k .if1 .left) (search needs) refl refl refl refl, refl)
+
+add-best : tie.Need-add-best
+add-best c = search needs
+
+mul-best : tie.Need-mul-best
+mul-best c = search needs
+
+slice-write-best : tie.Need-slice-write-best
+slice-write-best c = search needs
+
+cast-push : tie.Need-cast-push
+cast-push c = search needs
+
+cast-push-2 : tie.Need-cast-push-2
+cast-push-2 c = search needs
+
+cast-push-3 : tie.Need-cast-push-3
+cast-push-3 c = search needs
+
+push-requires : tie.Need-push-requires
+push-requires c κs = c .before .before .before .before .before .before .before .pre .room (search needs)
+
+add-t10 : tie.Need-add-t10
+add-t10 c = omega (arith, c .before .before .before .before .before .before .before .before .before .before .pre .room (search needs))
+
+same-length : tie.Need-same-length
+same-length c = search needs
+
+same-length-2 : tie.Need-same-length-2
+same-length-2 c = search needs
+
+returns-3 : tie.Need-returns-3
+returns-3 c =
+    let k = c .before .before .before .before .before in
+    let p = c .before .before in (
+      rises (sym (k .before .before .stops .ensures) ∙ k .before .if1 .left) (search needs) refl (p .push .ensures) refl refl,
+      refl,
+    )
+
+pub arrive-spec : {M : Type 1} → statement M
+arrive-spec =
+    tie.close
+    (tie.spec
+    stops-requires
+    returns
+    mul-if2
+    slice-read-if2
+    returns-2
+    add-best
+    mul-best
+    slice-write-best
+    cast-push
+    cast-push-2
+    cast-push-3
+    push-requires
+    add-t10
+    same-length
+    same-length-2
+    returns-3)

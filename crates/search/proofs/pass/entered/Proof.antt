@@ -1,0 +1,50 @@
+-- `pass::entered` meets its contract: the node of the level after the arc and of its target. Assumes nothing.
+use mathlib.Core.Path.{_≡_, ap}
+use mathlib.Core.Bool.{Bool, true, false, _&&_}
+use Prim.Native.Nat.{ℕ, suc, _+_, _*_, _≤_}
+use native.Mathlib.Nat.{mul-le-mul}
+use native.Mathlib.Omega.{arith}
+use lib.Dec.{ltb}
+use Rattle.limits.specs.Ceilings.{modesMost, coloursMost}
+use Rattle.model.specs.Automaton.{bit}
+use Rattle.nets.specs.Table.{raisedIf}
+use Rattle.passes.specs.Pass.{node, levelAfter}
+use borrow.Author.Needs.{needs}
+use Rattle.search.proofs.pass.entered.Statement.{statement}
+use Rattle.search.proofs.pass.entered.Tie as tie
+
+-- an arc raises the level by one at most
+raised-low : (t : Bool) (l : ℕ) → raisedIf t l ≤ suc l
+raised-low true l = omega arith
+raised-low false l = omega arith
+
+-- the first node of the level after an arc is small
+after-small : (n last x l : ℕ) → l ≤ last → last ≤ coloursMost → n ≤ modesMost → (r : ℕ) → r ≡ levelAfter last x l → r * n ≤ 320
+unfolding levelAfter
+after-small n last x l h k q r e =
+    let low : r ≤ 5 = omega (arith, raised-low (ltb l last && bit x l) l) in
+    mul-le-mul low q
+
+next-level-requires : tie.Need-next-level-requires
+next-level-requires c κs = search needs
+
+mul-result : tie.Need-mul-result
+mul-result c =
+    let a = c .before .before .args in
+    let h = c .before .before .pre in
+    let t = a .numbers in
+    omega (arith, after-small (t .modes) (t .last) (a .colours) (a .level) (h .0) (h .1) (h .2) _ (c .before .next-level .ensures))
+
+add-result : tie.Need-add-result
+add-result c =
+    let a = c .before .before .args in
+    let h = c .before .before .pre in
+    let t = a .numbers in
+    omega (arith, after-small (t .modes) (t .last) (a .colours) (a .level) (h .0) (h .1) (h .2) _ (c .before .next-level .ensures))
+
+returns : tie.Need-returns
+unfolding node
+returns c = let a = c .before .before .args in ap (λ l. l * a .numbers .modes + a .target) (c .before .next-level .ensures)
+
+pub entered-spec : {M : Type 1} → statement M
+entered-spec = tie.close (tie.spec next-level-requires mul-result add-result returns)

@@ -1,0 +1,123 @@
+-- `pass::run` meets its contract: at every turn the entries below head are treated. Assumes nothing.
+use mathlib.Core.Path.{_≡_, refl, ap, _∙_}
+use Prim.Native.Nat.{_-_}
+use native.Mathlib.Omega.{arith}
+use lib.ListN.{length}
+use Rattle.model.specs.Lists.{lists}
+use Rattle.passes.specs.Pass.{Pass, Ready, room}
+use Rattle.passes.specs.Queue.{Treated}
+use Rattle.search.specs.Tasks.{passOf}
+use Rattle.passes.proofs.Queue.{queue-room, entry-space, ready-kept, ready-some}
+use Rattle.passes.proofs.Passes.{passed-closed}
+use Rattle.search.proofs.Steps.{pass-first, pass-hit, pass-more}
+use Rattle.search.proofs.pass.run.Statement.{statement}
+use Rattle.search.proofs.pass.run.Tie as tie
+
+abbrev Inv-loop : tie.InvT-loop
+Inv-loop sources targets weights colours numbers node charge best₀ work₀ head₀ tail₀ best work head tail =
+    (length best ≡ length best₀) × (length work ≡ length work₀)
+    × Treated (passOf (lists sources targets weights colours) numbers) node charge best work head tail
+
+abbrev μ-loop : tie.MeasureT-loop
+μ-loop sources targets weights colours numbers node charge best₀ work₀ head₀ tail₀ best work head tail =
+    room (length best₀) (numbers .bound) - head
+
+abbrev pass-of : tie.Start Inv-loop μ-loop → Pass
+pass-of s = passOf (lists (s .args .sources .now) (s .args .targets .now) (s .args .weights .now) (s .args .colours .now)) (s .args .numbers)
+
+abbrev start : tie.At-loop Inv-loop μ-loop → tie.Start Inv-loop μ-loop
+start l = l .before .before .before .before .before .before .before .before .before .before .before .before .before
+
+best-size : (l : tie.At-loop Inv-loop μ-loop) → length (l .loop .best) ≡ length (start l .args .best .now)
+best-size l = l .loop .inv .0 ∙ l .before .before .before .before .before .begin .kept .0
+
+work-size : (l : tie.At-loop Inv-loop μ-loop) → length (l .loop .work) ≡ length (start l .args .work .now)
+work-size l = l .loop .inv .1 ∙ l .before .before .before .before .before .begin .kept .1 .0
+
+ready : (l : tie.At-loop Inv-loop μ-loop) → Ready (pass-of (start l)) (length (l .loop .best)) (length (l .loop .work))
+ready l = ready-kept (start l .pre .0) (best-size l) (work-size l)
+
+begin-requires : tie.Need-begin-requires Inv-loop μ-loop
+begin-requires c κs =
+    let s = c .before .before .before .before .before .before .before in
+    let some = ready-some (s .pre .0) in
+    (s .pre .1 .0, some .1, omega (arith, s .pre .1 .1, s .pre .0 .low), some .2)
+
+loop-holds : tie.Need-loop-holds Inv-loop μ-loop
+loop-holds c =
+    let s = c .before .before .before .before .before .before .before .before .before .before .before .before in
+    let g = c .before .before .before .before .begin in
+    let p = s .pre .1 in
+    (refl, refl, pass-first (pass-of s) (s .args .node) (s .args .charge) (p .2) (p .0) (p .1) (g .ensures .0) (g .ensures .1))
+
+visit-requires : tie.Need-visit-requires Inv-loop μ-loop
+visit-requires c κs =
+    let l = c .before .before .before in
+    (ready l, (l .loop .inv .2 .from .queue, c .before .before .loop-test .taken))
+
+same-length : tie.Need-same-length Inv-loop μ-loop
+same-length c =
+    let d = c .before .before .before .before .before in
+    d .visit .ensures .grown .best-size ∙ best-size (d .before .before .before .before)
+
+same-length-2 : tie.Need-same-length-2 Inv-loop μ-loop
+same-length-2 c =
+    let d = c .before .before .before .before .before in
+    d .visit .ensures .grown .size ∙ work-size (d .before .before .before .before)
+
+returns : tie.Need-returns Inv-loop μ-loop
+returns c =
+    let d = c .before .before .before .before .before in
+    let i = d .before .before .before in
+    pass-hit (c .if1 .taken) (i .before .loop .inv .2) (i .loop-test .taken) (d .visit .ensures)
+
+add-head : tie.Need-add-head Inv-loop μ-loop
+add-head c =
+    let i = c .before .before .before .before .before .before .before .before in
+    let l = i .before in
+    omega (arith, entry-space (l .loop .head) (ready l) (l .loop .inv .2 .from .queue) (i .loop-test .taken) .1)
+
+loop-less : tie.Need-loop-less Inv-loop μ-loop
+loop-less c =
+    let i = c .before .before .before .before .before .before .before .before in
+    let l = i .before in
+    let same = ap (λ n. room n (start l .args .numbers .bound)) (l .loop .inv .0) in
+    omega (arith, queue-room (l .loop .inv .2 .from .queue), i .loop-test .taken, same)
+
+loop-again : tie.Need-loop-again Inv-loop μ-loop
+loop-again c =
+    let d = c .before .before .before .before .before in
+    let l = d .before .before .before .before in
+    let v = d .visit .ensures in (
+      v .grown .best-size ∙ l .loop .inv .0,
+      v .grown .size ∙ l .loop .inv .1,
+      pass-more (c .if1 .left) (l .loop .inv .2) (d .before .before .before .loop-test .taken) v,
+    )
+
+same-length-3 : tie.Need-same-length-3 Inv-loop μ-loop
+same-length-3 c = best-size (c .before)
+
+same-length-4 : tie.Need-same-length-4 Inv-loop μ-loop
+same-length-4 c = work-size (c .before)
+
+returns-2 : tie.Need-returns-2 Inv-loop μ-loop
+returns-2 c = passed-closed 0 (c .before .loop .inv .2) (c .loop-test .left)
+
+pub run-spec : {M : Type 1} → statement M
+run-spec =
+    tie.close
+    (tie.spec
+    Inv-loop
+    μ-loop
+    begin-requires
+    loop-holds
+    visit-requires
+    same-length
+    same-length-2
+    returns
+    add-head
+    loop-less
+    loop-again
+    same-length-3
+    same-length-4
+    returns-2)

@@ -1,0 +1,56 @@
+-- `plans::find_cycle` meets its contract. Assumes nothing.
+use native.Mathlib.Omega.{arith}
+use lib.ListN.{length-take}
+use borrow.Author.Needs.{needs}
+use Rattle.search.proofs.Tasks.{nodes-few, table-blank, cycle-asked, cycle-left}
+use Rattle.search.proofs.plans.find_cycle.Statement.{statement}
+use Rattle.search.proofs.plans.find_cycle.Tie as tie
+
+add-nodes : tie.Need-add-nodes
+add-nodes c = search needs
+
+mul-nodes : tie.Need-mul-nodes
+mul-nodes c = search needs
+
+mul-t12 : tie.Need-mul-t12
+mul-t12 c = search needs
+
+add-t13 : tie.Need-add-t13
+add-t13 c = search needs
+
+array-borrow-prefix-best : tie.Need-array-borrow-prefix-best
+array-borrow-prefix-best c = nodes-few (c .before .before .before .before .before .before .before .pre .0)
+
+slice-aggregate-run : tie.Need-slice-aggregate-run
+slice-aggregate-run c =
+    let s = c .before .before .before .before .before .before .before .before in
+    simp length-take (omega (arith, nodes-few (s .pre .0)))
+
+run-requires : tie.Need-run-requires
+run-requires c κs =
+    let s = c .before .before .before .before .before .before .before .before .before in
+    cycle-asked (s .pre .0) (s .pre .1 .0) (s .pre .1 .1) (table-blank (s .pre .0))
+
+same-length : tie.Need-same-length
+same-length c = search needs
+
+returns : tie.Need-returns
+returns c =
+    let s = c .before .before .before .before .before .before .before .before .before .before .before .before .before in
+    let k = c .before .before .before .run in
+    let q = k .kept .1 .1 .1 .1 .1 .1 .1 in
+    cycle-left (s .pre .0) (s .pre .1 .0) (s .pre .1 .1) (table-blank (s .pre .0)) (q .0) (q .1 .0) (k .ensures)
+
+pub find-cycle-spec : {M : Type 1} → statement M
+find-cycle-spec =
+    tie.close
+    (tie.spec
+    add-nodes
+    mul-nodes
+    mul-t12
+    add-t13
+    array-borrow-prefix-best
+    slice-aggregate-run
+    run-requires
+    same-length
+    returns)

@@ -1,0 +1,29 @@
+-- `plans::find_peaks` meets its contract. Assumes nothing.
+use borrow.Author.Needs.{needs}
+use Rattle.search.proofs.Tasks.{peaks-asked, peaks-left}
+use Rattle.search.proofs.plans.find_peaks.Statement.{statement}
+use Rattle.search.proofs.plans.find_peaks.Tie as tie
+
+add-t10 : tie.Need-add-t10
+add-t10 c = search needs
+
+run-requires : tie.Need-run-requires
+run-requires c κs =
+    let s = c .before .before .before .before .before .before .before .before in
+    peaks-asked (s .pre .0) (s .pre .1)
+
+same-length : tie.Need-same-length
+same-length c = search needs
+
+same-length-2 : tie.Need-same-length-2
+same-length-2 c = search needs
+
+returns : tie.Need-returns
+returns c =
+    let k = c .before .before .before .before .run in
+    let s = c .before .before .before .before .before .before .before .before .before .before .before .before .before in
+    let q = k .kept .1 .1 .1 .1 .1 .1 .1 in
+    peaks-left (s .pre .0) (s .pre .1) (q .0) (q .1 .0) (k .ensures)
+
+pub find-peaks-spec : {M : Type 1} → statement M
+find-peaks-spec = tie.close (tie.spec add-t10 run-requires same-length same-length-2 returns)

@@ -1,0 +1,327 @@
+// The pass: the greatest charge with which each node, a level and a mode, is reached, and an arc that stops it.
+ghost use mathlib.Core.Path.{_≡_};
+ghost use Prim.Native.Nat.{_+_, _*_, _≤_, _<_};
+ghost use lib.Dec.{eqb};
+ghost use lib.ListN.{length, getD, set, replicate};
+ghost use Rattle.limits.specs.Ceilings.{modesMost, coloursMost, boundMost};
+ghost use Rattle.model.specs.Lists.{lists};
+ghost use Rattle.passes.specs.Pass.{node, levelAfter, closes, Ready};
+ghost use Rattle.passes.specs.Queue.{wordCount, nodeAt, chargeAt, Queue, Pushed, Arrives, Arrived, Tried, Visited, Passed};
+ghost use Rattle.search.specs.Tasks.{passOf, placeAt};
+use crate::entries::charge_of;
+use crate::entries::node_of;
+use crate::entries::push;
+use walks::Step;
+use walks::bounded_step;
+
+// The numbers of a pass over the levels 0 to last (its arcs stay in the lent lists). It stops where an arc comes to the node goal with the
+// charge least or more.
+pub struct PassNumbers {
+    pub modes: usize,
+    pub last: usize,
+    pub bound: u16,
+    pub goal: usize,
+    pub least: u16,
+}
+
+// An entry of the queue, with the level and the mode of its node.
+pub struct Place {
+    pub index: usize,
+    pub level: usize,
+    pub mode: u8,
+    pub charge: u16,
+}
+
+// What trying arcs at an entry gives: whether the pass stops there, by which arc, and the number of entries of the queue.
+pub struct Trial {
+    pub hit: bool,
+    pub arc: usize,
+    pub tail: usize,
+}
+
+// How a pass ends: whether an arc stopped it, and then that arc and the entry head that it was tried at; and the number of entries of the
+// queue.
+pub struct Outcome {
+    pub found: bool,
+    pub head: usize,
+    pub arc: usize,
+    pub tail: usize,
+}
+
+// The first entry, and its word of the table.
+fn begin(best: &mut [u16], work: &mut [u16], node: usize, charge: u16)
+    requires { ⌜ (node < length (now best)) × (length (now best) ≤ wordCount) × (charge ≤ boundMost) × (4 ≤ length (now work)) ⌝ }
+    ensures { λ _. ⌜ (now (best .exit) ≡ set (now (best .entry)) node (charge + 1)) × Pushed (now (work .entry)) 0 node charge 0 0 (now (work .exit)) ⌝ }
+{
+    best[node] = charge + 1;
+    push(work, 0, node as u16, charge, 0, 0);
+}
+
+// Whether a pass stops at a node with a charge.
+fn stops(numbers: PassNumbers, node: usize, charge: u16) -> bool
+    ensures { λ r. ⌜ r ≡ closes (numbers .goal) (numbers .least) node charge ⌝ }
+{
+    if node != numbers.goal {
+        return false;
+    }
+    charge >= numbers.least
+}
+
+// Arc `arc` comes from the entry `parent` to a node with a charge: the pass stops, or where the table has less, the table rises and an entry
+// is added.
+fn arrive(
+    numbers: PassNumbers,
+    node: usize,
+    charge: u16,
+    parent: usize,
+    arc: usize,
+    best: &mut [u16],
+    work: &mut [u16],
+    tail: usize,
+) -> Trial
+    requires { ⌜ Arrives (now best) (now work) tail node charge parent arc ⌝ }
+    ensures does { λ r. ⌜ Arrived (numbers .goal) (numbers .least) (now (best .entry)) (now (work .entry)) tail node charge parent arc (now (best .exit)) (now (work .exit)) (r .hit) (r .tail) ⌝ }
+    ensures by { λ r. ⌜ r .arc ≡ arc ⌝ }
+{
+    if stops(numbers, node, charge) {
+        return Trial {
+            hit: true,
+            arc,
+            tail,
+        };
+    }
+    if charge < best[node] {
+        return Trial {
+            hit: false,
+            arc,
+            tail,
+        };
+    }
+    best[node] = charge + 1;
+    push(work, tail, node as u16, charge, parent as u16, arc as u16);
+    Trial {
+        hit: false,
+        arc,
+        tail: tail + 1,
+    }
+}
+
+// The level after an arc with this colour byte, of the levels 0 to last.
+fn next_level(colours: u8, level: usize, last: usize) -> usize
+    requires { ⌜ (level ≤ last) × (last ≤ coloursMost) ⌝ }
+    ensures { λ r. ⌜ r ≡ levelAfter last colours level ⌝ }
+{
+    if level >= last {
+        return level;
+    }
+    if ((colours as u32) >> (level as u32)) % 2 == 1 {
+        return level + 1;
+    }
+    level
+}
+
+// The node that an arc enters from a level.
+fn entered(numbers: PassNumbers, level: usize, target: u8, colours: u8) -> usize
+    requires { ⌜ (level ≤ numbers .last) × (numbers .last ≤ coloursMost) × (numbers .modes ≤ modesMost) ⌝ }
+    ensures { λ r. ⌜ r ≡ node (numbers .modes) (levelAfter (numbers .last) colours level) target ⌝ }
+{
+    let level = next_level(colours, level, numbers.last);
+    level * numbers.modes + (target as usize)
+}
+
+// Tries arc a at an entry.
+fn relax(
+    sources: &[u8],
+    targets: &[u8],
+    weights: &[i16],
+    colours: &[u8],
+    numbers: PassNumbers,
+    place: Place,
+    a: usize,
+    best: &mut [u16],
+    work: &mut [u16],
+    tail: usize,
+) -> Trial
+    requires { ⌜ Ready (passOf (lists (now sources) (now targets) (now weights) (now colours)) numbers) (length (now best)) (length (now work)) ⌝ }
+    requires { ⌜ Queue (passOf (lists (now sources) (now targets) (now weights) (now colours)) numbers) (now best) (now work) tail ⌝ }
+    requires { ⌜ (place ≡ placeAt (numbers .modes) (now work) (place .index)) × (place .index < tail) × (a < length (now sources)) ⌝ }
+    ensures { λ r. ⌜ Tried (passOf (lists (now (sources .entry)) (now (targets .entry)) (now (weights .entry)) (now (colours .entry))) numbers) (now (best .entry)) (now (work .entry)) tail a (a + 1) (nodeAt (now (work .entry)) (place .index)) (chargeAt (now (work .entry)) (place .index)) (now (best .exit)) (now (work .exit)) (r .hit) (r .arc) (r .tail) ⌝ }
+{
+    if sources[a] != place.mode {
+        return Trial {
+            hit: false,
+            arc: a,
+            tail,
+        };
+    }
+    let step = bounded_step(place.charge, weights[a], numbers.bound);
+    match step {
+        Step::To(charge) => {
+            let node = entered(numbers, place.level, targets[a], colours[a]);
+            arrive(numbers, node, charge, place.index, a, best, work, tail)
+        }
+        Step::Impossible => Trial {
+            hit: false,
+            arc: a,
+            tail,
+        },
+    }
+}
+
+// The place of an entry.
+fn place_of(modes: usize, work: &[u16], i: usize) -> Place
+    requires { ⌜ (0 < modes) × (modes ≤ modesMost) × (4 * i + 4 ≤ length (now work)) ⌝ }
+    ensures { λ r. ⌜ r ≡ placeAt modes (now (work .entry)) i ⌝ }
+{
+    let node = node_of(work, i);
+    Place {
+        index: i,
+        level: node / modes,
+        mode: (node % modes) as u8,
+        charge: charge_of(work, i),
+    }
+}
+
+// Tries every arc at an entry.
+fn expand(
+    sources: &[u8],
+    targets: &[u8],
+    weights: &[i16],
+    colours: &[u8],
+    numbers: PassNumbers,
+    head: usize,
+    best: &mut [u16],
+    work: &mut [u16],
+    tail: usize,
+) -> Trial
+    requires { ⌜ Ready (passOf (lists (now sources) (now targets) (now weights) (now colours)) numbers) (length (now best)) (length (now work)) ⌝ }
+    requires { ⌜ Queue (passOf (lists (now sources) (now targets) (now weights) (now colours)) numbers) (now best) (now work) tail ⌝ }
+    requires { ⌜ head < tail ⌝ }
+    ensures { λ r. ⌜ Tried (passOf (lists (now (sources .entry)) (now (targets .entry)) (now (weights .entry)) (now (colours .entry))) numbers) (now (best .entry)) (now (work .entry)) tail 0 (length (now (sources .entry))) (nodeAt (now (work .entry)) head) (chargeAt (now (work .entry)) head) (now (best .exit)) (now (work .exit)) (r .hit) (r .arc) (r .tail) ⌝ }
+{
+    let place = place_of(numbers.modes, work, head);
+    let mut end = tail;
+    let mut a = 0;
+    while a < sources.len() {
+        let trial = relax(
+            sources,
+            targets,
+            weights,
+            colours,
+            numbers,
+            place,
+            a,
+            best,
+            work,
+            end,
+        );
+        if trial.hit {
+            return trial;
+        }
+        end = trial.tail;
+        a += 1;
+    }
+    Trial {
+        hit: false,
+        arc: a,
+        tail: end,
+    }
+}
+
+// Whether the charge of an entry is the greatest of its node.
+fn is_greatest(best: &[u16], work: &[u16], i: usize) -> bool
+    requires { ⌜ (4 * i + 4 ≤ length (now work)) × (nodeAt (now work) i < length (now best)) × (chargeAt (now work) i ≤ boundMost) ⌝ }
+    ensures { λ r. ⌜ r ≡ eqb (getD (now (best .entry)) (nodeAt (now (work .entry)) i) 0) (chargeAt (now (work .entry)) i + 1) ⌝ }
+{
+    let node = node_of(work, i);
+    let charge = charge_of(work, i);
+    best[node] == charge + 1
+}
+
+// Tries every arc at an entry, unless a greater charge is known for its node.
+fn visit(
+    sources: &[u8],
+    targets: &[u8],
+    weights: &[i16],
+    colours: &[u8],
+    numbers: PassNumbers,
+    head: usize,
+    best: &mut [u16],
+    work: &mut [u16],
+    tail: usize,
+) -> Trial
+    requires { ⌜ Ready (passOf (lists (now sources) (now targets) (now weights) (now colours)) numbers) (length (now best)) (length (now work)) ⌝ }
+    requires { ⌜ Queue (passOf (lists (now sources) (now targets) (now weights) (now colours)) numbers) (now best) (now work) tail ⌝ }
+    requires { ⌜ head < tail ⌝ }
+    ensures { λ r. ⌜ Visited (passOf (lists (now (sources .entry)) (now (targets .entry)) (now (weights .entry)) (now (colours .entry))) numbers) (now (best .entry)) (now (work .entry)) tail head (now (best .exit)) (now (work .exit)) (r .hit) (r .arc) (r .tail) ⌝ }
+{
+    if is_greatest(best, work, head) {
+        return expand(
+            sources,
+            targets,
+            weights,
+            colours,
+            numbers,
+            head,
+            best,
+            work,
+            tail,
+        );
+    }
+    Trial {
+        hit: false,
+        arc: 0,
+        tail,
+    }
+}
+
+// A pass from a node with a charge, with a table of zeros. Where no arc stops it, the table has the greatest charge of each node plus 1, 0
+// for none. The entries that reach them are in the working space.
+pub fn run(
+    sources: &[u8],
+    targets: &[u8],
+    weights: &[i16],
+    colours: &[u8],
+    numbers: PassNumbers,
+    node: usize,
+    charge: u16,
+    best: &mut [u16],
+    work: &mut [u16],
+) -> Outcome
+    requires { ⌜ Ready (passOf (lists (now sources) (now targets) (now weights) (now colours)) numbers) (length (now best)) (length (now work)) ⌝ }
+    requires { ⌜ (node < length (now best)) × (charge ≤ numbers .bound) × (now best ≡ replicate (length (now best)) 0) ⌝ }
+    ensures { λ r. ⌜ Passed (passOf (lists (now (sources .entry)) (now (targets .entry)) (now (weights .entry)) (now (colours .entry))) numbers) node charge (now (best .exit)) (now (work .exit)) (r .found) (r .head) (r .arc) (r .tail) ⌝ }
+{
+    begin(best, work, node, charge);
+    let mut head = 0;
+    let mut tail = 1;
+    while head < tail {
+        let trial = visit(
+            sources,
+            targets,
+            weights,
+            colours,
+            numbers,
+            head,
+            best,
+            work,
+            tail,
+        );
+        tail = trial.tail;
+        if trial.hit {
+            return Outcome {
+                found: true,
+                head,
+                arc: trial.arc,
+                tail,
+            };
+        }
+        head += 1;
+    }
+    Outcome {
+        found: false,
+        head,
+        arc: 0,
+        tail,
+    }
+}
