@@ -61,7 +61,7 @@ relax-along {l} {t} {p} {w = w} {a = a} {x = x} f es ex eu =
       enters = eu ∙ ap (λ v. node (t .modes) (levelAfter (t .last) (getD (l .colours) a 0) v) (getD (l .targets) a 0)) level;
     }
 
--- the level of the place is one of the numbers's
+-- the level of the place is one of the pass's
 pub relax-levels : {l : Lists} {t : PassNumbers} {p : Place} {best w : List ℕ} {tail a : ℕ} → Trying l t p best w tail a
     → (p .level ≤ t .last) × (t .last ≤ coloursMost) × (t .modes ≤ modesMost)
 relax-levels {p = p} f =

@@ -15,7 +15,7 @@ use Rattle.search.specs.declared.pass.Place.{Place}
 abbrev pub taskModel : Lists → Task → Automaton
 taskModel l t = automatonOf (t .modes) (t .start) (t .colours) l
 
--- the pass of a numbers over its lists
+-- the pass with these numbers over the lists
 abbrev pub passOf : Lists → PassNumbers → Pass
 passOf l t = record { lists = l; modes = t .modes; last = t .last; bound = t .bound; goal = t .goal; least = t .least }
 

@@ -10,6 +10,7 @@ ghost use Rattle.passes.specs.Queue.{nodeAt, chargeAt, parentAt, numberAt, Entr
 ghost use Rattle.passes.specs.Trace.{Linked, Chain, Wrote};
 use limits::Limits;
 
+// A word as an index.
 fn index(x: u16) -> usize
     ensures { λ r. ⌜ r ≡ x ⌝ }
 {
@@ -66,6 +67,7 @@ fn parent_of(work: &[u16], i: usize) -> usize
     index(work[at])
 }
 
+// A word that is a byte.
 fn narrow(x: u16) -> u8
     requires { ⌜ x < 256 ⌝ }
     ensures { λ r. ⌜ r ≡ x ⌝ }
@@ -135,5 +137,6 @@ pub fn entry_of(work: &[u16], tail: usize, node: usize, charge: u16) -> usize
         }
         i += 1;
     }
+    // Not reached: some entry has them.
     i
 }

@@ -218,7 +218,7 @@ fn expects(
     if pairs > ROOM {
         return false;
     }
-    let mut alive = [0u8; ROOM];
+    let mut candidates = [0u8; ROOM];
     let mut marked = [0u8; ROOM];
     has_plan(
         sources,
@@ -226,7 +226,7 @@ fn expects(
         weights,
         colours,
         numbers,
-        &mut alive[..pairs],
+        &mut candidates[..pairs],
         &mut marked[..pairs],
     )
 }

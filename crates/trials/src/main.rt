@@ -79,12 +79,12 @@ fn try_small(first: u32) -> u32 {
     medium.bound_span = 32;
     medium.weight_span = 33;
     medium.weight_low = 18;
-    let mut empty = small(1000);
-    empty.bound_span = 1;
-    empty.colours_span = 5;
-    empty.weight_span = 3;
-    empty.weight_low = 1;
-    empty.arcs_span = 16;
+    let mut zero = small(1000);
+    zero.bound_span = 1;
+    zero.colours_span = 5;
+    zero.weight_span = 3;
+    zero.weight_low = 1;
+    zero.arcs_span = 16;
     let mut equal = small(1000);
     equal.repeats = true;
     equal.colours_span = 5;
@@ -95,7 +95,7 @@ fn try_small(first: u32) -> u32 {
     none.bound_span = 24;
     let second = try_family(b"small", small(6000), first);
     let third = try_family(b"medium", medium, second);
-    let fourth = try_family(b"bound-0", empty, third);
+    let fourth = try_family(b"bound-0", zero, third);
     let fifth = try_family(b"equal-arcs", equal, fourth);
     try_family(b"no-arcs", none, fifth)
 }

@@ -1,6 +1,7 @@
-// A plain search over pairs of a mode and a charge, which shares no code with the real one. A pair stays alive while, for each colour, a
-// walk over pairs that are alive leads from it to an arc with the colour. What is left when no pair dies any more are the pairs from which
-// every colour can be met again and again; a plan exists where the start mode with the credit is one of them.
+// A plain search over pairs of a mode and a charge, which shares no code with the real one. At first every pair is a candidate. A pair is
+// removed where, for some colour, no walk over candidates leads from it to an arc with the colour (where there is no colour, to any arc). When
+// none is removed any more, the candidates are the pairs from which every colour can be met again and again; a plan exists where the start
+// mode with the credit is one of them.
 ghost use Prim.Native.Nat.{_+_, _*_, _≤_};
 use crate::lists::byte;
 use crate::lists::fill;
@@ -70,7 +71,28 @@ fn counts(colours: &[u8], a: usize, mask: u8) -> bool {
     byte(colours, a) & mask != 0
 }
 
-// Whether some arc from a pair leads to a pair that is alive, and either counts or leads to a pair that is marked.
+// Whether an arc, which leads to a pair (as pair_after has it), leads to a candidate, and either counts or leads to a pair that is marked.
+fn leads_by(
+    colours: &[u8],
+    a: usize,
+    mask: u8,
+    after: usize,
+    candidates: &[u8],
+    marked: &[u8],
+) -> bool {
+    if after == 0 {
+        return false;
+    }
+    if byte(candidates, after - 1) != 1 {
+        return false;
+    }
+    if counts(colours, a, mask) {
+        return true;
+    }
+    byte(marked, after - 1) == 1
+}
+
+// Whether some arc from a pair does so.
 fn leads_on(
     sources: &[u8],
     targets: &[u8],
@@ -79,28 +101,21 @@ fn leads_on(
     bound: u32,
     mask: u8,
     pair: usize,
-    alive: &[u8],
+    candidates: &[u8],
     marked: &[u8],
 ) -> bool {
     let mut a = 0;
     while a < sources.len() {
         let after = pair_after(sources, targets, weights, bound, pair, a);
-        if after > 0 {
-            if byte(alive, after - 1) == 1 {
-                if counts(colours, a, mask) {
-                    return true;
-                }
-                if byte(marked, after - 1) == 1 {
-                    return true;
-                }
-            }
+        if leads_by(colours, a, mask, after, candidates, marked) {
+            return true;
         }
         a += 1;
     }
     false
 }
 
-// Whether a pair is to be marked: it is alive, not marked, and leads on.
+// Whether a pair is to be marked: it is a candidate, not marked, and leads on.
 fn is_next(
     sources: &[u8],
     targets: &[u8],
@@ -109,10 +124,10 @@ fn is_next(
     bound: u32,
     mask: u8,
     pair: usize,
-    alive: &[u8],
+    candidates: &[u8],
     marked: &[u8],
 ) -> bool {
-    if byte(alive, pair) != 1 {
+    if byte(candidates, pair) != 1 {
         return false;
     }
     if byte(marked, pair) == 1 {
@@ -126,7 +141,7 @@ fn is_next(
         bound,
         mask,
         pair,
-        alive,
+        candidates,
         marked,
     )
 }
@@ -147,12 +162,12 @@ fn sweep(
     colours: &[u8],
     bound: u32,
     mask: u8,
-    alive: &[u8],
+    candidates: &[u8],
     marked: &mut [u8],
 ) -> bool {
     let mut more = false;
     let mut pair = 0;
-    while pair < alive.len() {
+    while pair < candidates.len() {
         let test = is_next(
             sources,
             targets,
@@ -161,7 +176,7 @@ fn sweep(
             bound,
             mask,
             pair,
-            alive,
+            candidates,
             marked,
         );
         if put_if(test, marked, pair, 1) {
@@ -172,7 +187,7 @@ fn sweep(
     more
 }
 
-// Marks the pairs from which a walk over pairs that are alive leads to an arc that counts. Each sweep but the last marks one more.
+// Marks the pairs from which a walk over candidates leads to an arc that counts. Each sweep but the last marks one more.
 fn mark(
     sources: &[u8],
     targets: &[u8],
@@ -180,13 +195,13 @@ fn mark(
     colours: &[u8],
     bound: u32,
     mask: u8,
-    alive: &[u8],
+    candidates: &[u8],
     marked: &mut [u8],
 ) {
     fill(marked, 0);
     let mut sweeps = 0;
     let mut more = true;
-    while sweeps < alive.len() {
+    while sweeps < candidates.len() {
         if !more {
             return;
         }
@@ -197,25 +212,25 @@ fn mark(
             colours,
             bound,
             mask,
-            alive,
+            candidates,
             marked,
         );
         sweeps += 1;
     }
 }
 
-// Keeps alive what is marked; whether a pair died.
-fn keep_marked(alive: &mut [u8], marked: &[u8]) -> bool {
-    let mut died = false;
+// Removes the candidates that are not marked; whether there was one.
+fn keep_marked(candidates: &mut [u8], marked: &[u8]) -> bool {
+    let mut removed = false;
     let mut pair = 0;
-    while pair < alive.len() {
-        let test = alive[pair] != byte(marked, pair);
-        if put_if(test, alive, pair, 0) {
-            died = true;
+    while pair < candidates.len() {
+        let test = candidates[pair] != byte(marked, pair);
+        if put_if(test, candidates, pair, 0) {
+            removed = true;
         }
         pair += 1;
     }
-    died
+    removed
 }
 
 // The mask of a colour; 0, for no colour, where there is none.
@@ -234,19 +249,19 @@ fn masks(k: u32) -> u32 {
     k
 }
 
-// Lets die what cannot meet one of the colours; whether a pair died.
-fn die(
+// Removes the candidates that cannot meet one of the colours; whether there was one.
+fn remove(
     sources: &[u8],
     targets: &[u8],
     weights: &[i16],
     colours: &[u8],
     bound: u32,
     k: u32,
-    alive: &mut [u8],
+    candidates: &mut [u8],
     marked: &mut [u8],
 ) -> bool {
     let count = masks(k);
-    let mut died = false;
+    let mut removed = false;
     let mut colour = 0;
     while colour < count {
         mark(
@@ -256,32 +271,41 @@ fn die(
             colours,
             bound,
             mask_of(k, colour),
-            alive,
+            candidates,
             marked,
         );
-        if keep_marked(alive, marked) {
-            died = true;
+        if keep_marked(candidates, marked) {
+            removed = true;
         }
         colour += 1;
     }
-    died
+    removed
 }
 
-// Lets die until nothing dies any more. Each round but the last lets a pair die.
-fn settle(
+// Removes candidates until none is removed any more. Each round but the last removes one.
+fn remove_all(
     sources: &[u8],
     targets: &[u8],
     weights: &[i16],
     colours: &[u8],
     bound: u32,
     k: u32,
-    alive: &mut [u8],
+    candidates: &mut [u8],
     marked: &mut [u8],
 ) {
-    fill(alive, 1);
+    fill(candidates, 1);
     let mut rounds = 0;
-    while rounds <= alive.len() {
-        if !die(sources, targets, weights, colours, bound, k, alive, marked) {
+    while rounds <= candidates.len() {
+        if !remove(
+            sources,
+            targets,
+            weights,
+            colours,
+            bound,
+            k,
+            candidates,
+            marked,
+        ) {
             return;
         }
         rounds += 1;
@@ -295,21 +319,21 @@ pub fn has_plan(
     weights: &[i16],
     colours: &[u8],
     numbers: Numbers,
-    alive: &mut [u8],
+    candidates: &mut [u8],
     marked: &mut [u8],
 ) -> bool {
-    settle(
+    remove_all(
         sources,
         targets,
         weights,
         colours,
         numbers.bound,
         numbers.colours,
-        alive,
+        candidates,
         marked,
     );
     let first = pair_of(numbers.start, numbers.credit, numbers.bound);
-    byte(alive, first) == 1
+    byte(candidates, first) == 1
 }
 
 // Walks a list of arcs from a pair (as pair_after has it, plus 1), and returns the pair that it comes to; 0 where a step is not possible or

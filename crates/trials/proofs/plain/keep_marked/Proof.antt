@@ -10,8 +10,8 @@ pub keep-marked-spec : {M : Type 1} → statement M
 keep-marked-spec =
     tie.close
     (tie.spec
-    (λ alive₀ _ _ _ alive _ _. length alive ≡ length alive₀)
-    (λ alive₀ _ _ _ _ _ pair. length alive₀ - pair)
+    (λ candidates₀ _ _ _ candidates _ _. length candidates ≡ length candidates₀)
+    (λ candidates₀ _ _ _ _ _ pair. length candidates₀ - pair)
     (search needs)
     (search needs)
     (search needs)

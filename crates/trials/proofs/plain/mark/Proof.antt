@@ -11,7 +11,7 @@ mark-spec =
     tie.close
     (tie.spec
     (λ _ _ _ _ _ _ _ marked₀ _ _ marked _ _. length marked ≡ length marked₀)
-    (λ _ _ _ _ _ _ alive _ _ _ _ sweeps _. length alive - sweeps)
+    (λ _ _ _ _ _ _ candidates _ _ _ _ sweeps _. length candidates - sweeps)
     (search needs)
     (search needs)
     (search needs)

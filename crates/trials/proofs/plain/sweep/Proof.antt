@@ -11,7 +11,7 @@ sweep-spec =
     tie.close
     (tie.spec
     (λ _ _ _ _ _ _ _ marked₀ _ _ marked _ _. length marked ≡ length marked₀)
-    (λ _ _ _ _ _ _ alive _ _ _ _ _ pair. length alive - pair)
+    (λ _ _ _ _ _ _ candidates _ _ _ _ _ pair. length candidates - pair)
     (search needs)
     (search needs)
     (search needs)
