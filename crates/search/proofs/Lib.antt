@@ -1,6 +1,6 @@
 -- The laws of search, one idea a file: an arc that is tried (Steps), the passes of a task (Tasks), what the buffers hold (Spaces), the plan
--- that is written (Written), the table of peaks and what it decides (Peaks), where none of 1 to 9 applies (Searchable). Demand3 says what a caller
--- learns.
+-- that is written (Written), the table of peaks and what it decides (Peaks), where none of 1 to 9 applies (Searchable). Demand3 says what a
+-- caller learns, Examples what search answers to the examples.
 pub mod Steps
 pub mod Tasks
 pub mod Spaces
@@ -8,3 +8,4 @@ pub mod Written
 pub mod Peaks
 pub mod Searchable
 pub mod Demand3
+pub mod Examples

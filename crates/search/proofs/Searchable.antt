@@ -10,6 +10,7 @@ use Rattle.refusals.specs.declared.Refusal.{Refusal}
 use Rattle.refusals.specs.declared.Refusal.the-variants.{Product, WorkingSpace, PlanBuffer}
 use Rattle.refusals.specs.declared.Verdict.{Verdict}
 use Rattle.refusals.specs.declared.Verdict.the-variants.{Yes, Refused}
+use Rattle.refusals.specs.Refusals.{andThen}
 use Rattle.refusals.proofs.Verdicts.{clash, refuse-yes, and-then-yes}
 use Rattle.refusals.proofs.Tests.{lt-no}
 use Rattle.model.specs.Automaton.{Automaton}
@@ -68,6 +69,15 @@ searchable-yes n s k l b c words bytes =
             inner .1 (levels-yes b c .1 (a .low, a .credit), spaces-yes n k b words bytes .1 (a .product, a .space, buffer)),
           ),
     )
+
+-- where none of 1 to 6 applies, and none of 7 to 9
+pub searchable-on : (n s k : ℕ) (l : Lists) (b c words bytes : ℕ) → andThen (fitness n s k l) (levelsOf b c) ≡ Yes
+    → spaces n k b words bytes ≡ Yes → searchable n s k l b c words bytes ≡ Yes
+unfolding searchable
+searchable-on n s k l b c words bytes fit room =
+    let (f, v) = and-then-yes (fitness n s k l) (levelsOf b c) .0 fit in
+    and-then-yes (fitness n s k l) (levelsAndSpaces n k b c words bytes) .1
+    (f, and-then-yes (levelsOf b c) (spaces n k b words bytes) .1 (v, room))
 
 -- the same of the verdict that the code is told
 pub told-searchable : (n s k : ℕ) (l : Lists) (b c words bytes : ℕ) {v : Verdict} → v ≡ searchable n s k l b c words bytes → v ≡ Yes

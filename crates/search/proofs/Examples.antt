@@ -1,0 +1,36 @@
+-- Document 01, "Examples": what search answers to the rows A, B, G and H of the table of examples. Assumes nothing.
+use mathlib.Core.Path.{_≡_}
+use mathlib.Core.List.{List}
+use Prim.Native.Nat.{ℕ}
+use lib.ListN.{length}
+use Rattle.refusals.specs.declared.Verdict.the-variants.{Yes}
+use Rattle.judge.specs.Examples.{Claim, Found, None, Judged, Example, Admitted, Says, Stands}
+use Rattle.search.specs.declared.Searched.{Searched}
+use Rattle.search.specs.declared.Searched.the-variants as outcome
+use Rattle.search.specs.Search.{searchAnswer, spaces, searchable, SearchOf}
+use Rattle.search.proofs.Searchable.{searchable-on}
+use Rattle.search.proofs.Demand3.{search-ten, search-complete}
+
+-- what a row of the examples says of search: "A plan is found", or 10; of a judged plan search says nothing
+abbrev pub Answers : Claim → Searched → Type 0
+Answers Found r = (p : ℕ) × (q : ℕ) × (r ≡ outcome.Plan p q)
+Answers None r = searchAnswer r .answer .number ≡ 10
+Answers (Judged p q w a) r = Unit {0}
+
+-- where the buffers suffice for a row that holds, search answers as it says: A and G by a plan, B and H by 10 (judge Examples, examples-hold)
+pub example-searched : (x : Example) {work plan work′ plan′ : List ℕ} {r : Searched} → Stands x
+    → spaces (x .modes) (x .colours) (x .bound) (length work) (length plan) ≡ Yes
+    → SearchOf (x .modes) 0 (x .colours) (x .arcs) (x .bound) (x .credit) work plan work′ plan′ r → Answers (x .claim) r
+example-searched x {work} {plan} {r = r} stands room h = go (x .claim) stands
+  where
+    n : ℕ
+    n = x .modes
+
+    through : Admitted x → searchable n 0 (x .colours) (x .arcs) (x .bound) (x .credit) (length work) (length plan) ≡ Yes
+    through a = searchable-on n 0 (x .colours) (x .arcs) (x .bound) (x .credit) (length work) (length plan) a room
+
+    go : (k : Claim) → Says x k → Answers k r
+    go Found (a, some) =
+        let (p, q, e, f) = search-complete n 0 (x .colours) (x .arcs) (x .bound) (x .credit) h (through a) some in (p, q, e)
+    go None (a, none) = search-ten n 0 (x .colours) (x .arcs) (x .bound) (x .credit) h (through a) .1 none
+    go (Judged p q w a) says = tt
