@@ -3,19 +3,19 @@
 use mathlib.Core.Path.{_≡_, refl}
 use mathlib.Core.List.{List, [], _∷_, _++_, map}
 use mathlib.Core.Logic.{⊎-elim, _↔_}
-use Prim.Native.Nat.{ℕ, zero, suc, pred, _≤_, _<_}
+use Prim.Native.Nat.{ℕ, suc, pred, _≤_, _<_}
 use native.Mathlib.Omega.{arith}
 use Rattle.walks.specs.Moves.{charge, Possible, Keeps}
-use Rattle.walks.proofs.Charges.{charge-bound}
-use Rattle.walks.proofs.Rounds.{keeps-forever, two-rounds}
+use Rattle.walks.proofs.Rounds.{keeps-forever}
 use Rattle.walks.proofs.Merge.{turned, keeps-above}
-use Rattle.nets.specs.Graph.{moves, Leads}
+use Rattle.nets.specs.Graph.{moves}
 use Rattle.nets.specs.Net.{Net, Usable, Fits, MeetsAll, Cycle, AcceptedLasso}
-use Rattle.nets.specs.Table.{level, Reached, Peaks, KeptCycle, PeakCycle}
+use Rattle.nets.specs.Table.{Reached, Peaks, KeptCycle, PeakCycle}
 use Rattle.nets.proofs.Leads.{moves-append, leads-usable, leads-bound}
 use Rattle.nets.proofs.Cycles.{meets-turned, cycle-turned, lasso-possible}
 use Rattle.nets.proofs.Levels.{level-bound}
-use Rattle.nets.proofs.Tables.{charge-below}
+use Rattle.nets.proofs.Tables.{reached-below, reached-on, table-bound}
+use Rattle.nets.proofs.Kept.{lasso-kept}
 
 -- a walk to mode s with charge e, and a cycle from s that keeps e, are a lasso: the walk is its prefix
 unfoldable pub reached-lasso : (g : Net) (b c s e : ℕ) → Reached g (Usable g) 0 b (g .start) c 0 s e → KeptCycle g b s e → AcceptedLasso g b c
@@ -43,23 +43,6 @@ split-map f (a ∷ l) (x ∷ v) u h =
     (a ∷ v′, u′, cc, cc, hu)
 
 module _ (g : Net) (b c : ℕ) (high : ℕ → ℕ → ℕ) (fits : Fits g) (hc : c ≤ b) (peaks : Peaks g b c high) where
-  -- what a walk makes of a charge up to a peak is up to a peak
-  below-peak : (w : List ℕ) (s t e : ℕ) → Leads (g .graph) (Usable g) s w t → e < high 0 s → Possible b (moves (g .graph) w) e
-      → charge b (moves (g .graph) w) e < high 0 t
-  below-peak w s t e d h p =
-      let z : level g 0 0 w ≡ 0 = omega (arith, level-bound g 0 w 0 (omega arith)) in
-      rw z at (charge-below g (Usable g) 0 b (g .start) c high (peaks .closed) w 0 s t e (omega arith) d h p)
-
-  -- no peak is above the bound
-  peak-bound : (s : ℕ) → s < g .modes → high 0 s ≤ suc b
-  peak-bound s hs = go (high 0 s) refl
-    where
-      go : (n : ℕ) → high 0 s ≡ n → n ≤ suc b
-      go zero q = omega arith
-      go (suc e) q =
-          let r = peaks .attained 0 s e (omega arith) hs q in
-          omega (arith, r .reaches, charge-bound b (moves (g .graph) (r .arcs)) c hc)
-
   -- a cycle from a peak z whose first part brings the charge to b, begun after that part, is a cycle from the peak b
   at-bound : (s z : ℕ) (v u : List ℕ) → s < g .modes → high 0 s ≡ suc z → Cycle g s (v ++ u) → MeetsAll g (v ++ u)
       → Possible b (moves (g .graph) v) z → charge b (moves (g .graph) v) z ≡ b
@@ -67,12 +50,19 @@ module _ (g : Net) (b c : ℕ) (high : ℕ → ℕ → ℕ) (fits : Fits g) (hc 
       → PeakCycle g b high
   at-bound s z v u hs h r m pv cv pr cr =
       let (t, d, k) = cycle-turned g v u s r in
-      let ht = leads-bound g fits v s t hs (leads-usable g v s t d) in
+      let d′ = leads-usable g v s t d in
+      let ht = leads-bound g fits v s t hs d′ in
+      let x =
+      reached-on g (Usable g) 0 b (g .start) c 0 0 s t z b v (peaks .attained 0 s z (omega arith) hs h) d′
+      (omega (arith, level-bound g 0 v 0 (omega arith)))
+      pv cv
+      in
+      let low = reached-below g (Usable g) 0 b (g .start) c high (peaks .closed) 0 t b x in
       record {
         mode = t;
         peak = b;
         bounded = ht;
-        listed = omega (arith, peak-bound t ht, below-peak v s t z (leads-usable g v s t d) (omega arith) pv);
+        listed = omega (arith, table-bound g (Usable g) 0 b (g .start) c high hc peaks 0 t (omega arith) ht);
         cycle =
             record { arcs = u ++ v; closed = k; meets = meets-turned g v u m; keeps = rw (moves-append (g .graph) u v) (pr, omega arith) };
       }
@@ -90,27 +80,22 @@ module _ (g : Net) (b c : ℕ) (high : ℕ → ℕ → ℕ) (fits : Fits g) (hc 
   from-kept : (s e z : ℕ) (w : List ℕ) → s < g .modes → high 0 s ≡ suc z → e ≤ z → Cycle g s w → MeetsAll g w
       → Keeps b (moves (g .graph) w) e → PeakCycle g b high
   from-kept s e z w hs h hz r m k =
+      let top = table-bound g (Usable g) 0 b (g .start) c high hc peaks 0 s (omega arith) hs in
       ⊎-elim
       (λ k′. record { mode = s; peak = z; bounded = hs; listed = h; cycle = record { arcs = w; closed = r; meets = m; keeps = k′ } })
       (λ f. from-fall s z w hs h r m (f .0) (f .1) (f .2))
-      (keeps-above b (moves (g .graph) w) e z k hz (omega (arith, peak-bound s hs)))
+      (keeps-above b (moves (g .graph) w) e z k hz (omega arith))
 
-  -- the cycle of a lasso keeps a charge up to the peak, from its first round or from its second
+  -- the cycle of a lasso keeps a charge with which its mode is reached, so one up to the peak
   to-peak : AcceptedLasso g b c → PeakCycle g b high
   to-peak p =
-      let u = p .prefix in
-      let w = p .cycle in
-      let s = p .mode in
-      let (pu, fw) = lasso-possible (g .graph) b c u w .0 (p .possible) in
-      let e = charge b (moves (g .graph) u) c in
-      let hs = leads-bound g fits u (g .start) s (fits .starts) (p .leads-in) in
-      let h = below-peak u (g .start) s c (p .leads-in) (peaks .closed .begins) pu in
-      let t = two-rounds b (moves (g .graph) w) e (charge-bound b (moves (g .graph) u) c hc) .0 fw in
-      let h′ = below-peak w s s e (leads-usable g w s s (p .closed .leads)) h (t .0) in
-      ⊎-elim
-      (λ k. from-kept s e (pred (high 0 s)) w hs (omega arith) (omega arith) (p .closed) (p .meets) (t .0, k))
-      (λ k. from-kept s (charge b (moves (g .graph) w) e) (pred (high 0 s)) w hs (omega arith) (omega arith) (p .closed) (p .meets) k)
-      (t .1)
+      let l = lasso-kept g b c hc p in
+      let s = l .mode in
+      let r = l .reached in
+      let k = l .kept in
+      let hs = leads-bound g fits (r .arcs) (g .start) s (fits .starts) (r .leads) in
+      let h = reached-below g (Usable g) 0 b (g .start) c high (peaks .closed) 0 s (l .charged) r in
+      from-kept s (l .charged) (pred (high 0 s)) (k .arcs) hs (omega arith) (omega arith) (k .closed) (k .meets) (k .keeps)
 
   -- a peak is reached by a walk: the prefix
   from-peak : PeakCycle g b high → AcceptedLasso g b c

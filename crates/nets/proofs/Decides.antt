@@ -1,20 +1,18 @@
 -- The decision: a cycle from a mode that keeps a charge and meets every duty is there exactly where the tour has a hit; so, with the peaks
 -- and the tours from them, a net has an accepted feasible lasso exactly where some tour has a hit. Assumes nothing.
 use mathlib.Core.Path.{_≡_, refl}
-use mathlib.Core.List.{List, [], _∷_, _++_}
+use mathlib.Core.List.{List, [], _∷_}
 use mathlib.Core.Logic.{_↔_}
 use Prim.Native.Nat.{ℕ, suc, pred, _≤_, _<_}
 use native.Mathlib.Omega.{arith}
 use lib.ListN.{length, length-append}
-use Rattle.walks.specs.Walk.{times}
 use Rattle.walks.specs.Moves.{after, charge, Possible}
-use Rattle.walks.proofs.Rounds.{keeps-forever, kept-times}
 use Rattle.nets.specs.Graph.{moves, Leads}
 use Rattle.nets.specs.Net.{Net, Lasts, Fits, AcceptedLasso}
 use Rattle.nets.specs.Table.{next, level, Closed, Reached, Peaks, Tour, Tours, KeptCycle, Hit, PeakHit}
-use Rattle.nets.proofs.Leads.{moves-times, leads-times}
-use Rattle.nets.proofs.Levels.{next-bound, level-bound, passed-met, times-level}
+use Rattle.nets.proofs.Levels.{next-bound}
 use Rattle.nets.proofs.Tables.{reached-on}
+use Rattle.nets.proofs.Kept.{kept-returned, returned-kept}
 use Rattle.nets.proofs.Criterion.{criterion}
 
 module _ (g : Net) (b s e : ℕ) (high : ℕ → ℕ → ℕ) where
@@ -42,36 +40,30 @@ module _ (g : Net) (b s e : ℕ) (high : ℕ → ℕ → ℕ) where
       (omega (arith, k .steps l a (pred (high l m)) hl (d .0) z (omega arith)))
       (omega arith) (d .2) (p .1) q r
 
-  -- one more repetition of a kept cycle than there are duties passes through every level
+  -- a kept cycle, repeated, is such a walk from the mode and the charge of the tour
   pub kept-hit : Closed g (Lasts g) (g .duties) b s e high → KeptCycle g b s e → Hit g b s e high
   kept-hit k t =
-      let n = suc (g .duties) in
-      let w = t .arcs in
-      let m = moves-times (g .graph) n w in
-      last-hit k (times n w) 0 s e (omega arith) (k .begins)
-      (omega (arith, t .closed .some-arc, length-append w (times (g .duties) w)))
-      (leads-times (g .graph) (Lasts g) w s (t .closed .leads) n)
-      (rw m (keeps-forever b (moves (g .graph) w) e (t .keeps) n))
-      (omega (arith, times-level g w (t .meets) n 0 (omega arith), level-bound g (g .duties) (times n w) 0 (omega arith)))
-      (rw m (kept-times b (moves (g .graph) w) e n (t .keeps .1)))
+      let r = kept-returned g b s e t in
+      let w = r .reached in
+      last-hit k (w .arcs) 0 s e (omega arith) (k .begins) (r .some-arc) (w .leads) (w .possible) (w .levels)
+      (omega (arith, w .reaches, r .no-lower))
 
   -- a walk to the entry of a hit, with the arc of the hit, is a kept cycle
   unfoldable pub hit-kept : (h : Hit g b s e high) → Reached g (Lasts g) (g .duties) b s e (h .from) (g .graph .source (h .arc)) (h .charged)
       → KeptCycle g b s e
-  unfolding reached-on
+  unfolding reached-on returned-kept
   hit-kept h t =
       let m = g .graph .source (h .arc) in
       let x = h .arc ∷ [] in
-      let r =
-      reached-on g (Lasts g) (g .duties) b s e (h .from) (g .duties) m s (h .charged) (after b (g .graph .move (h .arc)) (h .charged)) x t
-      (h .lasts, refl, h .back) (h .last) (h .possible, tt) refl
-      in
-      record {
-        arcs = t .arcs ++ x;
-        closed = record { some-arc = omega (arith, length-append (t .arcs) x); leads = r .leads };
-        meets = λ j q. passed-met g (g .duties) (t .arcs ++ x) 0 j (omega arith) (omega (arith, r .levels));
-        keeps = (r .possible, omega (arith, r .reaches, h .kept));
-      }
+      let y = after b (g .graph .move (h .arc)) (h .charged) in
+      returned-kept g b s e (record {
+        charged = y;
+        reached =
+            reached-on g (Lasts g) (g .duties) b s e (h .from) (g .duties) m s (h .charged) y x t (h .lasts, refl, h .back) (h .last)
+            (h .possible, tt) refl;
+        some-arc = omega (arith, length-append (t .arcs) x);
+        no-lower = h .kept;
+      })
 
   -- a cycle from s keeps e and meets every duty exactly where the tour from s with e has a hit
   pub kept-cycle-hit : Fits g → Tour g b s e high → KeptCycle g b s e ↔ Hit g b s e high

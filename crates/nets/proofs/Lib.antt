@@ -3,6 +3,7 @@ pub mod Leads
 pub mod Cycles
 pub mod Levels
 pub mod Tables
+pub mod Kept
 pub mod Criterion
 pub mod Decides
 pub mod GraphOf

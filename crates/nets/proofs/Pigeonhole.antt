@@ -1,9 +1,9 @@
 -- Of N + 1 numbers below N two are the same; and a pair of numbers as one number. Assumes nothing.
-use mathlib.Core.Path.{_≡_, sym, ap}
+use mathlib.Core.Path.{_≡_, ap}
 use mathlib.Core.Logic.{_⊎_, inl, inr, ⊎-elim, _≢_}
-use Prim.Native.Nat.{ℕ, zero, suc, _+_, _*_, _-_, _≤_, _<_, min}
+use Prim.Native.Nat.{ℕ, zero, suc, _+_, _*_, _-_, _/_, _%_, _≤_, _<_, min}
 use native.Mathlib.Omega.{arith}
-use native.Mathlib.Nat.{suc-mul, mul-le-mul-right}
+use native.Mathlib.Nat.{suc-mul, mul-le-mul-right, add-zero, div-eq-of-lt, mod-eq-of-lt, mul-add-div-right, mul-add-mod-self-right}
 use native.Mathlib.Decide.{decLe, ℕ-discrete}
 
 -- one of the first k numbers is v, or none is
@@ -53,16 +53,9 @@ pigeonhole (suc N) f h =
 pub paired-bound : (n k x y : ℕ) → x < n → y < k → x * k + y < n * k
 paired-bound n k x y h h′ = omega (arith, suc-mul x k, mul-le-mul-right k h)
 
--- pairs with the same number: the first part of the one is no larger
-paired-le : (k x y x′ y′ : ℕ) → y′ < k → x * k + y ≡ x′ * k + y′ → x ≤ x′
-paired-le k x y x′ y′ h e =
-    elim (decLe x x′) [
-      | yes u ↦ u
-      | no u ↦ let v : x′ < x = omega arith in absurd (omega (arith, suc-mul x′ k, mul-le-mul-right k v))
-    ]
-
 -- the number gives the pair back
 pub paired-same : (k x y x′ y′ : ℕ) → y < k → y′ < k → x * k + y ≡ x′ * k + y′ → (x ≡ x′) × (y ≡ y′)
-paired-same k x y x′ y′ h h′ e =
-    let q : x ≡ x′ = omega (arith, paired-le k x y x′ y′ h′ e, paired-le k x′ y′ x y h (sym e)) in
-    (q, omega (arith, ap (λ (z : ℕ). z * k) q))
+paired-same k x y x′ y′ h h′ e = (
+  simp (mul-add-div-right {m = k} (omega arith), div-eq-of-lt h, div-eq-of-lt h′, add-zero) at (ap {B = ℕ} (λ (z : ℕ). z / k) e),
+  simp (mul-add-mod-self-right, mod-eq-of-lt h, mod-eq-of-lt h′) at (ap {B = ℕ} (λ (z : ℕ). z % k) e),
+)

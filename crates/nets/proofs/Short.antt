@@ -2,17 +2,14 @@
 -- A walk that stands twice in one mode with one level and one charge can do without the arcs between. Assumes nothing.
 use mathlib.Core.Path.{_≡_, refl}
 use mathlib.Core.List.{List, _++_}
-use mathlib.Core.Logic.{⊎-elim}
 use Prim.Native.Nat.{ℕ, zero, suc, pred, _+_, _*_, _≤_, _<_}
 use native.Mathlib.Omega.{arith}
 use native.Mathlib.Nat.{one-mul}
 use native.Mathlib.Numerals.{add-one}
 use native.Mathlib.Decide.{decLe}
 use lib.ListN.{length, take, drop, length-append, length-take, length-drop, take-append-drop}
-use Rattle.walks.specs.Walk.{times}
 use Rattle.walks.specs.Moves.{charge, Possible}
 use Rattle.walks.proofs.Charges.{charge-append, possible-append, charge-bound}
-use Rattle.walks.proofs.Rounds.{keeps-forever, kept-times, two-rounds}
 use Rattle.model.specs.Automaton.{Automaton}
 use Rattle.model.specs.Fitness.{Fit}
 use Rattle.model.specs.Plans.{Plan, Serves, SomePlan}
@@ -21,10 +18,10 @@ use Rattle.nets.specs.Net.{Net, Usable, Lasts, Fits, AcceptedLasso}
 use Rattle.nets.specs.Table.{level, Reached, KeptCycle}
 use Rattle.nets.specs.Whole.{whole}
 use Rattle.nets.proofs.Pigeonhole.{pigeonhole, paired-bound, paired-same}
-use Rattle.nets.proofs.Leads.{moves-append, moves-times, leads-append, leads-times, leads-weaken, leads-usable, leads-bound}
-use Rattle.nets.proofs.Levels.{level-append, level-bound, passed-met, times-level}
-use Rattle.nets.proofs.Cycles.{lasso-possible}
+use Rattle.nets.proofs.Leads.{moves-append, leads-append, leads-weaken, leads-bound}
+use Rattle.nets.proofs.Levels.{level-append, level-bound}
 use Rattle.nets.proofs.Tables.{reached-on}
+use Rattle.nets.proofs.Kept.{ReachedKept, lasso-kept, kept-returned, returned-kept}
 use Rattle.nets.proofs.Whole.{whole-fits, whole-lasso, reached-serves}
 
 -- a walk over the arcs u and then v, cut between them
@@ -118,96 +115,53 @@ module _ (g : Net) (ok : ℕ → Type 0) (K b s e l t x : ℕ) where
     pub reached-short : Reached g ok K b s e l t x → (r : Reached g ok K b s e l t x) × (length (r .arcs) < suc K * g .modes * suc b)
     reached-short r = short-within (suc (length (r .arcs))) r (omega arith)
 
-module _ (g : Net) (b s e : ℕ) (fits : Fits g) (hs : s < g .modes) (he : e ≤ b) where
-  -- of a walk back to s, to the last level and no lower, all but the last arc can be made short
-  short-back : (y : ℕ) (r : Reached g (Lasts g) (g .duties) b s e (g .duties) s y) → 0 < length (r .arcs) → e ≤ y
-      → (k : KeptCycle g b s e) × (length (k .arcs) ≤ suc (g .duties) * g .modes * suc b)
-  unfolding reached-on
-  short-back y r h hy =
-      let K = g .duties in
-      let n = pred (length (r .arcs)) in
-      let v = take n (r .arcs) in
-      let a = drop n (r .arcs) in
-      let c = reached-cut g (Lasts g) K b s e K s y r v a (take-append-drop n (r .arcs)) in
-      let l = level g K 0 v in
-      let x = charge b (moves (g .graph) v) e in
-      let (f, m) = reached-short g (Lasts g) K b s e l (c .mode) x (λ z k. k .0) fits hs he (first g (Lasts g) K b s e K s y v a c) in
-      let r′ = reached-on g (Lasts g) K b s e l K (c .mode) s x y a f (c .leads-on) (c .levels-on) (c .possible-on) (c .reaches-on) in
-      let z : length (f .arcs ++ a) ≡ suc (length (f .arcs)) = omega (arith, length-append (f .arcs) a, length-drop n (r .arcs)) in (
-        record {
-          arcs = f .arcs ++ a;
-          closed = record { some-arc = omega arith; leads = r′ .leads };
-          meets = λ j k. passed-met g K (f .arcs ++ a) 0 j (omega arith) (omega (arith, r′ .levels));
-          keeps = (r′ .possible, omega (arith, r′ .reaches));
-        },
-        omega arith,
-      )
-
-  -- a kept cycle, repeated once more than there are duties, passes through every level; so there is a short one
-  pub kept-short : KeptCycle g b s e → (k : KeptCycle g b s e) × (length (k .arcs) ≤ suc (g .duties) * g .modes * suc b)
-  kept-short t =
-      let n = suc (g .duties) in
-      let w = t .arcs in
-      let m = moves-times (g .graph) n w in
-      short-back (charge b (moves (g .graph) (times n w)) e)
-      (record {
-        arcs = times n w;
-        leads = leads-times (g .graph) (Lasts g) w s (t .closed .leads) n;
-        levels = omega (arith, times-level g w (t .meets) n 0 (omega arith), level-bound g (g .duties) (times n w) 0 (omega arith));
-        possible = rw m (keeps-forever b (moves (g .graph) w) e (t .keeps) n);
-        reaches = refl;
-      })
-      (omega (arith, t .closed .some-arc, length-append w (times (g .duties) w)))
-      (rw m (kept-times b (moves (g .graph) w) e n (t .keeps .1)))
+-- so a kept cycle can be made short: repeated through every level, all of it but the last arc
+pub kept-short : (g : Net) (b s e : ℕ) → Fits g → s < g .modes → e ≤ b → KeptCycle g b s e
+    → (k : KeptCycle g b s e) × (length (k .arcs) ≤ suc (g .duties) * g .modes * suc b)
+unfolding reached-on returned-kept
+kept-short g b s e fits hs he t =
+    let k = kept-returned g b s e t in
+    let K = g .duties in
+    let y = k .charged in
+    let w = k .reached .arcs in
+    let n = pred (length w) in
+    let v = take n w in
+    let a = drop n w in
+    let c = reached-cut g (Lasts g) K b s e K s y (k .reached) v a (take-append-drop n w) in
+    let l = level g K 0 v in
+    let x = charge b (moves (g .graph) v) e in
+    let (f, m) = reached-short g (Lasts g) K b s e l (c .mode) x (λ z h. h .0) fits hs he (first g (Lasts g) K b s e K s y v a c) in
+    let r = reached-on g (Lasts g) K b s e l K (c .mode) s x y a f (c .leads-on) (c .levels-on) (c .possible-on) (c .reaches-on) in
+    let z : length (f .arcs ++ a) ≡ suc (length (f .arcs)) = omega (arith, k .some-arc, length-append (f .arcs) a, length-drop n w) in
+    (returned-kept g b s e (record { charged = y; reached = r; some-arc = omega arith; no-lower = k .no-lower }), omega arith)
 
 -- a walk to a mode with a charge and a cycle from there that keeps the charge, both short: a short lasso, by reached-lasso
 pub record ShortLasso (g : Net) (b c : ℕ) : Type 0 where
-  pub mode : ℕ
-  pub charged : ℕ
-  pub reached : Reached g (Usable g) 0 b (g .start) c 0 mode charged
-  pub kept : KeptCycle g b mode charged
-  pub prefix-short : length (reached .arcs) < g .modes * suc b
-  pub cycle-short : length (kept .arcs) ≤ suc (g .duties) * g .modes * suc b
+  pub lasso : ReachedKept g b c
+  pub prefix-short : length (lasso .reached .arcs) < g .modes * suc b
+  pub cycle-short : length (lasso .kept .arcs) ≤ suc (g .duties) * g .modes * suc b
 
-module _ (g : Net) (b c : ℕ) (fits : Fits g) (hc : c ≤ b) where
-  -- what is reached and kept gives a short lasso
-  both-short : (s e : ℕ) → Reached g (Usable g) 0 b (g .start) c 0 s e → KeptCycle g b s e → ShortLasso g b c
-  both-short s e r k =
-      let (r′, m) = reached-short g (Usable g) 0 b (g .start) c 0 s e (λ a z. z) fits (fits .starts) hc r in
-      let hs = leads-bound g fits (r .arcs) (g .start) s (fits .starts) (r .leads) in
-      let (k′, n) = kept-short g b s e fits hs (omega (arith, r .reaches, charge-bound b (moves (g .graph) (r .arcs)) c hc)) k in
-      record { mode = s; charged = e; reached = r′; kept = k′; prefix-short = rw one-mul at m; cycle-short = n }
-
-  -- a net with a lasso has a short one: the cycle keeps the charge with which its first round begins, or its second
-  pub lasso-short : AcceptedLasso g b c → ShortLasso g b c
-  lasso-short p =
-      let u = p .prefix in
-      let w = p .cycle in
-      let s = p .mode in
-      let (pu, fw) = lasso-possible (g .graph) b c u w .0 (p .possible) in
-      let e = charge b (moves (g .graph) u) c in
-      let e′ = charge b (moves (g .graph) w) e in
-      let t = two-rounds b (moves (g .graph) w) e (charge-bound b (moves (g .graph) u) c hc) .0 fw in
-      let r : Reached g (Usable g) 0 b (g .start) c 0 s e =
-      record { arcs = u; leads = p .leads-in; levels = omega (arith, level-bound g 0 u 0 (omega arith)); possible = pu; reaches = refl }
-      in
-      let r′ =
-      reached-on g (Usable g) 0 b (g .start) c 0 0 s s e e′ w r (leads-usable g w s s (p .closed .leads))
-      (omega (arith, level-bound g 0 w 0 (omega arith)))
-      (t .0) refl
-      in
-      ⊎-elim
-      (λ k. both-short s e r (record { arcs = w; closed = p .closed; meets = p .meets; keeps = (t .0, k) }))
-      (λ k. both-short s e′ r′ (record { arcs = w; closed = p .closed; meets = p .meets; keeps = k }))
-      (t .1)
+-- a net with a lasso has a short one
+pub lasso-short : (g : Net) (b c : ℕ) → Fits g → c ≤ b → AcceptedLasso g b c → ShortLasso g b c
+lasso-short g b c fits hc p =
+    let l = lasso-kept g b c hc p in
+    let s = l .mode in
+    let e = l .charged in
+    let r = l .reached in
+    let (r′, m) = reached-short g (Usable g) 0 b (g .start) c 0 s e (λ a z. z) fits (fits .starts) hc r in
+    let hs = leads-bound g fits (r .arcs) (g .start) s (fits .starts) (r .leads) in
+    let he : e ≤ b = omega (arith, r .reaches, charge-bound b (moves (g .graph) (r .arcs)) c hc) in
+    let (k′, n) = kept-short g b s e fits hs he (l .kept) in
+    record { lasso = record { mode = s; charged = e; reached = r′; kept = k′ }; prefix-short = rw one-mul at m; cycle-short = n }
 
 -- where any plan exists, one exists with a run-in of at most n(b+1) and a round of at most (k+1)n(b+1) arcs
 pub plan-short : (g : Automaton) (b c : ℕ) → Fit g → c ≤ b → SomePlan g b c
     → (p : Plan) × Serves g b c p × (length (p .prefix) ≤ g .modes * (b + 1)) × (length (p .cycle) ≤ (g .colours + 1) * g .modes * (b + 1))
 plan-short g b c f hc p =
-    let l = lasso-short (whole g) b c (whole-fits g f) hc (whole-lasso g b c .0 p) in (
+    let h = lasso-short (whole g) b c (whole-fits g f) hc (whole-lasso g b c .0 p) in
+    let l = h .lasso in (
       record { prefix = l .reached .arcs; cycle = l .kept .arcs },
       reached-serves g b c (l .mode) (l .charged) (l .reached) (l .kept),
-      simp add-one (omega (arith, l .prefix-short)),
-      simp add-one (l .cycle-short),
+      simp add-one (omega (arith, h .prefix-short)),
+      simp add-one (h .cycle-short),
     )

@@ -1,11 +1,11 @@
--- Tables of greatest charges: what is reached is below its entry in every closed table; a walk goes on from where another has come; and a
--- table that is closed and attained is the only one. Assumes nothing.
+-- Tables of greatest charges: what is reached is below its entry in every closed table; a walk goes on from where another has come; a table
+-- that is closed and attained is nowhere above the bound, and is the only one. Assumes nothing.
 use mathlib.Core.Path.{_≡_, refl, _∙_}
 use mathlib.Core.List.{List, [], _∷_, _++_}
 use Prim.Native.Nat.{ℕ, zero, suc, pred, _≤_, _<_}
 use native.Mathlib.Omega.{arith}
 use Rattle.walks.specs.Moves.{after, charge, Possible}
-use Rattle.walks.proofs.Charges.{charge-append, possible-append}
+use Rattle.walks.proofs.Charges.{charge-append, possible-append, charge-bound}
 use Rattle.nets.specs.Graph.{moves, Leads}
 use Rattle.nets.specs.Net.{Net}
 use Rattle.nets.specs.Table.{next, level, Closed, Reached, Table}
@@ -14,7 +14,7 @@ use Rattle.nets.proofs.Levels.{level-append, next-bound}
 
 module _ (g : Net) (ok : ℕ → Type 0) (K b s e : ℕ) where
   -- what a walk makes of a charge below an entry is below an entry
-  pub charge-below : (high : ℕ → ℕ → ℕ) → Closed g ok K b s e high → (w : List ℕ) (l m t x : ℕ) → l ≤ K → Leads (g .graph) ok m w t → x < high l m
+  charge-below : (high : ℕ → ℕ → ℕ) → Closed g ok K b s e high → (w : List ℕ) (l m t x : ℕ) → l ≤ K → Leads (g .graph) ok m w t → x < high l m
       → Possible b (moves (g .graph) w) x → charge b (moves (g .graph) w) x < high (level g K l w) t
   charge-below high k [] l m t x hl d h p = rw (← d) h
   charge-below high k (a ∷ w) l m t x hl d h p =
@@ -41,6 +41,16 @@ module _ (g : Net) (ok : ℕ → Type 0) (K b s e : ℕ) where
         possible = rw m (possible-append b (moves (g .graph) u) (moves (g .graph) v) e .1 (k .possible, rw (k .reaches) p));
         reaches = rw (m, charge-append b (moves (g .graph) u) (moves (g .graph) v) e, k .reaches) q;
       }
+
+  -- no entry is above the bound
+  pub table-bound : (high : ℕ → ℕ → ℕ) → e ≤ b → Table g ok K b s e high → (l t : ℕ) → l ≤ K → t < g .modes → high l t ≤ suc b
+  table-bound high he k l t hl ht = go (high l t) refl
+    where
+      go : (n : ℕ) → high l t ≡ n → n ≤ suc b
+      go zero q = omega arith
+      go (suc x) q =
+          let r = k .attained l t x hl ht q in
+          omega (arith, r .reaches, charge-bound b (moves (g .graph) (r .arcs)) e he)
 
   table-le : (high high′ : ℕ → ℕ → ℕ) → Table g ok K b s e high → Table g ok K b s e high′
       → (l t n : ℕ) → l ≤ K → t < g .modes → high l t ≡ n → n ≤ high′ l t

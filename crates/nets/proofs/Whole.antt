@@ -26,20 +26,28 @@ whole-fits g f =
     record { starts = f .starts; sources = λ a k. f .arcs-fit a (k .0) .source; targets = λ a k. f .arcs-fit a (k .0) .target }
 
 module _ (g : Automaton) where
+  -- a prefix may use every arc that is there ..
+  pub whole-usable-arc : (a : ℕ) → Usable (whole g) a ↔ (a < length (g .arcs))
+  whole-usable-arc a = (λ h. h .0, λ h. (h, refl))
+
+  -- .. and so may a cycle
+  pub whole-lasting-arc : (a : ℕ) → Lasts (whole g) a ↔ (a < length (g .arcs))
+  whole-lasting-arc a = (λ h. h .0 .0, λ h. ((h, refl), refl))
+
   -- arcs that lead from s to t in the model are usable in the net
   pub whole-usable : (w : List ℕ) (s t : ℕ) → Plans.Leads g s w t ↔ Leads (graphOf g) (Usable (whole g)) s w t
   whole-usable w s t =
       let e = leads-graph g w s t in (
-        λ h. leads-weaken (graphOf g) (λ a. a < length (g .arcs)) (Usable (whole g)) (λ a k. (k, refl)) w s t (e .0 h),
-        λ h. e .1 (leads-weaken (graphOf g) (Usable (whole g)) (λ a. a < length (g .arcs)) (λ a k. k .0) w s t h),
+        λ h. leads-weaken (graphOf g) (λ a. a < length (g .arcs)) (Usable (whole g)) (λ a. whole-usable-arc a .1) w s t (e .0 h),
+        λ h. e .1 (leads-weaken (graphOf g) (Usable (whole g)) (λ a. a < length (g .arcs)) (λ a. whole-usable-arc a .0) w s t h),
       )
 
   -- and they last
   pub whole-lasts : (w : List ℕ) (s t : ℕ) → Plans.Leads g s w t ↔ Leads (graphOf g) (Lasts (whole g)) s w t
   whole-lasts w s t =
       let e = leads-graph g w s t in (
-        λ h. leads-weaken (graphOf g) (λ a. a < length (g .arcs)) (Lasts (whole g)) (λ a k. ((k, refl), refl)) w s t (e .0 h),
-        λ h. e .1 (leads-weaken (graphOf g) (Lasts (whole g)) (λ a. a < length (g .arcs)) (λ a k. k .0 .0) w s t h),
+        λ h. leads-weaken (graphOf g) (λ a. a < length (g .arcs)) (Lasts (whole g)) (λ a. whole-lasting-arc a .1) w s t (e .0 h),
+        λ h. e .1 (leads-weaken (graphOf g) (Lasts (whole g)) (λ a. a < length (g .arcs)) (λ a. whole-lasting-arc a .0) w s t h),
       )
 
 module _ (g : Automaton) (b c : ℕ) where

@@ -15,12 +15,13 @@ use Rattle.nets.specs.Net.{Net, Usable, Lasts}
 use Rattle.nets.specs.Table.{next, Hit, KeptCycle}
 use Rattle.nets.specs.Whole.{whole}
 use Rattle.nets.proofs.Decides.{kept-hit, hit-kept}
+use Rattle.nets.proofs.Whole.{whole-usable-arc, whole-lasting-arc}
 use Rattle.passes.specs.Pass.{Pass, Ready, node, room}
 use Rattle.passes.specs.Queue.{nodeAt, chargeAt, Covers, Hits, Begun, Passed}
 use Rattle.passes.specs.Trace.{Traced}
-use Rattle.passes.specs.Outcome.{Kept, Peaked, Toured}
+use Rattle.passes.specs.Outcome.{Kept, Peaked, CyclePassed}
 use Rattle.passes.proofs.Nodes.{node-level, node-mode, nodes-first}
-use Rattle.passes.proofs.Steps.{closes-at, closes-not, whole-usable-arc, whole-lasting-arc, along-taken, arc-along}
+use Rattle.passes.proofs.Steps.{closes-at, closes-not, along-taken, arc-along}
 use Rattle.passes.proofs.Queue.{along-low, node-levels, queue-room, entry-low}
 use Rattle.passes.proofs.Traces.{queue-linked}
 use Rattle.passes.proofs.Walks.{traced-reached, listed-reached, covered-closed}
@@ -78,8 +79,8 @@ module _ (l : Lists) (n s k b : ℕ) (fit : Fit (automatonOf n s k l)) where
 
   module _ (m e : ℕ) (best w : List ℕ) (tail : ℕ) (hm : m < n) (from : Begun (cyclePass l n k b m e) m e best w tail) where
     -- where every greatest charge is covered, no cycle from m keeps e: it would have a hit
-    toured-none : ((v x : ℕ) → getD best v 0 ≡ x + 1 → (a : ℕ) → Covers (cyclePass l n k b m e) best a v x) → KeptCycle net b m e → ⊥
-    toured-none covers t =
+    cycle-none : ((v x : ℕ) → getD best v 0 ≡ x + 1 → (a : ℕ) → Covers (cyclePass l n k b m e) best a v x) → KeptCycle net b m e → ⊥
+    cycle-none covers t =
         let P = cyclePass l n k b m e in
         let high : ℕ → ℕ → ℕ = λ j i. getD best (node n j i) 0 in
         let closed = covered-closed P s k fit (Lasts net) (whole-lasting-arc model) m e best w tail hm from covers in
@@ -93,11 +94,11 @@ module _ (l : Lists) (n s k b : ℕ) (fit : Fit (automatonOf n s k l)) where
         closes-not (node n k m) e u x passes back (h .kept)
 
     -- where arc a hits at entry head, the arcs to the entry and arc a are a cycle from m that keeps e
-    toured-arcs : (head a : ℕ) → Ready (cyclePass l n k b m e) (length best) (length w) → head < tail
+    cycle-arcs : (head a : ℕ) → Ready (cyclePass l n k b m e) (length best) (length w) → head < tail
         → Hits (cyclePass l n k b m e) a (nodeAt w head) (chargeAt w head) → (arcs : List ℕ) → Traced w head 0 arcs
         → Kept model b m e (arcs ++ (a ∷ []))
     unfolding hit-kept
-    toured-arcs head a r before hits arcs t =
+    cycle-arcs head a r before hits arcs t =
         let P = cyclePass l n k b m e in
         let d = along-taken P s k fit (hits .step) in
         let c = closes-at (node n k m) e (hits .node) (hits .charge) .0 (hits .stops) in
@@ -123,15 +124,15 @@ module _ (l : Lists) (n s k b : ℕ) (fit : Fit (automatonOf n s k l)) where
         record { cycle = hit-kept net b m e high hit (z .0); same = ap {B = List ℕ} (λ (y : List ℕ). y ++ (a ∷ [])) (z .1) }
 
   -- the pass from mode m with charge e finds a cycle that keeps e, or there is none
-  pub passed-toured : (m e : ℕ) {best w : List ℕ} {found : Bool} {head a tail : ℕ} → m < n
+  pub passed-cycle : (m e : ℕ) {best w : List ℕ} {found : Bool} {head a tail : ℕ} → m < n
       → Ready (cyclePass l n k b m e) (length best) (length w) → Passed (cyclePass l n k b m e) m e best w found head a tail
-      → Toured (automatonOf n s k l) b m e w found head a
-  passed-toured m e {best} {w} {head = head} {a = a} {tail = tail} hm r p =
+      → CyclePassed (automatonOf n s k l) b m e w found head a
+  passed-cycle m e {best} {w} {head = head} {a = a} {tail = tail} hm r p =
       let q = p .from .queue in
       record {
-        none = λ f. toured-none m e best w tail hm (p .from) (p .closed f);
+        none = λ f. cycle-none m e best w tail hm (p .from) (p .closed f);
         few = λ f. subst (λ (y : ℕ). head < room y b) (r .table) (omega (arith, p .before f, queue-room q));
         linked = λ f. queue-linked r q (p .before f);
         byte = λ f. omega (arith, p .hits f .step .known, r .few-arcs);
-        arcs = λ f. toured-arcs m e best w tail hm (p .from) head a r (p .before f) (p .hits f);
+        arcs = λ f. cycle-arcs m e best w tail hm (p .from) head a r (p .before f) (p .hits f);
       }

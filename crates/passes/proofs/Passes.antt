@@ -1,11 +1,11 @@
 -- Laws of a pass over its queue: arcs that are tried, entries that are visited, and what the pass leaves. Assumes nothing.
-use mathlib.Core.Path.{_≡_, refl, sym, ap, subst, _∙_}
+use mathlib.Core.Path.{_≡_, refl, sym, ap, subst, subst₂, _∙_}
 use mathlib.Core.Bool.{Bool, true, false, true≢false, false≢true}
 use mathlib.Core.List.{List}
 use Prim.Native.Nat.{ℕ, _+_, _*_, _≤_, _<_}
 use native.Mathlib.Omega.{arith}
 use native.Mathlib.Decide.{ℕ-discrete, decLt}
-use lib.ListN.{length, getD, set, replicate, length-replicate, getD-replicate, List·getD-eq-default}
+use lib.ListN.{length, getD, set, replicate, getD-replicate, List·getD-eq-default}
 use lib.Seq.{getD-set-same, getD-set-other}
 use borrow.Author.Count.{below-more}
 use Rattle.passes.specs.Pass.{Pass, Along, closes}
@@ -32,13 +32,9 @@ grown-trans g h =
     }
 
 -- an entry stays as it is
-entry-same : {best w best′ w′ : List ℕ} {tail tail′ : ℕ} (i : ℕ) → Grown best w tail best′ w′ tail′ → i < tail
+pub entry-same : {best w best′ w′ : List ℕ} {tail tail′ : ℕ} (i : ℕ) → Grown best w tail best′ w′ tail′ → i < tail
     → (nodeAt w′ i ≡ nodeAt w i) × (chargeAt w′ i ≡ chargeAt w i)
 entry-same i g h = (g .kept (4 * i) (omega arith), g .kept (4 * i + 1) (omega arith))
-
--- what holds of a node and a charge holds of equal ones
-equal-pair : (F : ℕ → ℕ → Type 0) {v v′ e e′ : ℕ} → v ≡ v′ → e ≡ e′ → F v e → F v′ e′
-equal-pair F {v} {v′} {e} {e′} pv pe f = subst (λ n. F n e′) pv (subst (λ n. F v n) pe f)
 
 -- what is covered stays covered as the table rises
 covers-up : {P : Pass} {a v e : ℕ} (best best′ : List ℕ) → ((u : ℕ) → getD best u 0 ≤ getD best′ u 0) → Covers P best a v e
@@ -119,14 +115,15 @@ tried-more {P} {b1 = b1} {b2 = b2} {lo = lo} {mid = mid} {hi = hi} {v = v} {e = 
     go off i l h (no ge) = r .covers off i (omega arith) h
 
 -- where no arc hits, the number of the arc is free
-pub tried-free : {P : Pass} {best w best′ w′ : List ℕ} {tail lo hi v e a tail′ : ℕ} (a′ : ℕ)
-    → Tried P best w tail lo hi v e best′ w′ false a tail′ → Tried P best w tail lo hi v e best′ w′ false a′ tail′
-tried-free a′ t = record { queue = t .queue; grown = t .grown; covers = t .covers; hits = λ on. absurd (false≢true on) }
+pub tried-free : {P : Pass} {best w best′ w′ : List ℕ} {tail lo hi v e a tail′ : ℕ} {hit : Bool} (a′ : ℕ) → hit ≡ false
+    → Tried P best w tail lo hi v e best′ w′ hit a tail′ → Tried P best w tail lo hi v e best′ w′ false a′ tail′
+tried-free a′ off t = record { queue = t .queue; grown = t .grown; covers = λ e. t .covers off; hits = λ on. absurd (false≢true on) }
 
 -- where an arc hits, the arcs after it need not be tried
-pub tried-hit : {P : Pass} {best w best′ w′ : List ℕ} {tail lo hi v e a tail′ : ℕ} (hi′ : ℕ)
-    → Tried P best w tail lo hi v e best′ w′ true a tail′ → Tried P best w tail lo hi′ v e best′ w′ true a tail′
-tried-hit hi′ t = record { queue = t .queue; grown = t .grown; covers = λ off. absurd (true≢false off); hits = t .hits }
+pub tried-hit : {P : Pass} {best w best′ w′ : List ℕ} {tail lo hi v e a tail′ : ℕ} {hit : Bool} (hi′ : ℕ) → hit ≡ true
+    → Tried P best w tail lo hi v e best′ w′ hit a tail′ → Tried P best w tail lo hi′ v e best′ w′ hit a tail′
+tried-hit hi′ on t =
+    record { queue = t .queue; grown = t .grown; covers = λ off. absurd (true≢false (sym on ∙ off)); hits = t .hits }
 
 -- every arc is tried at an entry
 pub visited-tried : {P : Pass} {best w best′ w′ : List ℕ} {head tail a tail′ : ℕ} {hit : Bool}
@@ -156,22 +153,19 @@ visited-stale {P} {best} {w} {head} {tail} a q n =
       hits = λ on. absurd (false≢true on);
     }
 
--- a table that has 0 everywhere
-abbrev blank : ℕ → List ℕ
-blank m = replicate m 0
-
-zeros : (m v : ℕ) → getD (blank m) v 0 ≡ 0
-zeros m v = go (decLt v m)
+-- a table of zeros has 0 everywhere
+zeros : (best : List ℕ) → best ≡ replicate (length best) 0 → (v : ℕ) → getD best v 0 ≡ 0
+zeros best blank v = go (decLt v (length best))
   where
-    go : Dec (v < m) → getD (blank m) v 0 ≡ 0
-    go (yes lt) = getD-replicate m v 0 0 lt
-    go (no ge) = List·getD-eq-default (blank m) 0 (rw (length-replicate {A = ℕ} m 0) (omega arith))
+    go : Dec (v < length best) → getD best v 0 ≡ 0
+    go (yes lt) = ap (λ b. getD b v 0) blank ∙ getD-replicate (length best) v 0 0 lt
+    go (no ge) = List·getD-eq-default best 0 (omega arith)
 
--- the queue of the first entry alone
-pub treated-first : (P : Pass) (m : ℕ) (w w′ : List ℕ) (s c : ℕ) → s < m → c ≤ P .bound → Pushed w 0 s c 0 0 w′
-    → Treated P s c (set (replicate m 0) s (c + 1)) w′ 0 1
-treated-first P m w w′ s c hs hc p =
-    record {
+-- the queue of the first entry alone, with a table of zeros before it
+pub treated-first : (P : Pass) (s c : ℕ) {best best′ w w′ : List ℕ} → best ≡ replicate (length best) 0 → s < length best → c ≤ P .bound
+    → best′ ≡ set best s (c + 1) → Pushed w 0 s c 0 0 w′ → Treated P s c best′ w′ 0 1
+treated-first P s c {best} {best′} {w} {w′} blank hs hc e p =
+    subst (λ b. Treated P s c b w′ 0 1) (sym e) (record {
       from =
           record {
             queue =
@@ -180,35 +174,30 @@ treated-first P m w w′ s c hs hc p =
                   made = λ i h0 h1. absurd (omega arith);
                   held = λ v h. held v h (ℕ-discrete v s);
                   known = λ i h. known i (omega arith);
-                  low = set-low P (blank m) s c long (λ u. omega (arith, zeros m u)) hc;
-                  counted = omega (arith, sum-set (blank m) s (c + 1) long, zeros m s);
+                  low = set-low P best s c hs (λ u. omega (arith, zeros best blank u)) hc;
+                  counted = omega (arith, sum-set best s (c + 1) hs, zeros best blank s);
                 };
             node = p .node;
             charge = p .charge;
             begun = omega (arith, same);
           };
-      within = omega arith;
       treated = λ i h. absurd (omega arith);
-    }
+    })
   where
-    long : s < length (blank m)
-    long = rw (length-replicate {A = ℕ} m 0) hs
+    same : getD (set best s (c + 1)) s 0 ≡ c + 1
+    same = getD-set-same best s (c + 1) 0 hs
 
-    same : getD (set (blank m) s (c + 1)) s 0 ≡ c + 1
-    same = getD-set-same (blank m) s (c + 1) 0 long
-
-    known : (i : ℕ) → i ≡ 0 → chargeAt w′ i + 1 ≤ getD (set (blank m) s (c + 1)) (nodeAt w′ i) 0
-    known i e =
-        subst (λ n. chargeAt w′ n + 1 ≤ getD (set (blank m) s (c + 1)) (nodeAt w′ n) 0) (sym e)
+    known : (i : ℕ) → i ≡ 0 → chargeAt w′ i + 1 ≤ getD (set best s (c + 1)) (nodeAt w′ i) 0
+    known i z =
+        subst (λ n. chargeAt w′ n + 1 ≤ getD (set best s (c + 1)) (nodeAt w′ n) 0) (sym z)
         (rw (p .node, p .charge) (omega (arith, same)))
 
-    held : (v : ℕ) → 0 < getD (set (blank m) s (c + 1)) v 0 → Dec (v ≡ s)
-        → Entry w′ 0 1 v (getD (set (blank m) s (c + 1)) v 0)
-    held v h (yes e) =
-        let k : getD (set (blank m) s (c + 1)) v 0 ≡ c + 1 = rw e same in
+    held : (v : ℕ) → 0 < getD (set best s (c + 1)) v 0 → Dec (v ≡ s) → Entry w′ 0 1 v (getD (set best s (c + 1)) v 0)
+    held v h (yes z) =
+        let k : getD (set best s (c + 1)) v 0 ≡ c + 1 = rw z same in
         let pc = p .charge in
-        record { index = 0; from = omega arith; before = omega arith; node = p .node ∙ sym e; charge = omega arith }
-    held v h (no ne) = absurd (omega (arith, getD-set-other (blank m) s v (c + 1) 0 ne, zeros m v))
+        record { index = 0; from = omega arith; before = omega arith; node = p .node ∙ sym z; charge = omega arith }
+    held v h (no ne) = absurd (omega (arith, getD-set-other best s v (c + 1) 0 ne, zeros best blank v))
 
 -- a queue stays one from its first entry as it grows
 begun-grown : {P : Pass} {s c tail tail′ : ℕ} {best w best′ w′ : List ℕ} → Begun P s c best w tail → Queue P best′ w′ tail′
@@ -223,20 +212,20 @@ begun-grown {s = s} b q g =
     }
 
 -- one entry more is treated
-pub treated-more : {P : Pass} {s c head tail a tail′ : ℕ} {best w best′ w′ : List ℕ} → Treated P s c best w head tail → head < tail
-    → Visited P best w tail head best′ w′ false a tail′ → Treated P s c best′ w′ (head + 1) tail′
-treated-more {P} {s} {c} {head} {tail} {a} {tail′} {best} {w} {best′} {w′} t h r =
+pub treated-more : {P : Pass} {s c head tail a tail′ : ℕ} {best w best′ w′ : List ℕ} {hit : Bool} → hit ≡ false
+    → Treated P s c best w head tail → head < tail → Visited P best w tail head best′ w′ hit a tail′
+    → Treated P s c best′ w′ (head + 1) tail′
+treated-more {P} {head = head} {tail} {best = best} {w} {best′} {w′} off t h r =
     record {
       from = begun-grown (t .from) (r .queue) (r .grown);
-      within = omega (arith, r .grown .more);
       treated =
           below-more
           (λ i. getD best′ (nodeAt w′ i) 0 ≡ chargeAt w′ i + 1 → (n : ℕ) → Covers P best′ n (nodeAt w′ i) (chargeAt w′ i))
-          head old (λ e n. move head h n (r .covers refl (was head h e) n));
+          head old (λ e n. move head h n (r .covers off (was head h e) n));
     }
   where
     move : (i : ℕ) → i < tail → (n : ℕ) → Covers P best′ n (nodeAt w i) (chargeAt w i) → Covers P best′ n (nodeAt w′ i) (chargeAt w′ i)
-    move i hi n = let (en, ec) = entry-same i (r .grown) hi in equal-pair (λ v e. Covers P best′ n v e) (sym en) (sym ec)
+    move i hi n = let (en, ec) = entry-same i (r .grown) hi in subst₂ (λ v e. Covers P best′ n v e) (sym en) (sym ec)
 
     was : (i : ℕ) → i < tail → getD best′ (nodeAt w′ i) 0 ≡ chargeAt w′ i + 1 → getD best (nodeAt w i) 0 ≡ chargeAt w i + 1
     was i hi e =
@@ -263,16 +252,17 @@ passed-closed {P} {s} {c} {head} {tail} {best} {w} a t h =
         let n = t .from .queue .held v (omega arith) in
         let nb = n .before in
         let nc = n .charge in
-        equal-pair (λ v e. Covers P best i v e) (n .node) (omega arith)
+        subst₂ (λ v e. Covers P best i v e) (n .node) (omega arith)
         (t .treated (n .index) (omega arith) (ap (λ k. getD best k 0) (n .node) ∙ sym (n .charge)) i)
 
 -- an arc hits
-pub passed-hit : {P : Pass} {s c head tail a tail′ : ℕ} {best w best′ w′ : List ℕ} → Treated P s c best w head tail → head < tail
-    → Visited P best w tail head best′ w′ true a tail′ → Passed P s c best′ w′ true head a tail′
-passed-hit {P} {head = head} {a = a} t h r =
+pub passed-hit : {P : Pass} {s c head tail a tail′ : ℕ} {best w best′ w′ : List ℕ} {hit : Bool} → hit ≡ true
+    → Treated P s c best w head tail → head < tail → Visited P best w tail head best′ w′ hit a tail′
+    → Passed P s c best′ w′ true head a tail′
+passed-hit {P} {head = head} {a = a} on t h r =
     record {
       from = begun-grown (t .from) (r .queue) (r .grown);
       closed = λ off. absurd (true≢false off);
-      before = λ on. omega (arith, r .grown .more);
-      hits = λ on. let (n, c) = entry-same head (r .grown) h in equal-pair (λ v e. Hits P a v e) (sym n) (sym c) (r .hits refl);
+      before = λ e. omega (arith, r .grown .more);
+      hits = λ e. let (n, c) = entry-same head (r .grown) h in subst₂ (λ v e. Hits P a v e) (sym n) (sym c) (r .hits on);
     }

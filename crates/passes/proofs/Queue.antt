@@ -5,17 +5,18 @@ use mathlib.Core.Bool.{Bool, true, false, _&&_}
 use mathlib.Core.List.{List, [], _∷_}
 use Prim.Native.Nat.{ℕ, zero, suc, _+_, _*_, _/_, _%_, _≤_, _<_}
 use native.Mathlib.Omega.{arith}
-use native.Mathlib.Nat.{suc-mul, mul-le-mul-right, le-mul-of-pos-right, mod-lt, div-lt-iff-lt-mul}
+use native.Mathlib.Nat.{suc-mul, le-mul-of-pos-right, mod-lt, div-lt-iff-lt-mul}
 use native.Mathlib.Decide.{ℕ-discrete, decLt}
 use lib.Dec.{ltb}
 use lib.ListN.{length, getD, set, length-set, List·getD-eq-default}
 use lib.Seq.{getD-set-same, getD-set-other}
 use borrow.Author.Tests.{ltb-true}
+use Rattle.walks.proofs.Weights.{stepped-to}
 use Rattle.model.specs.Automaton.{bit}
-use Rattle.nets.specs.Table.{raisedIf}
 use Rattle.model.specs.Lists.{arcOf}
-use Rattle.passes.proofs.Steps.{stepped-to}
-use Rattle.passes.specs.Pass.{Pass, Along, Ready, node, nodes, room, levelAfter}
+use Rattle.nets.specs.Table.{raisedIf}
+use Rattle.nets.proofs.Pigeonhole.{paired-bound}
+use Rattle.passes.specs.Pass.{Pass, Along, Ready, node, room, levelAfter}
 use Rattle.passes.specs.Queue.{wordCount, nodeAt, chargeAt, parentAt, sum, Made, Entry, Queue, Pushed, Arrives, Grown}
 
 -- a step leads no higher than the bound
@@ -30,7 +31,7 @@ along-unique s s′ =
     (s′ .enters ∙ sym (s .enters), cc)
 
 -- equal numbers make equal steps
-pub along-cast : {P : Pass} {a a′ v v′ e e′ u u′ x x′ : ℕ} → a ≡ a′ → v ≡ v′ → e ≡ e′ → u ≡ u′ → x ≡ x′ → Along P a v e u x
+along-cast : {P : Pass} {a a′ v v′ e e′ u u′ x x′ : ℕ} → a ≡ a′ → v ≡ v′ → e ≡ e′ → u ≡ u′ → x ≡ x′ → Along P a v e u x
     → Along P a′ v′ e′ u′ x′
 along-cast {P} {a} {a′} {v} {v′} {e} {e′} {u} {u′} {x} {x′} pa pv pe pu px s =
     subst (λ n. Along P n v′ e′ u′ x′) pa
@@ -48,7 +49,7 @@ node-levels {P} {m} {size} {v} r h =
     (omega arith, mod-lt v (r .some-mode))
 
 -- no arc leads above the last level
-level-after-low : (last colours l : ℕ) → l ≤ last → levelAfter last colours l ≤ last
+pub level-after-low : (last colours l : ℕ) → l ≤ last → levelAfter last colours l ≤ last
 unfolding levelAfter
 level-after-low last colours l h = go (ltb l last) (bit colours l) refl
   where
@@ -57,20 +58,15 @@ level-after-low last colours l h = go (ltb l last) (bit colours l) refl
     go true false p = h
     go false t p = h
 
--- a node is below the nodes of the levels up to the last
-node-low : (n last l t : ℕ) → l ≤ last → t < n → node n l t < nodes n last
-unfolding node
-node-low n last l t h ht = omega (arith, mul-le-mul-right n h, suc-mul last n)
-
 -- from a node of the pass an arc leads to a node of it
 pub along-inside : {P : Pass} {m size a v e u x : ℕ} → Ready P m size → v < m → Along P a v e u x → u < m
+unfolding node
 along-inside {P} {m} {size} {a} {v} r h s =
-    let l = v / P .modes in
     let c = getD (P .lists .colours) a 0 in
-    rw (s .enters, r .table)
-    (node-low (P .modes) (P .last) (levelAfter (P .last) c l) (getD (P .lists .targets) a 0)
-    (level-after-low (P .last) c l (node-levels r h .0))
-    (r .targets a (s .known)))
+    let l = levelAfter (P .last) c (v / P .modes) in
+    let low = level-after-low (P .last) c (v / P .modes) (node-levels r h .0) in
+    let inside = paired-bound (suc (P .last)) (P .modes) l (getD (P .lists .targets) a 0) (omega arith) (r .targets a (s .known)) in
+    omega (arith, s .enters, r .table)
 
 -- one store moves the sum by the difference
 pub sum-set : (l : List ℕ) (i v : ℕ) → i < length l → sum (set l i v) + getD l i 0 ≡ sum l + v

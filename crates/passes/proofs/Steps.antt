@@ -4,21 +4,19 @@ use mathlib.Core.Bool.{true, false, false≢true, and-eq-true-iff}
 use mathlib.Core.Logic.{_↔_}
 use Prim.Native.Nat.{ℕ, _/_, _%_, _≤_, _<_}
 use native.Mathlib.Omega.{arith}
-use native.Mathlib.Decide.{decLe}
 use lib.Dec.{eqb, leb}
-use lib.IntN.{ℤ}
 use lib.ListN.{length}
 use borrow.Author.Tests.{eqb-true, leb-true, eq-eqb, le-leb}
 use Rattle.walks.specs.declared.Step.the-variants.{To}
 use Rattle.walks.specs.BoundedStep.{stepped}
-use Rattle.walks.specs.Moves.{moveOf, after}
-use Rattle.walks.proofs.Weights.{stepped-moved, moved-possible, moved-impossible}
+use Rattle.walks.specs.Moves.{after}
+use Rattle.walks.proofs.Weights.{stepped-to}
 use Rattle.model.specs.declared.Arc.{Arc}
 use Rattle.model.specs.Automaton.{Automaton, arcAt}
 use Rattle.model.specs.Lists.{arcOf, automatonOf}
 use Rattle.model.specs.Fitness.{Fit}
 use Rattle.model.proofs.Arcs.{arcs-here, arcs-length}
-use Rattle.nets.specs.Net.{Net, Usable, Lasts}
+use Rattle.nets.specs.Net.{Net}
 use Rattle.nets.specs.Table.{next}
 use Rattle.nets.specs.Whole.{whole}
 use Rattle.passes.specs.Pass.{Pass, Along, closes, levelAfter, node}
@@ -35,26 +33,6 @@ closes-at goal least u x = (
 -- where the pass goes on, it is not at the goal or has less
 pub closes-not : (goal least u x : ℕ) → closes goal least u x ≡ false → u ≡ goal → least ≤ x → ⊥
 closes-not goal least u x h q k = false≢true (sym h ∙ closes-at goal least u x .1 (q, k))
-
--- a weight leads to x exactly where its move is possible and leads to x
-pub stepped-to : (b : ℕ) (w : ℤ) (e x : ℕ) → (stepped b w e ≡ To x) ↔ ((moveOf w .draw ≤ e) × (after b (moveOf w) e ≡ x))
-stepped-to b w e x =
-    elim (decLe (moveOf w .draw) e) [
-      | yes h ↦
-          let q = stepped-moved b w e ∙ moved-possible b (moveOf w) e h in
-          (λ p. (h, cc), λ p. q ∙ ap To (p .1))
-      | no h ↦
-          let q = stepped-moved b w e ∙ moved-impossible b (moveOf w) e (omega arith) in
-          (λ p. absurd (let z : _≡_ {A = ℕ} 0 1 = cc in omega arith), λ p. absurd (h (p .0)))
-    ]
-
--- in the net of a model a prefix may use every arc that is there ..
-pub whole-usable-arc : (g : Automaton) (a : ℕ) → Usable (whole g) a ↔ (a < length (g .arcs))
-whole-usable-arc g a = (λ h. h .0, λ h. (h, refl))
-
--- .. and so may a cycle
-pub whole-lasting-arc : (g : Automaton) (a : ℕ) → Lasts (whole g) a ↔ (a < length (g .arcs))
-whole-lasting-arc g a = (λ h. h .0 .0, λ h. ((h, refl), refl))
 
 module _ (P : Pass) (s k : ℕ) where
   -- the model of a pass, with start mode s and k colours, and its net

@@ -25,12 +25,12 @@ chain-le {j = j} l (link {p = p} {d = d} pos e k) h =
     omega arith
 
 -- the first entry has no parent
-pub chain-zero : {w : List ℕ} {j d : ℕ} → Chain w j d → j ≡ 0 → d ≡ 0
+chain-zero : {w : List ℕ} {j d : ℕ} → Chain w j d → j ≡ 0 → d ≡ 0
 chain-zero root e = refl
 chain-zero (link pos e k) z = absurd (omega arith)
 
 -- one parent fewer from the parent
-pub chain-next : {w : List ℕ} {j d : ℕ} → Chain w j d → 0 < j → (k : ℕ) × (d ≡ k + 1) × Chain w (parentAt w j) k
+chain-next : {w : List ℕ} {j d : ℕ} → Chain w j d → 0 < j → (k : ℕ) × (d ≡ k + 1) × Chain w (parentAt w j) k
 chain-next root h = absurd (omega arith)
 chain-next {w} (link {d = d} pos e k) h = (d, sym (add-one d), subst (λ p. Chain w p d) e k)
 
@@ -39,7 +39,7 @@ pub chain-more : {w : List ℕ} {j d : ℕ} → 0 < j → Chain w (parentAt w j)
 chain-more {w} {j} {d} h k = subst (λ n. Chain w j n) (sym (add-one d)) (link h refl k)
 
 -- a byte stored before a part
-pub slice-set : (l : List ℕ) (f t v : ℕ) → f < t → t ≤ length l → slice f t (set l f v) ≡ v ∷ slice (f + 1) t l
+slice-set : (l : List ℕ) (f t v : ℕ) → f < t → t ≤ length l → slice f t (set l f v) ≡ v ∷ slice (f + 1) t l
 slice-set l f t v h k =
     slice-cons f t (set l f v) 0 h (simp length-set k)
     ∙ both (getD-set-same l f v 0 (omega arith))

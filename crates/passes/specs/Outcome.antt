@@ -44,7 +44,7 @@ pub record Peaked (g : Automaton) (b c : ℕ) (best w : List ℕ) (r : ℕ) : Ty
   pub arcs : (i : ℕ) → i < r → (l : List ℕ) → Traced w i 0 l → Arrival g b c (nodeAt w i) (chargeAt w i) l
 
 -- what the pass from mode s with charge e leaves: no cycle keeps e, or the arcs to entry head and arc a are one that does
-pub record Toured (g : Automaton) (b s e : ℕ) (w : List ℕ) (found : Bool) (head a : ℕ) : Type 0 where
+pub record CyclePassed (g : Automaton) (b s e : ℕ) (w : List ℕ) (found : Bool) (head a : ℕ) : Type 0 where
   pub none : found ≡ false → KeptCycle (whole g) b s e → ⊥
   pub few : found ≡ true → head < room (nodes (g .modes) (g .colours)) b
   pub linked : found ≡ true → Linked w head

@@ -122,7 +122,6 @@ pub record Begun (P : Pass) (s c : ℕ) (best w : List ℕ) (tail : ℕ) : Type 
 -- the same with its first head entries treated
 pub record Treated (P : Pass) (s c : ℕ) (best w : List ℕ) (head tail : ℕ) : Type 0 where
   pub from : Begun P s c best w tail
-  pub within : head ≤ tail
   pub treated : (i : ℕ) → i < head → getD best (nodeAt w i) 0 ≡ chargeAt w i + 1 → (a : ℕ) → Covers P best a (nodeAt w i) (chargeAt w i)
 
 -- what a pass leaves: every greatest charge is covered, or arc a hits at entry head

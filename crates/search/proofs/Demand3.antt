@@ -19,6 +19,7 @@ use Rattle.judge.proofs.Judged.{judged-yes}
 use Rattle.search.specs.declared.Searched.{Searched}
 use Rattle.search.specs.declared.Searched.the-variants as outcome
 use Rattle.search.specs.Search.{noPlan, searchAnswer, searchable, Found, Answered, none, found, SearchOf}
+use Rattle.search.proofs.Written.{answered-plan}
 use Rattle.search.proofs.Searchable.{searchable-yes}
 
 -- a plan that is handed back has its lengths
@@ -35,12 +36,6 @@ found-lengths {p = p} {q} {plan′ = plan′} f =
 -- the plan of an answer with one
 answered-found : {g : Automaton} {b c p q : ℕ} {plan plan′ : List ℕ} → Answered g b c plan plan′ (outcome.Plan p q) → Found g b c p q plan plan′
 answered-found (found f) = f
-
--- an answer without the refusal 10 has a plan
-answered-plan : {g : Automaton} {b c : ℕ} {plan plan′ : List ℕ} {r : Searched} → Answered g b c plan plan′ r → (r ≡ noPlan → ⊥)
-    → (p : ℕ) × (q : ℕ) × (r ≡ outcome.Plan p q) × Found g b c p q plan plan′
-answered-plan (none e) not = absurd (not refl)
-answered-plan (found {p} {q} f) not = (p, q, refl, f)
 
 -- 10 is the number of that refusal alone
 answered-ten : {g : Automaton} {b c : ℕ} {plan plan′ : List ℕ} {r : Searched} → Answered g b c plan plan′ r

@@ -4,49 +4,65 @@ use mathlib.Core.Path.{_≡_, sym, subst}
 use mathlib.Core.List.{List, _++_}
 use Prim.Native.Nat.{ℕ, _+_, _-_, _≤_, _<_}
 use native.Mathlib.Omega.{arith}
-use lib.ListN.{length, getD, take, drop, replicate, length-append, List·getD-append}
+use native.Mathlib.Decide.{decLe}
+use lib.ListN.{length, getD, take, drop, replicate, length-append, List·getD-append, List·getD-eq-default}
 use lib.Seq.{length-take-le, take-at}
+use Rattle.model.specs.Automaton.{Automaton}
 use Rattle.model.specs.Lists.{Lists}
 use Rattle.model.specs.Plans.{SomePlan}
 use Rattle.nets.specs.Table.{KeptCycle}
 use Rattle.nets.specs.Whole.{whole}
+use Rattle.nets.specs.Net.{Usable}
+use Rattle.nets.proofs.Tables.{table-bound}
 use Rattle.nets.proofs.Whole.{plan-criterion}
 use Rattle.passes.specs.Pass.{node}
 use Rattle.passes.specs.Outcome.{Peak, Peaked, FirstKept}
 use Rattle.search.specs.declared.plans.Task.{Task}
 use Rattle.search.specs.Tasks.{taskModel, Searchable}
 use Rattle.passes.proofs.Nodes.{node-first}
-use Rattle.search.proofs.Tasks.{nodesMost, take-replicate, peaked-low}
+use Rattle.search.proofs.Tasks.{nodesMost, take-replicate}
 
 -- the array as it is made
-abbrev pub zeros : List ℕ
-zeros = replicate nodesMost 0
+abbrev blankTable : List ℕ
+blankTable = replicate nodesMost 0
 
 -- and once the words for n modes are those of best
-abbrev pub filled : ℕ → List ℕ → List ℕ
-filled n best = best ++ drop n zeros
+abbrev filled : ℕ → List ℕ → List ℕ
+filled n best = best ++ drop n blankTable
+
+-- no peak is above the bound
+peaked-low : {g : Automaton} {b c r : ℕ} {best w : List ℕ} → c ≤ b → length best ≡ g .modes → Peaked g b c best w r → (s : ℕ)
+    → getD best s 0 ≤ b + 1
+peaked-low {g} {b} {c} {best = best} hc e p s =
+    elim (decLe (length best) s) [
+      | yes q ↦ omega (arith, List·getD-eq-default best 0 q)
+      | no q ↦
+          let high : ℕ → ℕ → ℕ = λ l t. getD best (node (g .modes) l t) 0 in
+          let low = table-bound (whole g) (Usable (whole g)) 0 b (g .start) c high hc (p .table) 0 s (omega arith) (omega arith) in
+          omega (arith, rw (node-first (g .modes) s) at low)
+    ]
 
 module _ {l : Lists} {t : Task} {words : ℕ} (able : Searchable l t words) where
   -- a word for each mode is lent
-  pub lent-words : t .modes ≡ length (take (t .modes) zeros)
-  lent-words = sym (length-take-le (t .modes) zeros (omega (arith, able .fit .few-modes)))
+  pub lent-words : t .modes ≡ length (take (t .modes) blankTable)
+  lent-words = sym (length-take-le (t .modes) blankTable (omega (arith, able .fit .few-modes)))
 
   -- and all of them are 0
-  pub lent-zeros : take (t .modes) zeros ≡ replicate (t .modes) 0
+  pub lent-zeros : take (t .modes) blankTable ≡ replicate (t .modes) 0
   lent-zeros = take-replicate (t .modes) nodesMost (omega (arith, able .fit .few-modes))
 
 -- once the pass has filled it
 module _ {l : Lists} {t : Task} {words r : ℕ} {best w : List ℕ} (able : Searchable l t words)
-    (peaked : Peaked (taskModel l t) (t .bound) (t .credit) best w r) (kept : length best ≡ length (take (t .modes) zeros)) where
+    (peaked : Peaked (taskModel l t) (t .bound) (t .credit) best w r) (kept : length best ≡ length (take (t .modes) blankTable)) where
   best-size : length best ≡ t .modes
   best-size = omega (arith, lent-words able)
 
   best-front : take (t .modes) (filled (t .modes) best) ≡ best
-  best-front = take-at best (drop (t .modes) zeros) (t .modes) best-size
+  best-front = take-at best (drop (t .modes) blankTable) (t .modes) best-size
 
   -- it has a word for each mode,
   pub filled-long : t .modes ≤ length (filled (t .modes) best)
-  filled-long = omega (arith, best-size, length-append best (drop (t .modes) zeros))
+  filled-long = omega (arith, best-size, length-append best (drop (t .modes) blankTable))
 
   -- as many are lent again,
   pub filled-count : length (take (t .modes) (filled (t .modes) best)) ≡ t .modes
@@ -76,7 +92,7 @@ module _ {l : Lists} {t : Task} {words r : ℕ} {best w : List ℕ} (able : Sear
       first-mode = omega (arith, first .within, other)
 
       first-word : getD (filled (t .modes) best) m 0 ≡ getD best m 0
-      first-word = List·getD-append best (drop (t .modes) zeros) 0 m (omega (arith, first-mode, best-size))
+      first-word = List·getD-append best (drop (t .modes) blankTable) 0 m (omega (arith, first-mode, best-size))
 
       -- is not 0,
       pub first-some : 1 ≤ getD (filled (t .modes) best) m 0

@@ -1,4 +1,4 @@
--- Where none of 1 to 9 applies, and what search then owes. Assumes nothing.
+-- Where none of 1 to 9 applies, and what search then promises. Assumes nothing.
 use mathlib.Core.Path.{_≡_, refl, sym, _∙_}
 use mathlib.Core.List.{List}
 use mathlib.Core.Logic.{_↔_}
@@ -48,7 +48,7 @@ spaces-yes n k b words bytes =
     )
 
 -- the task of a call
-abbrev pub taskOf : ℕ → ℕ → ℕ → ℕ → ℕ → Task
+abbrev taskOf : ℕ → ℕ → ℕ → ℕ → ℕ → Task
 taskOf n s k b c = record { modes = n; start = s; colours = k; credit = c; bound = b }
 
 -- none of 1 to 9 applies

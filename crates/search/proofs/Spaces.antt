@@ -6,29 +6,31 @@ use native.Mathlib.Nat.{add-zero, suc-mul, add-mul, mul-assoc, mul-le-mul}
 use native.Mathlib.Numerals.{add-one}
 use native.Mathlib.Omega.{arith}
 use lib.ListN.{length, take, drop, length-drop}
-use Rattle.limits.specs.Ceilings.{coloursMost, productMost, planMost, workSpace, planBuffer}
+use Rattle.limits.specs.Ceilings.{coloursMost, productMost, planMost, workWords, workLevels, workSpace, planLevels, planBuffer}
 use Rattle.judge.proofs.Arcs.{rest-part}
 use Rattle.passes.specs.Pass.{node, nodes, room}
 
 module _ (k n b : ℕ) where
   -- the plan buffer holds as many bytes as the two passes have pairs of a node and a charge
-  pub plan-parts : room n b + room (nodes n k) b ≡ planBuffer k n b
+  plan-parts : room n b + room (nodes n k) b ≡ planBuffer k n b
   unfolding room node
   plan-parts =
       let x = n * (b + 1) in
-      rw (add-zero (suc k * n)) (omega (arith, mul-assoc (suc k) n (b + 1), suc-mul k x, mul-assoc (k + 2) n (b + 1), add-mul k 2 x))
+      rw (add-zero (suc k * n))
+      (omega (arith, mul-assoc (suc k) n (b + 1), suc-mul k x, mul-assoc (k + planLevels) n (b + 1), add-mul k planLevels x))
 
   -- a plan that the buffer holds is not too long to be judged
   pub buffer-short : k ≤ coloursMost → n * (b + 1) ≤ productMost → planBuffer k n b ≤ planMost
   buffer-short few product =
-      omega (arith, mul-assoc (k + 2) n (b + 1), mul-le-mul {n₁ = k + 2} {m₁ = n * (b + 1)} {n₂ = 6} {m₂ = 8192} (omega arith) product)
+      let levels : k + planLevels ≤ coloursMost + planLevels = omega arith in
+      omega (arith, mul-assoc (k + planLevels) n (b + 1), mul-le-mul levels product)
 
   -- the working space holds the queue of the pass over the modes
-  pub queue-held : (r size : ℕ) → r ≤ room n b → workSpace k n b ≤ size → 4 * r ≤ size
+  pub queue-held : (r size : ℕ) → r ≤ room n b → workSpace k n b ≤ size → workWords * r ≤ size
   unfolding room
   queue-held r size few space =
       let x = n * (b + 1) in
-      omega (arith, mul-assoc (4 * (k + 1)) n (b + 1), mul-assoc 4 (k + 1) x, add-mul k 1 x)
+      omega (arith, mul-assoc (workWords * (k + workLevels)) n (b + 1), mul-assoc workWords (k + workLevels) x, add-mul k workLevels x)
 
   -- a plan whose parts are as short as the passes has room in the buffer
   pub plan-held : (p q : ℕ) → p ≤ room n b → q ≤ room (nodes n k) b → p + q ≤ planBuffer k n b

@@ -22,15 +22,16 @@ use Rattle.nets.proofs.Whole.{reached-serves}
 use Rattle.passes.specs.Pass.{node}
 use Rattle.passes.specs.Queue.{Entry, nodeAt, chargeAt}
 use Rattle.passes.specs.Trace.{Wrote}
-use Rattle.passes.specs.Outcome.{Peak, Peaked, Toured, PrefixWritten, CycleWritten}
+use Rattle.passes.specs.Outcome.{Peak, Peaked, CyclePassed, PrefixWritten, CycleWritten}
 use Rattle.search.specs.declared.Searched.{Searched}
+use Rattle.search.specs.declared.Searched.the-variants as outcome
 use Rattle.search.specs.Search.{noPlan, Found, Answered, none, found}
 use Rattle.passes.proofs.Nodes.{node-first}
 use Rattle.search.proofs.Spaces.{plan-held, buffer-short, prefix-few, cycle-few}
 
 module _ {g : Automaton} {b c r : ℕ} {best w : List ℕ} (peaked : Peaked g b c best w r) where
   -- the table that the pass leaves has the peak of a mode
-  pub peak-listed : {s e : ℕ} → Peak g b c s e → getD best s 0 ≡ e + 1
+  peak-listed : {s e : ℕ} → Peak g b c s e → getD best s 0 ≡ e + 1
   peak-listed {s} {e} p =
       let table : ℕ → ℕ → ℕ = λ l t. getD best (node (g .modes) l t) 0 in
       let same : p .high 0 s ≡ getD best (node (g .modes) 0 s) 0 =
@@ -53,7 +54,7 @@ module _ {g : Automaton} {b c r : ℕ} {best w : List ℕ} (peaked : Peaked g b 
         later = wrote .later;
       }
 
-module _ {g : Automaton} {b s e head a : ℕ} {w : List ℕ} {found : Bool} (toured : Toured g b s e w found head a)
+module _ {g : Automaton} {b s e head a : ℕ} {w : List ℕ} {found : Bool} (passed : CyclePassed g b s e w found head a)
     (cycle : KeptCycle (whole g) b s e) where
   -- where a cycle keeps the charge, the pass stops at one
   pub cycle-found : found ≡ true
@@ -61,15 +62,15 @@ module _ {g : Automaton} {b s e head a : ℕ} {w : List ℕ} {found : Bool} (tou
     where
       go : (t : Bool) → found ≡ t → found ≡ true
       go true e = e
-      go false e = absurd (toured .none e cycle)
+      go false e = absurd (passed .none e cycle)
 
   -- the arcs that are read back from its entry, and its last arc, are the cycle
   pub cycle-written : {r : ℕ} {plan plan₁ : List ℕ} → Wrote w head plan plan₁ r → r < length plan₁
       → CycleWritten g b s e plan (set plan₁ r a) (r + 1)
   cycle-written {r} {plan} {plan₁} wrote long =
       record {
-        few = omega (arith, toured .few cycle-found, wrote .few);
-        arcs = rw (add-one r, take-suc-set plan₁ r a long) (toured .arcs cycle-found (take r plan₁) (wrote .arcs));
+        few = omega (arith, passed .few cycle-found, wrote .few);
+        arcs = rw (add-one r, take-suc-set plan₁ r a long) (passed .arcs cycle-found (take r plan₁) (wrote .arcs));
         later =
             drop-set-lt (r + 1) plan₁ r a (omega arith) ∙ sym (drop-drop 1 r plan₁) ∙ ap {B = List ℕ} (drop 1) (wrote .later)
             ∙ drop-drop 1 r plan;
@@ -123,8 +124,13 @@ plan-found {g} {b} {c} {s} {e} {p} {q} {plan} {plan₁} {part} fit product buffe
       later = plan-later prefix behind long;
     })
 
+-- an answer without the refusal 10 has a plan
+pub answered-plan : {g : Automaton} {b c : ℕ} {plan plan′ : List ℕ} {r : Searched} → Answered g b c plan plan′ r → (r ≡ noPlan → ⊥)
+    → (p : ℕ) × (q : ℕ) × (r ≡ outcome.Plan p q) × Found g b c p q plan plan′
+answered-plan (none e) not = absurd (not refl)
+answered-plan (found {p} {q} f) not = (p, q, refl, f)
+
 -- where a plan is answered there is one
 pub plan-answered : {g : Automaton} {b c : ℕ} {plan plan′ : List ℕ} {r : Searched} → Answered g b c plan plan′ r → (r ≡ noPlan → ⊥)
     → (r ≡ noPlan) ↔ (SomePlan g b c → ⊥)
-plan-answered (none e) not = absurd (not refl)
-plan-answered (found f) not = (λ e. absurd (not e), λ no. absurd (no (_, f .serves)))
+plan-answered a not = let (p, q, e, f) = answered-plan a not in (λ e. absurd (not e), λ no. absurd (no (_, f .serves)))

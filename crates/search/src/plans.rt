@@ -10,7 +10,7 @@ ghost use Rattle.model.specs.Plans.{SomePlan};
 ghost use Rattle.nets.specs.Table.{KeptCycle};
 ghost use Rattle.nets.specs.Whole.{whole};
 ghost use Rattle.passes.specs.Pass.{nodes, room};
-ghost use Rattle.passes.specs.Outcome.{Peak, KeptPeak, Peaked, Toured, FirstKept, PrefixWritten, CycleWritten};
+ghost use Rattle.passes.specs.Outcome.{Peak, KeptPeak, Peaked, CyclePassed, FirstKept, PrefixWritten, CycleWritten};
 ghost use Rattle.search.specs.Search.{noPlan, Answered};
 ghost use Rattle.search.specs.Tasks.{taskModel, Searchable};
 use crate::Searched;
@@ -83,7 +83,7 @@ fn find_cycle(
 ) -> Outcome
     requires { ⌜ Searchable (lists (now sources) (now targets) (now weights) (now colours)) task (length (now work)) ⌝ }
     requires { ⌜ (mode < task .modes) × (charge ≤ task .bound) ⌝ }
-    ensures { λ r. ⌜ Toured (taskModel (lists (now (sources .entry)) (now (targets .entry)) (now (weights .entry)) (now (colours .entry))) task) (task .bound) mode charge (now (work .exit)) (r .found) (r .head) (r .arc) ⌝ }
+    ensures { λ r. ⌜ CyclePassed (taskModel (lists (now (sources .entry)) (now (targets .entry)) (now (weights .entry)) (now (colours .entry))) task) (task .bound) mode charge (now (work .exit)) (r .found) (r .head) (r .arc) ⌝ }
 {
     let nodes = (task.colours + 1) * task.modes;
     let numbers = PassNumbers {

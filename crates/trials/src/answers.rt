@@ -1,15 +1,17 @@
 // One random model: search's answer compared with the plain one, and a plan handed back judged and walked.
+ghost use Prim.Native.Nat.{_≤_};
+ghost use Rattle.limits.specs.Ceilings.{programMost};
 use crate::lists::is_clear;
 use crate::lists::is_untouched;
 use crate::lists::junk_plan;
 use crate::lists::junk_work;
 use crate::models::Family;
 use crate::models::Numbers;
-use crate::models::next;
 use crate::models::numbers_of;
 use crate::models::put_arcs;
+use crate::models::skip;
 use crate::plain::has_plan;
-use crate::plain::round_trip;
+use crate::plain::is_right;
 use judge::judge;
 use limits::Limits;
 use planwalk::walk;
@@ -19,12 +21,19 @@ use search::search;
 // The most pairs of a node and a charge, (k + 1) × n × (b + 1), that the program keeps space for.
 pub const ROOM: usize = Limits::PROGRAM as usize;
 
-// The words of a working space and the bytes of a plan buffer that suffice for them, and the three places more.
+// The words of a working space and the bytes of a plan buffer that suffice for them, and the three more that are lent at most.
 pub const WORDS: usize = Limits::WORK_WORDS * ROOM + 3;
 
 pub const BYTES: usize = 2 * ROOM + 3;
 
-// The answer for a model: 0 a plan, 1 no plan, 2 a difference; and the next state of the generator.
+// How a model is answered: by a plan that is right, by none, rightly, or wrongly.
+pub const PLAN: u32 = 0;
+
+pub const NONE: u32 = 1;
+
+pub const DIFFERENT: u32 = 2;
+
+// How a model is answered, and the next state of the generator.
 pub struct Tried {
     pub answer: u32,
     pub state: u32,
@@ -100,7 +109,7 @@ fn is_walked(
     false
 }
 
-// 0 where a plan is right: it was expected, the buffers are as they should be, and it is judged and walked; else 2.
+// A plan is right where later bytes are untouched, judging says yes, and it is walked by `walk` and plainly.
 fn check_plan(
     sources: &[u8],
     targets: &[u8],
@@ -113,22 +122,30 @@ fn check_plan(
 ) -> u32 {
     let length = (p as usize) + (q as usize);
     if length > buffer.len() {
-        return 2;
+        return DIFFERENT;
     }
     if !is_untouched(buffer, length) {
-        return 2;
+        return DIFFERENT;
     }
     let plan = &buffer[..length];
     if !is_judged(sources, targets, weights, colours, numbers, p, q, plan) {
-        return 2;
+        return DIFFERENT;
     }
     if !is_walked(sources, targets, weights, colours, numbers, p, q, plan) {
-        return 2;
+        return DIFFERENT;
     }
-    if !round_trip(sources, targets, weights, numbers, p as usize, plan) {
-        return 2;
+    if !is_right(
+        sources,
+        targets,
+        weights,
+        colours,
+        numbers,
+        p as usize,
+        plan,
+    ) {
+        return DIFFERENT;
     }
-    0
+    PLAN
 }
 
 // The answer compared with the expected one.
@@ -145,22 +162,22 @@ fn check_answer(
     match searched {
         Searched::Plan(p, q) => {
             if !expected {
-                return 2;
+                return DIFFERENT;
             }
             check_plan(sources, targets, weights, colours, numbers, p, q, plan)
         }
         Searched::Refused(refusal) => {
             let answer = refusal.answer();
             if expected {
-                return 2;
+                return DIFFERENT;
             }
             if answer.number != 10 {
-                return 2;
+                return DIFFERENT;
             }
             if !is_untouched(plan, 0) {
-                return 2;
+                return DIFFERENT;
             }
-            1
+            NONE
         }
     }
 }
@@ -192,7 +209,7 @@ fn compare(
         plan,
     );
     if !is_clear(work) {
-        return 2;
+        return DIFFERENT;
     }
     check_answer(
         sources,
@@ -214,10 +231,9 @@ fn expects(
     colours: &[u8],
     numbers: Numbers,
     pairs: usize,
-) -> bool {
-    if pairs > ROOM {
-        return false;
-    }
+) -> bool
+    requires { ⌜ pairs ≤ programMost ⌝ }
+{
     let mut candidates = [0u8; ROOM];
     let mut marked = [0u8; ROOM];
     has_plan(
@@ -242,11 +258,11 @@ fn lend(
 ) -> u32 {
     let pairs = (numbers.modes as usize) * ((numbers.bound as usize) + 1);
     if pairs > ROOM || numbers.colours > Limits::COLOURS {
-        return 2;
+        return DIFFERENT;
     }
     let room = pairs * ((numbers.colours as usize) + 1);
     if room > ROOM {
-        return 2;
+        return DIFFERENT;
     }
     let expected = expects(sources, targets, weights, colours, numbers, pairs);
     let mut work = [0u16; WORDS];
@@ -271,8 +287,8 @@ pub fn try_model(family: Family, state: u32) -> Tried {
     let count = numbers.arcs as usize;
     if count > Limits::ARCS {
         return Tried {
-            answer: 2,
-            state: next(state),
+            answer: DIFFERENT,
+            state: skip(state),
         };
     }
     let mut sources = [0u8; Limits::ARCS];
@@ -280,7 +296,7 @@ pub fn try_model(family: Family, state: u32) -> Tried {
     let mut weights = [0i16; Limits::ARCS];
     let mut colours = [0u8; Limits::ARCS];
     let after = put_arcs(
-        next(state),
+        skip(state),
         numbers,
         family,
         &mut sources,

@@ -1,6 +1,11 @@
 // Document 01's examples M and N.
 use crate::answers::BYTES;
 use crate::answers::WORDS;
+use crate::lists::is_clear;
+use crate::lists::is_junk;
+use crate::lists::is_untouched;
+use crate::lists::junk_plan;
+use crate::lists::junk_work;
 use crate::print::print_end;
 use crate::print::print_next;
 use crate::print::print_number;
@@ -8,7 +13,7 @@ use crate::print::print_word;
 use planwalk::walk;
 use search::search;
 
-// M: the walk of I for colour 0, with an allowance. I: G's model, run-in 0 0 0 0 0 1, round 2.
+// M: the number that the walk of I for colour 0 answers, with an allowance, met or spent, and the steps. I: G's model, run-in 0 0 0 0 0 1, round 2.
 fn print_walk(allowance: u16) {
     let sources = [0u8, 0u8, 1u8];
     let targets = [0u8, 1u8, 1u8];
@@ -32,7 +37,9 @@ fn print_walk(allowance: u16) {
         allowance,
     );
     let result = walked.answer();
+    let answer = result.answer;
     print_word(b"M");
+    print_number(answer.number as u32);
     if result.met {
         print_next(b"met");
     } else {
@@ -42,7 +49,19 @@ fn print_walk(allowance: u16) {
     print_end();
 }
 
-// N: n, start mode, k and b of a model without arcs, and the number that search answers.
+// Whether search leaves buffers that held junk as it should: after 10 the working space is clear, after 1 to 9 untouched; the plan buffer is
+// untouched after both.
+fn are_right(number: u8, work: &[u16], plan: &[u8]) -> bool {
+    if !is_untouched(plan, 0) {
+        return false;
+    }
+    if number == 10 {
+        return is_clear(work);
+    }
+    is_junk(work)
+}
+
+// N: n, start mode, k and b of a model without arcs, the number that search answers, and whether it leaves the buffers as it should.
 fn print_search(n: u32, start: u32, k: u32, b: u32) {
     let sources = [0u8; 1];
     let targets = [0u8; 1];
@@ -51,6 +70,8 @@ fn print_search(n: u32, start: u32, k: u32, b: u32) {
     let mut work = [0u16; WORDS];
     let mut plan = [0u8; BYTES];
     let none = 0;
+    junk_work(&mut work);
+    junk_plan(&mut plan);
     let searched = search(
         n,
         start,
@@ -72,6 +93,11 @@ fn print_search(n: u32, start: u32, k: u32, b: u32) {
     print_number(k);
     print_number(b);
     print_number(answer.number as u32);
+    if are_right(answer.number, &work, &plan) {
+        print_next(b"right");
+    } else {
+        print_next(b"wrong");
+    }
     print_end();
 }
 

@@ -53,13 +53,30 @@ pub fn junk_plan(plan: &mut [u8]) {
     }
 }
 
+// The word that stands at a place of the working space before a search.
+fn junk_word(at: usize) -> u16 {
+    (at % 65521 + 7) as u16
+}
+
 // Fills the working space with junk.
 pub fn junk_work(work: &mut [u16]) {
     let mut i = 0;
     while i < work.len() {
-        work[i] = (i % 65521 + 7) as u16;
+        work[i] = junk_word(i);
         i += 1;
     }
+}
+
+// Whether the junk still stands in the working space.
+pub fn is_junk(work: &[u16]) -> bool {
+    let mut i = 0;
+    while i < work.len() {
+        if work[i] != junk_word(i) {
+            return false;
+        }
+        i += 1;
+    }
+    true
 }
 
 // Whether every word is 0.
@@ -74,7 +91,7 @@ pub fn is_clear(work: &[u16]) -> bool {
     true
 }
 
-// Whether the junk still stands from a place on.
+// Whether the junk still stands in the plan buffer from a place on.
 pub fn is_untouched(plan: &[u8], from: usize) -> bool {
     let mut i = from;
     while i < plan.len() {

@@ -8,12 +8,22 @@ mod models;
 mod plain;
 mod print;
 
+use answers::NONE;
+use answers::PLAN;
 use answers::try_model;
+use limits::Limits;
 use models::Family;
 use print::print_end;
 use print::print_next;
 use print::print_number;
 use print::print_word;
+
+// Ceilings, as families have them.
+const MODES: u16 = Limits::MODES as u16;
+
+const BOUND: u16 = Limits::BOUND as u16;
+
+const COLOURS: u16 = Limits::COLOURS as u16;
 
 // The family with small numbers, from which the others are made.
 fn small(models: u16) -> Family {
@@ -56,9 +66,9 @@ fn try_family(name: &[u8], family: Family, first: u32) -> u32 {
     while i < family.models {
         let tried = try_model(family, state);
         state = tried.state;
-        if tried.answer == 0 {
+        if tried.answer == PLAN {
             plans += 1;
-        } else if tried.answer == 1 {
+        } else if tried.answer == NONE {
             none += 1;
         } else {
             differences += 1;
@@ -73,7 +83,7 @@ fn try_family(name: &[u8], family: Family, first: u32) -> u32 {
 fn try_small(first: u32) -> u32 {
     let mut medium = small(2000);
     medium.modes_span = 8;
-    medium.colours_span = 5;
+    medium.colours_span = COLOURS + 1;
     medium.arcs_least = 4;
     medium.arcs_span = 24;
     medium.bound_span = 32;
@@ -81,17 +91,17 @@ fn try_small(first: u32) -> u32 {
     medium.weight_low = 18;
     let mut zero = small(1000);
     zero.bound_span = 1;
-    zero.colours_span = 5;
+    zero.colours_span = COLOURS + 1;
     zero.weight_span = 3;
     zero.weight_low = 1;
     zero.arcs_span = 16;
     let mut equal = small(1000);
     equal.repeats = true;
-    equal.colours_span = 5;
+    equal.colours_span = COLOURS + 1;
     let mut none = small(100);
-    none.modes_span = 64;
+    none.modes_span = MODES;
     none.arcs_span = 1;
-    none.colours_span = 5;
+    none.colours_span = COLOURS + 1;
     none.bound_span = 24;
     let second = try_family(b"small", small(6000), first);
     let third = try_family(b"medium", medium, second);
@@ -103,7 +113,7 @@ fn try_small(first: u32) -> u32 {
 // Families at the ceilings: 64 modes with bound 127, one mode with bound 8,191, and all four colours over as many pairs as there is space for.
 fn try_large(first: u32) {
     let mut modes = small(64);
-    modes.modes_least = 64;
+    modes.modes_least = MODES;
     modes.modes_span = 1;
     modes.colours_span = 1;
     modes.arcs_least = 200;
@@ -117,14 +127,14 @@ fn try_large(first: u32) {
     bound.colours_span = 1;
     bound.arcs_least = 1;
     bound.arcs_span = 4;
-    bound.bound_least = 8191;
+    bound.bound_least = BOUND;
     bound.bound_span = 1;
     bound.weight_span = 8001;
     bound.weight_low = 6000;
     let mut colours = small(64);
     colours.modes_least = 8;
     colours.modes_span = 1;
-    colours.colours_least = 4;
+    colours.colours_least = COLOURS;
     colours.colours_span = 1;
     colours.arcs_least = 24;
     colours.arcs_span = 24;

@@ -2,6 +2,10 @@
 ghost use Prim.Native.Nat.{_≤_};
 use crate::lists::put;
 use crate::lists::put_weight;
+use limits::Limits;
+
+// The weights that are not negative.
+const WEIGHTS: u32 = (Limits::WEIGHT_MOST as u32) + 1;
 
 // The numbers of a model, with credit and bound; arcs: how many it has.
 pub struct Numbers {
@@ -45,16 +49,22 @@ pub fn pick(state: u32, limit: u32) -> u32
     (state / 8) % limit
 }
 
+// The state after the draws of an arc, or of a model's numbers: six, so that no draw serves twice.
+pub fn skip(state: u32) -> u32 {
+    next(next(next(next(next(next(state))))))
+}
+
+// The low byte of a number.
 fn low_byte(x: u32) -> u8 {
     (x % 256) as u8
 }
 
-// x less low, both below 10,001 or cut down to that.
+// x less low, which no family makes greater than a weight may be.
 fn difference(x: u32, low: u32) -> i16 {
     if x < low {
-        return -(((low - x) % 10001) as i16);
+        return -(((low - x) % WEIGHTS) as i16);
     }
-    ((x - low) % 10001) as i16
+    ((x - low) % WEIGHTS) as i16
 }
 
 // A number of a family: least, or up to span − 1 more.
@@ -64,7 +74,7 @@ fn number(state: u32, least: u16, span: u16) -> u32
     (least as u32) + pick(state, span as u32)
 }
 
-// The numbers of a model of a family, from a state.
+// The numbers of a model of a family, from the six draws after a state.
 pub fn numbers_of(family: Family, state: u32) -> Numbers {
     let first = next(state);
     let second = next(first);
@@ -83,7 +93,7 @@ pub fn numbers_of(family: Family, state: u32) -> Numbers {
     }
 }
 
-// Writes the arc that a seed gives at a place of the lists.
+// Writes the arc that a seed gives, by the five draws after it, at a place of the lists.
 fn put_arc(
     seed: u32,
     numbers: Numbers,
@@ -99,7 +109,7 @@ fn put_arc(
     let third = next(second);
     let fourth = next(third);
     let fifth = next(fourth);
-    // No model has more than 4 colours; the remainder keeps the shift within its word.
+    // No family has more than 4 colours; the remainder keeps the shift within its word.
     let masks = 1u32 << (numbers.colours % 8);
     put(sources, at, low_byte(pick(first, numbers.modes)));
     put(targets, at, low_byte(pick(second, numbers.modes)));
@@ -142,7 +152,7 @@ pub fn put_arcs(
     let mut reached = state;
     let mut i = 0;
     while i < numbers.arcs {
-        reached = next(next(next(reached)));
+        reached = skip(reached);
         seed = seed_of(family, reached, seed);
         put_arc(
             seed,
@@ -156,5 +166,5 @@ pub fn put_arcs(
         );
         i += 1;
     }
-    next(reached)
+    skip(reached)
 }

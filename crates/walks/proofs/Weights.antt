@@ -28,13 +28,25 @@ stepped-moved b (negsuc x) e =
     ]
 
 -- a move that is possible leads to the charge after it, and any other leads nowhere
-pub moved-possible : (b : ℕ) (m : Move) (e : ℕ) → m .draw ≤ e → moved b m e ≡ To (after b m e)
+moved-possible : (b : ℕ) (m : Move) (e : ℕ) → m .draw ≤ e → moved b m e ≡ To (after b m e)
 unfolding moved
 moved-possible b m e h = rw (le-leb (m .draw) e h)
 
-pub moved-impossible : (b : ℕ) (m : Move) (e : ℕ) → e < m .draw → moved b m e ≡ Impossible
+moved-impossible : (b : ℕ) (m : Move) (e : ℕ) → e < m .draw → moved b m e ≡ Impossible
 unfolding moved
 moved-impossible b m e h = rw (lt-leb (m .draw) e h)
+
+-- a weight leads to x exactly where its move is possible and leads to x
+pub stepped-to : (b : ℕ) (w : ℤ) (e x : ℕ) → (stepped b w e ≡ To x) ↔ ((moveOf w .draw ≤ e) × (after b (moveOf w) e ≡ x))
+stepped-to b w e x =
+    elim (decLe (moveOf w .draw) e) [
+      | yes h ↦
+          let q = stepped-moved b w e ∙ moved-possible b (moveOf w) e h in
+          (λ p. (h, cc), λ p. q ∙ ap To (p .1))
+      | no h ↦
+          let q = stepped-moved b w e ∙ moved-impossible b (moveOf w) e (omega arith) in
+          (λ p. absurd (let z : _≡_ {A = ℕ} 0 1 = cc in omega arith), λ p. absurd (h (p .0)))
+    ]
 
 -- what the theory says of a walk of moves, about the walk of weights
 pub record WalksAlike (b : ℕ) (ws : List ℤ) (e : ℕ) : Type 0 where

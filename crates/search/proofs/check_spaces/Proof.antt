@@ -3,7 +3,7 @@ use Prim.Native.Nat.{ℕ, _+_, _*_, _≤_}
 use native.Mathlib.Nat.{mul-le-mul}
 use native.Mathlib.Omega.{arith}
 use borrow.Author.Tests.{lt-ltb, le-ltb}
-use Rattle.limits.specs.Ceilings.{modesMost, coloursMost, boundMost, workSpace, planBuffer}
+use Rattle.limits.specs.Ceilings.{modesMost, coloursMost, boundMost, workWords, workLevels, workSpace, planLevels, planBuffer}
 use Rattle.search.specs.Search.{spaces}
 use borrow.Author.Needs.{needs}
 use Rattle.search.proofs.check_spaces.Statement.{statement}
@@ -11,22 +11,22 @@ use Rattle.search.proofs.check_spaces.Tie as tie
 
 -- the products of the tests fit their words
 module _ (n k b : ℕ) (few : n ≤ modesMost) (levels : k ≤ coloursMost) (low : b ≤ boundMost) where
-  charges-low : b + 1 ≤ 8192
+  charges-low : b + 1 ≤ boundMost + 1
   charges-low = omega arith
 
-  product-low : n * (b + 1) ≤ 524288
+  product-low : n * (b + 1) ≤ modesMost * (boundMost + 1)
   product-low = mul-le-mul few charges-low
 
-  work-levels-low : 4 * (k + 1) * n ≤ 1280
-  work-levels-low = let h : 4 * (k + 1) ≤ 20 = omega arith in mul-le-mul h few
+  work-levels-low : workWords * (k + workLevels) * n ≤ workWords * (coloursMost + workLevels) * modesMost
+  work-levels-low = let h : workWords * (k + workLevels) ≤ workWords * (coloursMost + workLevels) = omega arith in mul-le-mul h few
 
-  work-low : workSpace k n b ≤ 10485760
+  work-low : workSpace k n b ≤ workSpace coloursMost modesMost boundMost
   work-low = mul-le-mul work-levels-low charges-low
 
-  plan-levels-low : (k + 2) * n ≤ 384
-  plan-levels-low = let h : k + 2 ≤ 6 = omega arith in mul-le-mul h few
+  plan-levels-low : (k + planLevels) * n ≤ (coloursMost + planLevels) * modesMost
+  plan-levels-low = let h : k + planLevels ≤ coloursMost + planLevels = omega arith in mul-le-mul h few
 
-  plan-low : planBuffer k n b ≤ 3145728
+  plan-low : planBuffer k n b ≤ planBuffer coloursMost modesMost boundMost
   plan-low = mul-le-mul plan-levels-low charges-low
 
 add-if1 : tie.Need-add-if1

@@ -1,28 +1,20 @@
 -- `pass::entered` meets its contract: the node of the level after the arc and of its target. Assumes nothing.
 use mathlib.Core.Path.{_≡_, ap}
-use mathlib.Core.Bool.{Bool, true, false, _&&_}
-use Prim.Native.Nat.{ℕ, suc, _+_, _*_, _≤_}
+use Prim.Native.Nat.{ℕ, _+_, _*_, _≤_}
 use native.Mathlib.Nat.{mul-le-mul}
 use native.Mathlib.Omega.{arith}
-use lib.Dec.{ltb}
 use Rattle.limits.specs.Ceilings.{modesMost, coloursMost}
-use Rattle.model.specs.Automaton.{bit}
-use Rattle.nets.specs.Table.{raisedIf}
 use Rattle.passes.specs.Pass.{node, levelAfter}
+use Rattle.passes.proofs.Queue.{level-after-low}
 use borrow.Author.Needs.{needs}
 use Rattle.search.proofs.pass.entered.Statement.{statement}
 use Rattle.search.proofs.pass.entered.Tie as tie
 
--- an arc raises the level by one at most
-raised-low : (t : Bool) (l : ℕ) → raisedIf t l ≤ suc l
-raised-low true l = omega arith
-raised-low false l = omega arith
-
 -- the first node of the level after an arc is small
-after-small : (n last x l : ℕ) → l ≤ last → last ≤ coloursMost → n ≤ modesMost → (r : ℕ) → r ≡ levelAfter last x l → r * n ≤ 320
-unfolding levelAfter
+after-small : (n last x l : ℕ) → l ≤ last → last ≤ coloursMost → n ≤ modesMost → (r : ℕ) → r ≡ levelAfter last x l
+    → r * n ≤ coloursMost * modesMost
 after-small n last x l h k q r e =
-    let low : r ≤ 5 = omega (arith, raised-low (ltb l last && bit x l) l) in
+    let low : r ≤ coloursMost = omega (arith, level-after-low last x l h) in
     mul-le-mul low q
 
 next-level-requires : tie.Need-next-level-requires

@@ -1,5 +1,5 @@
 -- `pass::expand` meets its contract: at every turn the arcs below a are tried. Assumes nothing.
-use mathlib.Core.Path.{ap}
+use mathlib.Core.Path.{refl, ap}
 use mathlib.Core.Bool.{false}
 use Prim.Native.Nat.{ℕ, _+_, _-_, _≤_}
 use native.Mathlib.Nat.{le-antisymm}
@@ -12,8 +12,8 @@ use Rattle.passes.specs.Queue.{nodeAt, chargeAt, Tried}
 use Rattle.search.specs.declared.pass.Place.{Place}
 use Rattle.search.specs.Tasks.{passOf}
 use Rattle.passes.proofs.Queue.{entry-space, ready-kept}
-use Rattle.passes.proofs.Passes.{tried-none, tried-free}
-use Rattle.search.proofs.Steps.{place-later, expand-more, expand-hit, expand-free}
+use Rattle.passes.proofs.Passes.{tried-none, tried-free, tried-hit}
+use Rattle.search.proofs.Trying.{place-later, expand-more}
 use Rattle.search.proofs.pass.expand.Statement.{statement}
 use Rattle.search.proofs.pass.expand.Tie as tie
 
@@ -73,7 +73,7 @@ same-length-2 : tie.Need-same-length-2 Inv-loop μ-loop
 same-length-2 c = more (c .before .before .before .before .before) .grown .size
 
 returns : tie.Need-returns Inv-loop μ-loop
-returns c = let d = c .before .before .before .before .before in expand-hit _ (c .if1 .taken) (more d)
+returns c = let d = c .before .before .before .before .before in tried-hit _ (c .if1 .taken) (more d)
 
 add-a : tie.Need-add-a Inv-loop μ-loop
 add-a c = search needs
@@ -82,7 +82,7 @@ loop-less : tie.Need-loop-less Inv-loop μ-loop
 loop-less c = search needs
 
 loop-again : tie.Need-loop-again Inv-loop μ-loop
-loop-again c = let d = c .before .before .before .before .before in (omega arith, expand-free 0 (c .if1 .left) (more d))
+loop-again c = let d = c .before .before .before .before .before in (omega arith, tried-free 0 (c .if1 .left) (more d))
 
 same-length-3 : tie.Need-same-length-3 Inv-loop μ-loop
 same-length-3 c = c .before .loop .inv .1 .grown .best-size
@@ -91,7 +91,7 @@ same-length-4 : tie.Need-same-length-4 Inv-loop μ-loop
 same-length-4 c = c .before .loop .inv .1 .grown .size
 
 returns-2 : tie.Need-returns-2 Inv-loop μ-loop
-returns-2 c = let l = c .before in tried-free _ (rw (le-antisymm (l .loop .inv .0) (c .loop-test .left)) at (l .loop .inv .1))
+returns-2 c = let l = c .before in tried-free _ refl (rw (le-antisymm (l .loop .inv .0) (c .loop-test .left)) at (l .loop .inv .1))
 
 pub expand-spec : {M : Type 1} → statement M
 expand-spec =

@@ -11,7 +11,7 @@ use Rattle.model.specs.Lists.{Lists, lists}
 use Rattle.passes.specs.Pass.{Along}
 use Rattle.passes.specs.Queue.{nodeAt, chargeAt}
 use Rattle.search.specs.Tasks.{passOf}
-use Rattle.search.proofs.Steps.{Trying, relax-other, relax-impossible, relax-along, relax-levels, relax-arrives, relax-arrived}
+use Rattle.search.proofs.Trying.{Trying, relax-other, relax-impossible, relax-along, relax-levels, relax-arrives, relax-arrived}
 use Rattle.search.proofs.pass.relax.Statement.{statement}
 use Rattle.search.proofs.pass.relax.Tie as tie
 

@@ -8,8 +8,7 @@ use Rattle.passes.specs.Pass.{Pass, Ready, room}
 use Rattle.passes.specs.Queue.{Treated}
 use Rattle.search.specs.Tasks.{passOf}
 use Rattle.passes.proofs.Queue.{queue-room, entry-space, ready-kept, ready-some}
-use Rattle.passes.proofs.Passes.{passed-closed}
-use Rattle.search.proofs.Steps.{pass-first, pass-hit, pass-more}
+use Rattle.passes.proofs.Passes.{treated-first, treated-more, passed-closed, passed-hit}
 use Rattle.search.proofs.pass.run.Statement.{statement}
 use Rattle.search.proofs.pass.run.Tie as tie
 
@@ -48,7 +47,7 @@ loop-holds c =
     let s = c .before .before .before .before .before .before .before .before .before .before .before .before in
     let g = c .before .before .before .before .begin in
     let p = s .pre .1 in
-    (refl, refl, pass-first (pass-of s) (s .args .node) (s .args .charge) (p .2) (p .0) (p .1) (g .ensures .0) (g .ensures .1))
+    (refl, refl, treated-first (pass-of s) (s .args .node) (s .args .charge) (p .2) (p .0) (p .1) (g .ensures .0) (g .ensures .1))
 
 visit-requires : tie.Need-visit-requires Inv-loop μ-loop
 visit-requires c κs =
@@ -69,7 +68,7 @@ returns : tie.Need-returns Inv-loop μ-loop
 returns c =
     let d = c .before .before .before .before .before in
     let i = d .before .before .before in
-    pass-hit (c .if1 .taken) (i .before .loop .inv .2) (i .loop-test .taken) (d .visit .ensures)
+    passed-hit (c .if1 .taken) (i .before .loop .inv .2) (i .loop-test .taken) (d .visit .ensures)
 
 add-head : tie.Need-add-head Inv-loop μ-loop
 add-head c =
@@ -91,7 +90,7 @@ loop-again c =
     let v = d .visit .ensures in (
       v .grown .best-size ∙ l .loop .inv .0,
       v .grown .size ∙ l .loop .inv .1,
-      pass-more (c .if1 .left) (l .loop .inv .2) (d .before .before .before .loop-test .taken) v,
+      treated-more (c .if1 .left) (l .loop .inv .2) (d .before .before .before .loop-test .taken) v,
     )
 
 same-length-3 : tie.Need-same-length-3 Inv-loop μ-loop

@@ -1,8 +1,10 @@
 -- `plans::find_cycle` meets its contract. Assumes nothing.
+use mathlib.Core.Path.{refl}
 use native.Mathlib.Omega.{arith}
 use lib.ListN.{length-take}
 use borrow.Author.Needs.{needs}
-use Rattle.search.proofs.Tasks.{nodes-few, table-blank, cycle-asked, cycle-left}
+use Rattle.passes.specs.Pass.{node}
+use Rattle.search.proofs.Tasks.{pass-asked, cycle-left, nodes-few, table-blank}
 use Rattle.search.proofs.plans.find_cycle.Statement.{statement}
 use Rattle.search.proofs.plans.find_cycle.Tie as tie
 
@@ -29,17 +31,18 @@ slice-aggregate-run c =
 run-requires : tie.Need-run-requires
 run-requires c κs =
     let s = c .before .before .before .before .before .before .before .before .before in
-    cycle-asked (s .pre .0) (s .pre .1 .0) (s .pre .1 .1) (table-blank (s .pre .0))
+    pass-asked (s .pre .0) (omega arith) refl (table-blank (s .pre .0)) (s .pre .1 .0) (s .pre .1 .1)
 
 same-length : tie.Need-same-length
 same-length c = search needs
 
 returns : tie.Need-returns
+unfolding node
 returns c =
     let s = c .before .before .before .before .before .before .before .before .before .before .before .before .before in
     let k = c .before .before .before .run in
     let q = k .kept .1 .1 .1 .1 .1 .1 .1 in
-    cycle-left (s .pre .0) (s .pre .1 .0) (s .pre .1 .1) (table-blank (s .pre .0)) (q .0) (q .1 .0) (k .ensures)
+    cycle-left (s .pre .0) (s .pre .1 .0) (table-blank (s .pre .0)) (q .0) (q .1 .0) (k .ensures)
 
 pub find-cycle-spec : {M : Type 1} → statement M
 find-cycle-spec =

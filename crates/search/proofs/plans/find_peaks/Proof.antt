@@ -1,6 +1,9 @@
 -- `plans::find_peaks` meets its contract. Assumes nothing.
+use mathlib.Core.Path.{sym}
+use native.Mathlib.Nat.{one-mul}
+use native.Mathlib.Omega.{arith}
 use borrow.Author.Needs.{needs}
-use Rattle.search.proofs.Tasks.{peaks-asked, peaks-left}
+use Rattle.search.proofs.Tasks.{pass-asked, peaks-left}
 use Rattle.search.proofs.plans.find_peaks.Statement.{statement}
 use Rattle.search.proofs.plans.find_peaks.Tie as tie
 
@@ -10,7 +13,8 @@ add-t10 c = search needs
 run-requires : tie.Need-run-requires
 run-requires c κs =
     let s = c .before .before .before .before .before .before .before .before in
-    peaks-asked (s .pre .0) (s .pre .1)
+    let able = s .pre .0 in
+    pass-asked able (omega arith) (sym (one-mul _)) (s .pre .1) (able .fit .starts) (able .credit)
 
 same-length : tie.Need-same-length
 same-length c = search needs

@@ -6,7 +6,8 @@ use lib.ListN.{length}
 use borrow.Author.Needs.{needs}
 use Rattle.model.specs.Lists.{lists}
 use Rattle.search.specs.Tasks.{taskModel}
-use Rattle.search.proofs.Tasks.{searchable-kept, NoneKept, first-none, first-more, first-found, first-end}
+use Rattle.search.proofs.Tasks.{searchable-kept}
+use Rattle.search.proofs.Kept.{NoneKept, first-none, first-more, first-found, first-end}
 use Rattle.search.proofs.plans.first_kept.Statement.{statement}
 use Rattle.search.proofs.plans.first_kept.Tie as tie
 

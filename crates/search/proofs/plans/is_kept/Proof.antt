@@ -2,7 +2,7 @@
 use mathlib.Core.Bool.{false≢true}
 use native.Mathlib.Omega.{arith}
 use borrow.Author.Needs.{needs}
-use Rattle.search.proofs.Tasks.{toured-kept, toured-lost, none-kept}
+use Rattle.search.proofs.Kept.{cycle-kept, cycle-lost, none-kept}
 use Rattle.search.proofs.plans.is_kept.Statement.{statement}
 use Rattle.search.proofs.plans.is_kept.Tie as tie
 
@@ -21,7 +21,7 @@ same-length c = search needs
 returns-2 : tie.Need-returns-2
 returns-2 c =
     let k = c .before .before .find-cycle in
-    (toured-kept (k .ensures) (omega arith), toured-lost (k .ensures) (omega arith))
+    (cycle-kept (k .ensures) (omega arith), cycle-lost (k .ensures) (omega arith))
 
 pub is-kept-spec : {M : Type 1} → statement M
 is-kept-spec =

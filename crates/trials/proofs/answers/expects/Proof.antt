@@ -16,7 +16,6 @@ expects-spec =
     tie.close
     (tie.spec
     (search needs)
-    (search needs)
     slice-aggregate-has-plan
     (search needs)
     slice-aggregate-has-plan-2

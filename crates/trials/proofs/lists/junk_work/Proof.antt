@@ -18,7 +18,6 @@ junk-work-spec =
     (search needs)
     (search needs)
     (search needs)
-    (search needs)
     (λ c. search needs)
     (search needs)
     (search needs))

@@ -26,6 +26,4 @@ put-arcs-spec =
     (search needs)
     (search needs)
     (search needs)
-    (search needs)
-    (search needs)
     (search needs))
