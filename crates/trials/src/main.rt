@@ -3,16 +3,13 @@
 // each family of models how many there were, how many have a plan, how many have none, and the differences.
 mod answers;
 mod examples;
-mod lists;
-mod models;
-mod plain;
 mod print;
 
 use answers::NONE;
 use answers::PLAN;
 use answers::try_model;
 use limits::Limits;
-use models::Family;
+use plain::models::Family;
 use print::print_end;
 use print::print_next;
 use print::print_number;
