@@ -9,7 +9,7 @@ use Rattle.nets.specs.Net.{Usable}
 use Rattle.nets.specs.Table.{Reached, Peaks, KeptCycle}
 use Rattle.nets.specs.Whole.{whole}
 use Rattle.passes.specs.Pass.{node, nodes, room}
-use Rattle.passes.specs.Queue.{Entry, nodeAt, chargeAt}
+use Rattle.passes.specs.Queue.{byteCount, Entry, nodeAt, chargeAt}
 use Rattle.passes.specs.Trace.{Linked, Traced}
 
 -- the arcs are a walk of possible steps from the start mode with credit c to mode t with charge x
@@ -48,10 +48,10 @@ pub record CyclePassed (g : Automaton) (b s e : ℕ) (w : List ℕ) (found : Boo
   pub none : found ≡ false → KeptCycle (whole g) b s e → ⊥
   pub few : found ≡ true → head < room (nodes (g .modes) (g .colours)) b
   pub linked : found ≡ true → Linked w head
-  pub byte : found ≡ true → a < 256
+  pub byte : found ≡ true → a < byteCount
   pub arcs : found ≡ true → (l : List ℕ) → Traced w head 0 l → Kept g b s e (l ++ (a ∷ []))
 
--- mode r, of n, is the first whose peak a cycle keeps; n where there is none
+-- mode r is the first whose peak a cycle keeps; where there is none, r is the number of modes
 pub record FirstKept (g : Automaton) (b : ℕ) (peaks : List ℕ) (r : ℕ) : Type 0 where
   pub within : r ≤ g .modes
   pub kept : r < g .modes → KeptPeak g b r (getD peaks r 0)

@@ -7,9 +7,12 @@ use Prim.Native.Nat.{ℕ, _+_, _*_, _≤_, _<_}
 use lib.ListN.{length, getD, set}
 use Rattle.passes.specs.Pass.{Pass, Along, closes}
 
--- the numbers that a word holds
+-- the numbers that a word holds, and a byte
 abbrev pub wordCount : ℕ
 wordCount = 65536
+
+abbrev pub byteCount : ℕ
+byteCount = 256
 
 -- Entry i: a node, the charge with which it was reached, the entry that it was reached from, and the arc.
 abbrev pub nodeAt : List ℕ → ℕ → ℕ
@@ -24,6 +27,7 @@ parentAt w i = getD w (4 * i + 2) 0
 abbrev pub numberAt : List ℕ → ℕ → ℕ
 numberAt w i = getD w (4 * i + 3) 0
 
+-- what the words of a list add up to
 unfoldable pub sum : List ℕ → ℕ
 sum [] = 0
 sum (x ∷ xs) = x + sum xs

@@ -6,16 +6,10 @@ use lib.ListN.{length}
 use Rattle.refusals.specs.declared.Verdict.the-variants.{Yes}
 use Rattle.judge.specs.Examples.{Claim, Found, None, Judged, Example, Admitted, Says, Stands}
 use Rattle.search.specs.declared.Searched.{Searched}
-use Rattle.search.specs.declared.Searched.the-variants as outcome
-use Rattle.search.specs.Search.{searchAnswer, spaces, searchable, SearchOf}
+use Rattle.search.specs.Search.{spaces, searchable, SearchOf}
+use Rattle.search.specs.Examples.{Answers}
 use Rattle.search.proofs.Searchable.{searchable-on}
 use Rattle.search.proofs.Demand3.{search-ten, search-complete}
-
--- what a row of the examples says of search: "A plan is found", or 10; of a judged plan search says nothing
-abbrev pub Answers : Claim → Searched → Type 0
-Answers Found r = (p : ℕ) × (q : ℕ) × (r ≡ outcome.Plan p q)
-Answers None r = searchAnswer r .answer .number ≡ 10
-Answers (Judged p q w a) r = Unit {0}
 
 -- where the buffers suffice for a row that holds, search answers as it says: A and G by a plan, B and H by 10 (judge Examples, examples-hold)
 pub example-searched : (x : Example) {work plan work′ plan′ : List ℕ} {r : Searched} → Stands x

@@ -6,7 +6,7 @@ ghost use Prim.Native.Nat.{_+_, _*_, _≤_, _<_};
 ghost use lib.Dec.{eqb};
 ghost use lib.ListN.{length, replicate};
 ghost use Rattle.passes.specs.Pass.{node};
-ghost use Rattle.passes.specs.Queue.{nodeAt, chargeAt, parentAt, numberAt, Entry, Pushed};
+ghost use Rattle.passes.specs.Queue.{byteCount, nodeAt, chargeAt, parentAt, numberAt, Entry, Pushed};
 ghost use Rattle.passes.specs.Trace.{Linked, Chain, Wrote};
 use limits::Limits;
 
@@ -69,7 +69,7 @@ fn parent_of(work: &[u16], i: usize) -> usize
 
 // A word that is a byte.
 fn narrow(x: u16) -> u8
-    requires { ⌜ x < 256 ⌝ }
+    requires { ⌜ x < byteCount ⌝ }
     ensures { λ r. ⌜ r ≡ x ⌝ }
 {
     x as u8
@@ -77,7 +77,7 @@ fn narrow(x: u16) -> u8
 
 // The arc that an entry was reached by.
 fn arc_of(work: &[u16], i: usize) -> u8
-    requires { ⌜ (4 * i + 4 ≤ length (now work)) × (numberAt (now work) i < 256) ⌝ }
+    requires { ⌜ (4 * i + 4 ≤ length (now work)) × (numberAt (now work) i < byteCount) ⌝ }
     ensures { λ r. ⌜ r ≡ numberAt (now (work .entry)) i ⌝ }
 {
     let at = Limits::WORK_WORDS * i + 3;
