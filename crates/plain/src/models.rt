@@ -35,12 +35,12 @@ pub struct Family {
 }
 
 // The generator: x ↦ 48271·x modulo 2³¹ − 1.
-pub fn next(state: u32) -> u32 {
+fn next(state: u32) -> u32 {
     ((state as u64) * 48271 % 2147483647) as u32
 }
 
 // A number below a limit, from a state of the generator; 0 where the limit is 0.
-pub fn pick(state: u32, limit: u32) -> u32
+fn pick(state: u32, limit: u32) -> u32
     ensures { λ r. ⌜ r ≤ limit ⌝ }
 {
     if limit == 0 {

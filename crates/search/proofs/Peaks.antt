@@ -20,11 +20,12 @@ use Rattle.passes.specs.Outcome.{Peak, Peaked, FirstKept}
 use Rattle.search.specs.declared.plans.Task.{Task}
 use Rattle.search.specs.Tasks.{taskModel, Searchable}
 use Rattle.passes.proofs.Nodes.{node-first}
-use Rattle.search.proofs.Tasks.{nodesMost, take-replicate}
+use Rattle.limits.specs.Ceilings.{modesMost}
+use Rattle.search.proofs.Tasks.{take-replicate}
 
 -- the array as it is made
 abbrev blankTable : List ℕ
-blankTable = replicate nodesMost 0
+blankTable = replicate modesMost 0
 
 -- and once the words for n modes are those of best
 abbrev filled : ℕ → List ℕ → List ℕ
@@ -49,7 +50,7 @@ module _ {l : Lists} {t : Task} {words : ℕ} (able : Searchable l t words) wher
 
   -- and all of them are 0
   pub lent-zeros : take (t .modes) blankTable ≡ replicate (t .modes) 0
-  lent-zeros = take-replicate (t .modes) nodesMost (omega (arith, able .fit .few-modes))
+  lent-zeros = take-replicate (t .modes) modesMost (able .fit .few-modes)
 
 -- once the pass has filled it
 module _ {l : Lists} {t : Task} {words r : ℕ} {best w : List ℕ} (able : Searchable l t words)

@@ -22,8 +22,10 @@ use crate::pass::PassNumbers;
 use limits::Limits;
 use refusals::Refusal;
 
-// The most nodes of a pass.
-const NODES: usize = ((Limits::COLOURS as usize) + 1) * (Limits::MODES as usize);
+// The most modes of a model, and the most nodes of a pass.
+const MODES: usize = Limits::MODES as usize;
+
+const NODES: usize = ((Limits::COLOURS as usize) + 1) * MODES;
 
 // What a search is for: the model's numbers (its arcs stay in the lent lists), the credit and the bound.
 pub struct Task {
@@ -190,7 +192,7 @@ fn write_prefix(
     ensures { λ r. ⌜ PrefixWritten (taskModel (lists (now (sources .entry)) (now (targets .entry)) (now (weights .entry)) (now (colours .entry))) task) (task .bound) (task .credit) mode peak (now (plan .entry)) (now (plan .exit)) r ⌝ }
 {
     let modes = task.modes;
-    let mut peaks = [0u16; NODES];
+    let mut peaks = [0u16; MODES];
     let tail = find_peaks(
         sources,
         targets,
@@ -286,7 +288,7 @@ pub fn decide(
     ensures answered { λ r. ⌜ Answered (taskModel (lists (now (sources .entry)) (now (targets .entry)) (now (weights .entry)) (now (colours .entry))) task) (task .bound) (task .credit) (now (plan .entry)) (now (plan .exit)) r ⌝ }
 {
     let modes = task.modes;
-    let mut peaks = [0u16; NODES];
+    let mut peaks = [0u16; MODES];
     find_peaks(
         sources,
         targets,

@@ -1,8 +1,10 @@
 // One random model: search's answer compared with the plain one, and a plan handed back judged and walked.
 ghost use Prim.Native.Nat.{_≤_};
-ghost use Rattle.limits.specs.Ceilings.{programMost};
+ghost use lib.ListN.{length};
+ghost use Rattle.limits.specs.Ceilings.{planMost, programMost};
 use judge::judge;
 use limits::Limits;
+use plain::candidates::has_plan;
 use plain::lists::is_clear;
 use plain::lists::is_untouched;
 use plain::lists::junk_plan;
@@ -12,8 +14,7 @@ use plain::models::Numbers;
 use plain::models::numbers_of;
 use plain::models::put_arcs;
 use plain::models::skip;
-use plain::pairs::has_plan;
-use plain::pairs::is_right;
+use plain::rounds::is_right;
 use planwalk::walk;
 use search::Searched;
 use search::search;
@@ -78,7 +79,9 @@ fn is_walked(
     p: u32,
     q: u32,
     plan: &[u8],
-) -> bool {
+) -> bool
+    requires { ⌜ length (now plan) ≤ planMost ⌝ }
+{
     let mut colour = 0;
     let mut right = true;
     while colour <= numbers.colours {
@@ -96,7 +99,7 @@ fn is_walked(
             q,
             plan,
             colour,
-            (plan.len() % 65536) as u16,
+            plan.len() as u16,
         );
         let result = walked.answer();
         let answer = result.answer;
@@ -109,7 +112,8 @@ fn is_walked(
     false
 }
 
-// A plan is right where later bytes are untouched, judging says yes, and it is walked by `walk` and plainly.
+// A plan is right where it is no longer than judging takes, later bytes are untouched, judging says yes, and it is walked by `walk` and
+// plainly.
 fn check_plan(
     sources: &[u8],
     targets: &[u8],
@@ -122,6 +126,9 @@ fn check_plan(
 ) -> u32 {
     let length = (p as usize) + (q as usize);
     if length > buffer.len() {
+        return DIFFERENT;
+    }
+    if length > Limits::PLAN {
         return DIFFERENT;
     }
     if !is_untouched(buffer, length) {

@@ -8,6 +8,9 @@ use Rattle.trials.proofs.answers.check_plan.Tie as tie
 slice-aggregate-plan : tie.Need-slice-aggregate-plan
 slice-aggregate-plan c = simp length-take (omega arith)
 
+is-walked-requires : tie.Need-is-walked-requires
+is-walked-requires c κs = simp length-take (omega arith)
+
 pub check-plan-spec : {M : Type 1} → statement M
 check-plan-spec =
     tie.close
@@ -16,10 +19,11 @@ check-plan-spec =
     (search needs)
     (search needs)
     (search needs)
+    (search needs)
     slice-aggregate-plan
     (search needs)
     (search needs)
-    (search needs)
+    is-walked-requires
     (search needs)
     (search needs)
     (search needs)

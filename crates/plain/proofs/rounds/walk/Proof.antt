@@ -1,9 +1,9 @@
--- `pairs::walk` is safe and ends. Assumes nothing.
+-- `rounds::walk` is safe and ends. Assumes nothing.
 use Prim.Native.Nat.{_-_}
 use borrow.Author.Needs.{needs}
 use lib.ListN.{length}
-use Rattle.plain.proofs.pairs.walk.Statement.{statement}
-use Rattle.plain.proofs.pairs.walk.Tie as tie
+use Rattle.plain.proofs.rounds.walk.Statement.{statement}
+use Rattle.plain.proofs.rounds.walk.Tie as tie
 
 pub walk-spec : {M : Type 1} → statement M
 walk-spec =

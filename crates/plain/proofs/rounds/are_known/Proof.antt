@@ -1,9 +1,9 @@
--- `pairs::are_known` is safe and ends. Assumes nothing.
+-- `rounds::are_known` is safe and ends. Assumes nothing.
 use Prim.Native.Nat.{_-_}
 use borrow.Author.Needs.{needs}
 use lib.ListN.{length}
-use Rattle.plain.proofs.pairs.are_known.Statement.{statement}
-use Rattle.plain.proofs.pairs.are_known.Tie as tie
+use Rattle.plain.proofs.rounds.are_known.Statement.{statement}
+use Rattle.plain.proofs.rounds.are_known.Tie as tie
 
 pub are-known-spec : {M : Type 1} → statement M
 are-known-spec =

@@ -1,9 +1,9 @@
--- `pairs::gathered` is safe and ends. Assumes nothing.
+-- `rounds::gathered` is safe and ends. Assumes nothing.
 use Prim.Native.Nat.{_-_}
 use borrow.Author.Needs.{needs}
 use lib.ListN.{length}
-use Rattle.plain.proofs.pairs.gathered.Statement.{statement}
-use Rattle.plain.proofs.pairs.gathered.Tie as tie
+use Rattle.plain.proofs.rounds.gathered.Statement.{statement}
+use Rattle.plain.proofs.rounds.gathered.Tie as tie
 
 pub gathered-spec : {M : Type 1} → statement M
 gathered-spec =

@@ -1,10 +1,10 @@
--- `pairs::remove` is safe and ends: the lists keep their lengths. Assumes nothing.
+-- `candidates::remove` is safe and ends: the lists keep their lengths. Assumes nothing.
 use mathlib.Core.Path.{_≡_}
 use Prim.Native.Nat.{_-_}
 use borrow.Author.Needs.{needs}
 use lib.ListN.{length}
-use Rattle.plain.proofs.pairs.remove.Statement.{statement}
-use Rattle.plain.proofs.pairs.remove.Tie as tie
+use Rattle.plain.proofs.candidates.remove.Statement.{statement}
+use Rattle.plain.proofs.candidates.remove.Tie as tie
 
 pub remove-spec : {M : Type 1} → statement M
 remove-spec =

@@ -1,9 +1,9 @@
--- `pairs::leads_on` is safe and ends. Assumes nothing.
+-- `candidates::leads_on` is safe and ends. Assumes nothing.
 use Prim.Native.Nat.{_-_}
 use borrow.Author.Needs.{needs}
 use lib.ListN.{length}
-use Rattle.plain.proofs.pairs.leads_on.Statement.{statement}
-use Rattle.plain.proofs.pairs.leads_on.Tie as tie
+use Rattle.plain.proofs.candidates.leads_on.Statement.{statement}
+use Rattle.plain.proofs.candidates.leads_on.Tie as tie
 
 pub leads-on-spec : {M : Type 1} → statement M
 leads-on-spec =

@@ -1,10 +1,10 @@
--- `pairs::keep_marked` is safe and ends: the list keeps its length. Assumes nothing.
+-- `candidates::keep_marked` is safe and ends: the list keeps its length. Assumes nothing.
 use mathlib.Core.Path.{_≡_}
 use Prim.Native.Nat.{_-_}
 use borrow.Author.Needs.{needs}
 use lib.ListN.{length}
-use Rattle.plain.proofs.pairs.keep_marked.Statement.{statement}
-use Rattle.plain.proofs.pairs.keep_marked.Tie as tie
+use Rattle.plain.proofs.candidates.keep_marked.Statement.{statement}
+use Rattle.plain.proofs.candidates.keep_marked.Tie as tie
 
 pub keep-marked-spec : {M : Type 1} → statement M
 keep-marked-spec =

@@ -1,10 +1,10 @@
--- `pairs::remove_all` is safe and ends: the lists keep their lengths. Assumes nothing.
+-- `candidates::remove_all` is safe and ends: the lists keep their lengths. Assumes nothing.
 use mathlib.Core.Path.{_≡_}
 use Prim.Native.Nat.{_+_, _-_}
 use borrow.Author.Needs.{needs}
 use lib.ListN.{length}
-use Rattle.plain.proofs.pairs.remove_all.Statement.{statement}
-use Rattle.plain.proofs.pairs.remove_all.Tie as tie
+use Rattle.plain.proofs.candidates.remove_all.Statement.{statement}
+use Rattle.plain.proofs.candidates.remove_all.Tie as tie
 
 pub remove-all-spec : {M : Type 1} → statement M
 remove-all-spec =

@@ -1,0 +1,126 @@
+// A plan tested plainly: its arcs are known, its prefix and three rounds can be walked, and its cycle has all colours.
+use crate::lists::byte;
+use crate::models::Numbers;
+use crate::pairs::pair_after;
+use crate::pairs::pair_of;
+
+// Walks a list of arcs from a pair, and returns the pair that it comes to; 0 where a step is not possible or leaves another mode. Both pairs
+// are numbers plus 1, as pair_after has them.
+fn walk(
+    sources: &[u8],
+    targets: &[u8],
+    weights: &[i16],
+    bound: u32,
+    pair: usize,
+    arcs: &[u8],
+) -> usize {
+    let mut reached = pair;
+    let mut i = 0;
+    while i < arcs.len() {
+        if reached == 0 {
+            return 0;
+        }
+        reached = pair_after(
+            sources,
+            targets,
+            weights,
+            bound,
+            reached - 1,
+            byte(arcs, i) as usize,
+        );
+        i += 1;
+    }
+    reached
+}
+
+// Whether two pairs, as numbers plus 1, have one mode; not where one is 0.
+fn in_one_mode(pair: usize, other: usize, bound: u32) -> bool {
+    if pair == 0 {
+        return false;
+    }
+    if other == 0 {
+        return false;
+    }
+    let charges = (bound as usize) + 1;
+    (pair - 1) / charges == (other - 1) / charges
+}
+
+// Whether three rounds can be walked from a pair, each back to its mode, and the first or the second ends no lower than it began.
+fn rounds_hold(
+    sources: &[u8],
+    targets: &[u8],
+    weights: &[i16],
+    bound: u32,
+    first: usize,
+    cycle: &[u8],
+) -> bool {
+    let second = walk(sources, targets, weights, bound, first, cycle);
+    let third = walk(sources, targets, weights, bound, second, cycle);
+    let last = walk(sources, targets, weights, bound, third, cycle);
+    if !in_one_mode(first, second, bound) {
+        return false;
+    }
+    if !in_one_mode(first, last, bound) {
+        return false;
+    }
+    second >= first || third >= second
+}
+
+// Whether every arc number is below m.
+fn are_known(m: usize, arcs: &[u8]) -> bool {
+    let mut i = 0;
+    while i < arcs.len() {
+        if (byte(arcs, i) as usize) >= m {
+            return false;
+        }
+        i += 1;
+    }
+    true
+}
+
+// The colours that the arcs have, as a mask.
+fn gathered(colours: &[u8], arcs: &[u8]) -> u8 {
+    let mut mask = 0u8;
+    let mut i = 0;
+    while i < arcs.len() {
+        mask = mask | byte(colours, byte(arcs, i) as usize);
+        i += 1;
+    }
+    mask
+}
+
+// Whether a cycle has an arc, and all k colours.
+fn has_all(colours: &[u8], k: u32, cycle: &[u8]) -> bool {
+    if cycle.len() == 0 {
+        return false;
+    }
+    (gathered(colours, cycle) as u32) + 1 == 1u32 << (k % 8)
+}
+
+// Whether a plan is one, plainly: known arcs, a prefix from the start mode, rounds that hold, and a cycle with all colours.
+pub fn is_right(
+    sources: &[u8],
+    targets: &[u8],
+    weights: &[i16],
+    colours: &[u8],
+    numbers: Numbers,
+    p: usize,
+    plan: &[u8],
+) -> bool {
+    if p > plan.len() {
+        return false;
+    }
+    if numbers.start >= numbers.modes {
+        return false;
+    }
+    if !are_known(sources.len(), plan) {
+        return false;
+    }
+    if !has_all(colours, numbers.colours, &plan[p..]) {
+        return false;
+    }
+    let bound = numbers.bound;
+    let start = pair_of(numbers.start, numbers.credit, bound);
+    let first = walk(sources, targets, weights, bound, start + 1, &plan[0..p]);
+    rounds_hold(sources, targets, weights, bound, first, &plan[p..])
+}
