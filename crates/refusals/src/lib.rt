@@ -1,6 +1,6 @@
 // Where a call stops: the refusals of document 01's table and the number and detail of each.
 ghost use mathlib.Core.Path.{_≡_};
-ghost use Rattle.refusals.specs.Refusals.{numbered, answerOf};
+ghost use Rattle.refusals.specs.Refusals.{answer, numbered, answerOf};
 
 // Where a call stops: a case for each number of document 01's table, with its detail where the table names one.
 pub enum Refusal {
@@ -30,84 +30,37 @@ pub struct Answer {
     pub detail: u32,
 }
 
+// A number and its detail.
+fn row(number: u8, detail: u32) -> Answer
+    ensures { λ r. ⌜ r ≡ answer number detail ⌝ }
+{
+    Answer { number, detail }
+}
+
 impl Refusal {
     // The number in document 01's table, with the detail.
     pub fn answer(self) -> Answer
         ensures { λ r. ⌜ r ≡ numbered self ⌝ }
     {
         match self {
-            Refusal::ModeCount => Answer {
-                number: 1,
-                detail: 0,
-            },
-            Refusal::StartMode => Answer {
-                number: 2,
-                detail: 0,
-            },
-            Refusal::ArcLists => Answer {
-                number: 3,
-                detail: 0,
-            },
-            Refusal::ColourCount => Answer {
-                number: 4,
-                detail: 0,
-            },
-            Refusal::UnfitArc(arc) => Answer {
-                number: 5,
-                detail: arc,
-            },
-            Refusal::Levels => Answer {
-                number: 6,
-                detail: 0,
-            },
-            Refusal::Product => Answer {
-                number: 7,
-                detail: 0,
-            },
-            Refusal::WorkingSpace => Answer {
-                number: 8,
-                detail: 0,
-            },
-            Refusal::PlanBuffer => Answer {
-                number: 9,
-                detail: 0,
-            },
-            Refusal::NoPlan => Answer {
-                number: 10,
-                detail: 0,
-            },
-            Refusal::PlanLength => Answer {
-                number: 11,
-                detail: 0,
-            },
-            Refusal::ArcNumber(position) => Answer {
-                number: 12,
-                detail: position,
-            },
-            Refusal::OtherMode(position) => Answer {
-                number: 13,
-                detail: position,
-            },
-            Refusal::OpenCycle => Answer {
-                number: 14,
-                detail: 0,
-            },
-            Refusal::ImpossibleStep(step) => Answer {
-                number: 15,
-                detail: step,
-            },
-            Refusal::FallingCycle => Answer {
-                number: 16,
-                detail: 0,
-            },
-            Refusal::MissingColour(colour) => Answer {
-                number: 17,
-                detail: colour,
-            },
-            Refusal::NoSuchColour => Answer {
-                number: 18,
-                detail: 0,
-            },
+            Refusal::ModeCount => row(1, 0),
+            Refusal::StartMode => row(2, 0),
+            Refusal::ArcLists => row(3, 0),
+            Refusal::ColourCount => row(4, 0),
+            Refusal::UnfitArc(arc) => row(5, arc),
+            Refusal::Levels => row(6, 0),
+            Refusal::Product => row(7, 0),
+            Refusal::WorkingSpace => row(8, 0),
+            Refusal::PlanBuffer => row(9, 0),
+            Refusal::NoPlan => row(10, 0),
+            Refusal::PlanLength => row(11, 0),
+            Refusal::ArcNumber(position) => row(12, position),
+            Refusal::OtherMode(position) => row(13, position),
+            Refusal::OpenCycle => row(14, 0),
+            Refusal::ImpossibleStep(step) => row(15, step),
+            Refusal::FallingCycle => row(16, 0),
+            Refusal::MissingColour(colour) => row(17, colour),
+            Refusal::NoSuchColour => row(18, 0),
         }
     }
 }
@@ -124,10 +77,7 @@ impl Verdict {
         ensures { λ r. ⌜ r ≡ answerOf self ⌝ }
     {
         match self {
-            Verdict::Yes => Answer {
-                number: 0,
-                detail: 0,
-            },
+            Verdict::Yes => row(0, 0),
             Verdict::Refused(refusal) => refusal.answer(),
         }
     }

@@ -1,4 +1,4 @@
--- `Verdict::answer` meets its contract: the yes is 0, and a refusal has its row of the table. Assumes nothing.
+-- `Verdict::answer` meets its contract: 0 for yes, else the refusal's answer. Assumes nothing.
 use mathlib.Core.Path.{sym, ap, _∙_}
 use borrow.Author.Needs.{needs}
 use Rattle.refusals.specs.Refusals.{answerOf}
@@ -8,6 +8,9 @@ use Rattle.refusals.proofs.Verdict.answer.Tie as tie
 enum-told : tie.Need-enum-told
 enum-told c = search needs
 
+row-requires : tie.Need-row-requires
+row-requires c κs = search needs
+
 enum-known-self : tie.Need-enum-known-self
 enum-known-self c = search needs
 
@@ -15,10 +18,10 @@ answer-requires : tie.Need-answer-requires
 answer-requires c κs = search needs
 
 returns : tie.Need-returns
-returns c = sym (ap answerOf (c .enum-told .given .1))
+returns c = c .row .ensures ∙ sym (ap answerOf (c .before .enum-told .given .1))
 
 returns-2 : tie.Need-returns-2
 returns-2 c = c .answer .ensures ∙ sym (ap answerOf (c .before .before .self .given .1))
 
 pub answer-spec : {M : Type 1} → statement M
-answer-spec = tie.close (tie.spec enum-told enum-known-self answer-requires returns returns-2)
+answer-spec = tie.close (tie.spec enum-told row-requires enum-known-self answer-requires returns returns-2)

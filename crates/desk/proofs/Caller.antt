@@ -1,0 +1,110 @@
+-- What a C caller learns from the word that each of the two calls answers. Assumes nothing.
+use mathlib.Core.Path.{_≡_, refl, sym, ap, _∙_}
+use mathlib.Core.List.{List}
+use mathlib.Core.Logic.{_↔_, _⊎_, inl, inr}
+use Prim.Native.Nat.{ℕ, _+_}
+use native.Mathlib.Omega.{arith}
+use lib.ListN.{length, take, replicate}
+use Rattle.refusals.specs.declared.Refusal.{Refusal}
+use Rattle.refusals.specs.declared.Verdict.{Verdict}
+use Rattle.refusals.specs.declared.Verdict.the-variants.{Yes, Refused}
+use Rattle.refusals.specs.Refusals.{numbered, answerOf}
+use Rattle.model.specs.Automaton.{Automaton}
+use Rattle.model.specs.Lists.{Lists, automatonOf}
+use Rattle.model.specs.Plans.{SomePlan}
+use Rattle.judge.specs.Judged.{judged, Right}
+use Rattle.judge.proofs.Judged.{judged-yes}
+use Rattle.search.specs.declared.Searched.{Searched}
+use Rattle.search.specs.declared.Searched.the-variants as outcome
+use Rattle.search.specs.Search.{searchAnswer, searchable, Found, Answered, none, found, SearchOf}
+use Rattle.search.proofs.Demand3.{plan-searchable, search-judged, search-ten}
+use Rattle.desk.specs.Packing.{judgeAnswer, numberIn, detailIn, prefixIn, cycleIn}
+use Rattle.desk.specs.Desk.{deskJudged, DeskSearched}
+use Rattle.desk.proofs.Details.{refusal-number}
+use Rattle.desk.proofs.Sizes.{judge-fields, search-fields}
+use Rattle.desk.proofs.Unpacked.{Parts, unpacked}
+
+-- 0 is the number of the yes alone
+yes-number : (v : Verdict) → (answerOf v .number ≡ 0) ↔ (v ≡ Yes)
+yes-number Yes = (λ e. refl, λ e. refl)
+yes-number (Refused r) = (λ e. absurd (omega (arith, refusal-number r)), λ e. ap (λ (v : Verdict). answerOf v .number) e)
+
+-- in search, that of a plan alone, and the word has its two lengths
+plan-parts : (x : Searched) {r : ℕ} → Parts r (searchAnswer x) → numberIn r ≡ 0 → x ≡ outcome.Plan (prefixIn r) (cycleIn r)
+plan-parts (outcome.Plan p q) parts e = cc
+plan-parts (outcome.Refused y) parts e = absurd (omega (arith, refusal-number y))
+
+-- where none of 1 to 9 applies, the number is 0 or 10
+answered-number : {g : Automaton} {b c : ℕ} {plan plan′ : List ℕ} {x : Searched} → Answered g b c plan plan′ x
+    → (searchAnswer x .answer .number ≡ 0) ⊎ (searchAnswer x .answer .number ≡ 10)
+answered-number (none e) = inr refl
+answered-number (found f) = inl refl
+
+-- where it is 10, the plan buffer is untouched
+answered-kept : {g : Automaton} {b c : ℕ} {plan plan′ : List ℕ} {x : Searched} → Answered g b c plan plan′ x
+    → searchAnswer x .answer .number ≡ 10 → plan′ ≡ plan
+answered-kept (none e) ten = e
+answered-kept (found f) ten = absurd (omega arith)
+
+-- and a plan that is answered is in the plan buffer
+answered-found : {g : Automaton} {b c p q : ℕ} {plan plan′ : List ℕ} → Answered g b c plan plan′ (outcome.Plan p q) → Found g b c p q plan plan′
+answered-found (found f) = f
+
+module _ (n s k : ℕ) (l : Lists) (b c p q : ℕ) (w : List ℕ) where
+  -- judging: the number and the detail are those of the verdict, and p and q are 0
+  pub desk-judge-parts : Parts (deskJudged n s k l b c p q w) (judgeAnswer (judged n s k l b c p q w))
+  desk-judge-parts = unpacked (judgeAnswer (judged n s k l b c p q w)) (judge-fields n s k l b c p q w)
+
+  -- the number is 0 exactly where all is right
+  pub desk-judged : (numberIn (deskJudged n s k l b c p q w) ≡ 0) ↔ Right n s k l b c p q w
+  desk-judged =
+      let number = desk-judge-parts .number in
+      let yes = yes-number (judged n s k l b c p q w) in
+      let right = judged-yes n s k l b c p q w in
+      (λ e. right .0 (yes .0 (sym number ∙ e)), λ r. number ∙ yes .1 (right .1 r))
+
+module _ {n s k : ℕ} {l : Lists} {b c : ℕ} {work plan work′ plan′ : List ℕ} {r : ℕ} (h : DeskSearched n s k l b c work plan work′ plan′ r) where
+  -- search: the parts are those of what is answered
+  desk-search-parts : Parts r (searchAnswer (h .searched))
+  desk-search-parts = rw (h .word) (unpacked (searchAnswer (h .searched)) (search-fields n s k l b c (h .claim)))
+
+  -- where the number is 0, a plan is answered, with the two lengths in the word
+  desk-answer : numberIn r ≡ 0 → SearchOf n s k l b c work plan work′ plan′ (outcome.Plan (prefixIn r) (cycleIn r))
+  desk-answer e = rw (plan-parts (h .searched) desk-search-parts e) at (h .claim)
+
+  -- it is in the plan buffer,
+  pub desk-plan : numberIn r ≡ 0 → Found (automatonOf n s k l) b c (prefixIn r) (cycleIn r) plan plan′
+  desk-plan e =
+      let claim = desk-answer e in
+      answered-found (claim .decided (plan-searchable n s k l b c claim) .answered)
+
+  -- and judging says yes to it
+  pub desk-plan-judged : numberIn r ≡ 0
+      → numberIn (deskJudged n s k l b c (prefixIn r) (cycleIn r) (take (prefixIn r + cycleIn r) plan′)) ≡ 0
+  desk-plan-judged e =
+      let w = take (prefixIn r + cycleIn r) plan′ in
+      desk-judge-parts n s k l b c (prefixIn r) (cycleIn r) w .number
+      ∙ yes-number (judged n s k l b c (prefixIn r) (cycleIn r) w) .1 (search-judged n s k l b c (desk-answer e))
+
+  -- where one of 1 to 9 applies, the word is its number and detail, and both buffers are untouched
+  pub desk-refused : (x : Refusal) → searchable n s k l b c (length work) (length plan) ≡ Refused x
+      → (numberIn r ≡ numbered x .number) × (detailIn r ≡ numbered x .detail) × (prefixIn r ≡ 0) × (cycleIn r ≡ 0) × (work′ ≡ work) × (plan′ ≡ plan)
+  desk-refused x e =
+      let (answer, works, plans) = h .claim .refused x e in
+      let parts = rw answer at desk-search-parts in
+      (parts .number, parts .detail, parts .prefix, parts .cycle, works, plans)
+
+  module _ (through : searchable n s k l b c (length work) (length plan) ≡ Yes) where
+    -- where none of them applies, the number is 10 exactly where no plan of any length is feasible and accepted
+    pub desk-ten : (numberIn r ≡ 10) ↔ (SomePlan (automatonOf n s k l) b c → ⊥)
+    desk-ten = rw (desk-search-parts .number) (search-ten n s k l b c (h .claim) through)
+
+    -- it is 0 or 10, and the working space is zero
+    pub desk-done : ((numberIn r ≡ 0) ⊎ (numberIn r ≡ 10)) × (work′ ≡ replicate (length work) 0)
+    desk-done =
+        let done = h .claim .decided through in
+        (rw (desk-search-parts .number) (answered-number (done .answered)), done .cleared)
+
+    -- after 10 the plan buffer is untouched
+    pub desk-none : numberIn r ≡ 10 → plan′ ≡ plan
+    desk-none ten = answered-kept (h .claim .decided through .answered) (sym (desk-search-parts .number) ∙ ten)

@@ -1,0 +1,193 @@
+-- How large the numbers and the details of refusals are: a detail of judging is at most twice the longest plan that it takes, one of 1 to 9 of
+-- search at most 255. Assumes nothing.
+use mathlib.Core.Path.{_≡_, refl}
+use mathlib.Core.Bool.{Bool, true, false, not, _&&_, _||_}
+use mathlib.Core.List.{List, [], _∷_}
+use Prim.Native.Nat.{ℕ, zero, suc, _+_, _*_, _^_, _≤_, _<_}
+use native.Mathlib.Nat.{sub-zero}
+use native.Mathlib.Omega.{arith}
+use lib.Dec.{leb, ltb, eqb}
+use lib.ListN.{length, getD, take, drop, length-drop, length-take}
+use lib.Seq.{drop-cons, drop-length}
+use Rattle.limits.specs.Ceilings.{modesMost, arcsMost, coloursMost, boundMost, productMost, planMost, workSpace, planBuffer}
+use Rattle.walks.specs.declared.Step.{Step}
+use Rattle.walks.specs.declared.Step.the-variants.{To, Impossible}
+use Rattle.walks.specs.BoundedStep.{stepped}
+use Rattle.refusals.specs.declared.Refusal.{Refusal}
+use Rattle.refusals.specs.declared.Refusal.the-variants.{ModeCount, StartMode, ArcLists, ColourCount, UnfitArc, Levels, Product, WorkingSpace, PlanBuffer, NoPlan, PlanLength, ArcNumber, OtherMode, OpenCycle, ImpossibleStep, FallingCycle, MissingColour, NoSuchColour}
+use Rattle.refusals.specs.declared.Verdict.{Verdict}
+use Rattle.refusals.specs.declared.Verdict.the-variants.{Yes, Refused}
+use Rattle.refusals.specs.Refusals.{numbered, answerOf, refuse, andThen}
+use Rattle.refusals.proofs.Scan.{Scan}
+use Rattle.model.specs.declared.Arc.{Arc}
+use Rattle.model.specs.Automaton.{Automaton, arcAt, meets, noArc}
+use Rattle.model.specs.Lists.{Lists, arcsOf, automatonOf}
+use Rattle.model.specs.Fitness.{unfitLists, header, headerOf, unfitArc, arcsVerdict, fitness, levelsOf}
+use Rattle.model.specs.Plans.{Plan}
+use Rattle.model.proofs.Arcs.{arcs-length}
+use Rattle.model.proofs.Fitness.{header-yes, fitness-yes}
+use Rattle.judge.specs.Shape.{planOf, lengthOf, numbers, numbersThenChain, modeAfter, closing, shape}
+use Rattle.judge.specs.Charges.{ranOn, ran, afterRan, secondRound, rounds, charges}
+use Rattle.judge.specs.Colours.{someArc, coloursOf}
+use Rattle.judge.specs.Judged.{servesOf, judgedPlan, judgedLevels, judged}
+use Rattle.judge.proofs.Firsts.{numbers-scan, chain-scan, missing-scan}
+use Rattle.judge.proofs.Shapes.{length-yes, shape-yes}
+use Rattle.search.specs.Search.{spaces, searchable}
+
+-- the numbers of refusals are not 0, and fit a byte
+pub refusal-number : (r : Refusal) → (0 < numbered r .number) × (numbered r .number < 2 ^ 8)
+refusal-number ModeCount = omega arith
+refusal-number StartMode = omega arith
+refusal-number ArcLists = omega arith
+refusal-number ColourCount = omega arith
+refusal-number (UnfitArc d) = omega arith
+refusal-number Levels = omega arith
+refusal-number Product = omega arith
+refusal-number WorkingSpace = omega arith
+refusal-number PlanBuffer = omega arith
+refusal-number NoPlan = omega arith
+refusal-number PlanLength = omega arith
+refusal-number (ArcNumber d) = omega arith
+refusal-number (OtherMode d) = omega arith
+refusal-number OpenCycle = omega arith
+refusal-number (ImpossibleStep d) = omega arith
+refusal-number FallingCycle = omega arith
+refusal-number (MissingColour d) = omega arith
+refusal-number NoSuchColour = omega arith
+
+-- the detail of a verdict is at most d
+pub record Within (d : ℕ) (v : Verdict) : Type 0 where
+  pub detail : answerOf v .detail ≤ d
+
+module _ {d : ℕ} where
+  yes-within : Within d Yes
+  yes-within = omega arith
+
+  -- by rows: that of the row, or that of what is checked after it
+  refuse-within : (t : Bool) (r : Refusal) {v : Verdict} → Within d (Refused r) → Within d v → Within d (refuse t r v)
+  refuse-within true r here after = here
+  refuse-within false r here after = after
+
+  then-within : (u : Verdict) {v : Verdict} → Within d u → (u ≡ Yes → Within d v) → Within d (andThen u v)
+  then-within Yes first second = second refl
+  then-within (Refused r) first second = first
+
+  -- of a scan, by its places
+  module _ {test : ℕ → Bool} {r : ℕ → Refusal} {n : ℕ} {v : ℕ → Verdict} (scan : Scan test r n v)
+      (low : (k : ℕ) → k < n → Within d (Refused (r k))) where
+    from-within : (i k : ℕ) → k + i ≡ n → Within d (v k)
+    from-within zero k e = let end : k ≡ n = omega arith in rw (end, scan .ends) (omega arith)
+    from-within (suc i) k e =
+        rw (scan .turn k (omega arith)) (refuse-within (test k) (r k) (low k (omega arith)) (from-within i (suc k) (omega arith)))
+
+    scan-within : Within d (v 0)
+    scan-within = from-within n 0 (omega arith)
+
+  -- 1 to 4
+  header-within : (n s k sources targets weights colours : ℕ) → Within d (header n s k sources targets weights colours)
+  unfolding header
+  header-within n s k sources targets weights colours =
+      refuse-within (eqb n 0 || ltb modesMost n) ModeCount (omega arith)
+      (refuse-within (leb n s) StartMode (omega arith)
+      (refuse-within (unfitLists sources targets weights colours) ArcLists (omega arith)
+      (refuse-within (ltb coloursMost k) ColourCount (omega arith)
+      yes-within)))
+
+  -- 5
+  arcs-within : (n power : ℕ) (l : List Arc) → length l ≤ d → Within d (arcsVerdict n power l 0)
+  unfolding arcsVerdict
+  arcs-within n power l h = scan-within {v = λ k. arcsVerdict n power (drop k l) k} scan (λ k i. omega arith)
+    where
+      scan : Scan (λ j. unfitArc n power (getD l j noArc)) UnfitArc (length l) (λ k. arcsVerdict n power (drop k l) k)
+      scan = record { turn = λ k h. rw (drop-cons l k noArc h) refl; ends = rw (drop-length l) refl; tells = λ x y e. cc }
+
+  -- 1 to 5
+  fitness-within : (n s k : ℕ) (l : Lists) → arcsMost ≤ d → Within d (fitness n s k l)
+  unfolding fitness
+  fitness-within n s k l h =
+      then-within (headerOf n s k l) (header-within n s k _ _ _ _) λ e.
+      arcs-within n (2 ^ k) (arcsOf l) (omega (arith, header-yes n s k l .0 e .few-arcs, arcs-length l (length (l .sources)) 0))
+
+  -- 6
+  levels-within : (b c : ℕ) → Within d (levelsOf b c)
+  unfolding levelsOf
+  levels-within b c = refuse-within (ltb boundMost b || ltb b c) Levels (omega arith) yes-within
+
+  -- 7 to 9
+  spaces-within : (n k b words bytes : ℕ) → Within d (spaces n k b words bytes)
+  unfolding spaces
+  spaces-within n k b words bytes =
+      refuse-within (ltb productMost (n * (b + 1))) Product (omega arith)
+      (refuse-within (ltb words (workSpace k n b)) WorkingSpace (omega arith)
+      (refuse-within (ltb bytes (planBuffer k n b)) PlanBuffer (omega arith)
+      yes-within))
+
+  -- 11
+  length-within : (p q long : ℕ) → Within d (lengthOf p q long)
+  unfolding lengthOf
+  length-within p q long = refuse-within (eqb q 0 || not (eqb (p + q) long) || ltb planMost long) PlanLength (omega arith) yes-within
+
+  -- 12 and 13
+  chain-within : (g : Automaton) (s : ℕ) (w : List ℕ) → length w ≤ d → Within d (numbersThenChain g s w 0)
+  chain-within g s w h =
+      then-within (numbers (length (g .arcs)) w 0) (scan-within (numbers-scan (length (g .arcs)) w) λ k i. omega arith) λ _.
+      scan-within (chain-scan g s w) λ k i. omega arith
+
+  -- 14
+  closing-within : (g : Automaton) (p : ℕ) (w : List ℕ) → Within d (closing g p w)
+  unfolding closing
+  closing-within g p w =
+      refuse-within (not (eqb (modeAfter g (g .start) (take p w)) (modeAfter g (g .start) w))) OpenCycle (omega arith) yes-within
+
+  -- 11 to 14
+  shape-within : (g : Automaton) (p q : ℕ) (w : List ℕ) → planMost ≤ d → Within d (shape g p q w)
+  unfolding shape
+  shape-within g p q w h =
+      then-within (lengthOf p q (length w)) (length-within p q (length w)) λ e.
+      then-within (numbersThenChain g (g .start) w 0) (chain-within g (g .start) w (omega (arith, length-yes p q w .0 e .short))) λ _.
+      closing-within g p w
+
+  module _ (g : Automaton) (b : ℕ) where
+    -- 15 of a list whose first step has the number i, and of what follows it
+    ran-within : (w : List ℕ) (i e : ℕ) {f : ℕ → Verdict} → i + length w ≤ d → ((x : ℕ) → Within d (f x)) → Within d (afterRan (ran g b w i e) f)
+    unfolding ran
+    ran-within [] i e h after = after e
+    ran-within (a ∷ w) i e {f} h after = on (stepped b (arcAt g a .weight) e) λ y. ran-within w (suc i) y (omega arith) after
+      where
+        on : (s : Step) → ((y : ℕ) → Within d (afterRan (ran g b w (suc i) y) f)) → Within d (afterRan (ranOn s i (ran g b w (suc i))) f)
+        on (To y) ih = ih y
+        on Impossible ih = omega arith
+
+    -- 15 and 16
+    charges-within : (c : ℕ) (p : Plan) → length (p .prefix) + 2 * length (p .cycle) ≤ d → Within d (charges g b c p)
+    unfolding charges rounds secondRound
+    charges-within c p h =
+        ran-within (p .prefix) 0 c (omega arith) λ e.
+        ran-within (p .cycle) (length (p .prefix)) e (omega arith) λ x.
+        ran-within (p .cycle) (length (p .prefix) + length (p .cycle)) x (omega arith) λ y.
+        refuse-within (ltb x e && ltb y x) FallingCycle (omega arith) yes-within
+
+  -- 17
+  colours-within : (g : Automaton) (w : List ℕ) → g .colours ≤ d → Within d (coloursOf g w)
+  unfolding coloursOf
+  colours-within g w h = rw sub-zero at (scan-within (missing-scan (λ j. someArc (meets g j) w) (g .colours)) λ k i. omega arith)
+
+-- judging: the largest are those of 15, a step of run-in, first and second round
+pub judged-within : (n s k : ℕ) (l : Lists) (b c p q : ℕ) (w : List ℕ) → Within (2 * planMost) (judged n s k l b c p q w)
+unfolding judged judgedLevels judgedPlan servesOf
+judged-within n s k l b c p q w =
+    let g = automatonOf n s k l in
+    let m = planOf p w in
+    then-within (fitness n s k l) (fitness-within n s k l (omega arith)) λ fit.
+    then-within (levelsOf b c) (levels-within b c) λ _.
+    then-within (shape g p q w) (shape-within g p q w (omega arith)) λ e.
+    let h = shape-yes g p q w .0 e .0 in
+    then-within (charges g b c m) (charges-within g b c m (omega (arith, h .short, length-take p w, length-drop p w))) λ _.
+    colours-within g (m .cycle) (omega (arith, fitness-yes n s k l .0 fit .1 .few-colours))
+
+-- 1 to 9 of search: the largest are those of 5, an arc
+pub searchable-within : (n s k : ℕ) (l : Lists) (b c words bytes : ℕ) → Within arcsMost (searchable n s k l b c words bytes)
+unfolding searchable
+searchable-within n s k l b c words bytes =
+    then-within (fitness n s k l) (fitness-within n s k l (omega arith)) λ _.
+    then-within (levelsOf b c) (levels-within b c) λ _. spaces-within n k b words bytes

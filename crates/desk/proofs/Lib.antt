@@ -1,0 +1,6 @@
+-- Laws of the C entries: no detail is large (Details), each part of an answer is within its bits (Sizes), and the word gives the parts back
+-- (Unpacked). Caller says what a C caller learns.
+pub mod Details
+pub mod Sizes
+pub mod Unpacked
+pub mod Caller

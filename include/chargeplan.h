@@ -1,0 +1,171 @@
+/*
+ * chargeplan.h: judging and searching charge plans for a knee joint, from C99 or C++ on 64-bit x86.
+ *
+ * Link with target/staticlib/libdesk.a, which `rt staticlib desk` writes once the code is proved. There is no set-up, no
+ * state between calls and no heap: calls on different buffers may run at the same time, and no input traps or hangs a call.
+ *
+ * THE MODEL. n modes, numbered from 0; a start mode; k colours (duties), numbered from 0; and arcs (moves), numbered from 0 in
+ * the order given. Arc a leaves mode sources[a], enters mode targets[a], changes the charge by weights[a], and meets colour j
+ * where bit j of colours[a] is set.
+ *   n        1 to 64
+ *   start    0 to n - 1
+ *   k        0 to 4
+ *   arcs     0 to 255: four lists of one length
+ *   weight   -10,000 to 10,000
+ *   b        the bound (battery size), 0 to 8,191
+ *   c        the credit (charge on arrival), 0 to b
+ * A step on an arc of weight w takes charge e to the smaller of e + w and b. It is possible where e + w is at least 0.
+ *
+ * THE PLAN. Arc numbers, a byte each: p of them are the prefix (run-in) and then q, at least 1, the cycle (round), which is
+ * repeated for ever. It begins in the start mode with charge c, each arc leaves the mode that the one before entered, and the
+ * cycle ends in the mode where it began. It is feasible where every step is possible in any number of rounds, and accepted
+ * where each of the k colours stands on some arc of the cycle.
+ *
+ * LISTS AND BUFFERS. Each is a pointer and the number of its elements. The caller sees to two things: the memory is as long as
+ * the call is told and aligned as its type asks, and no two lists or buffers of one call share memory. A list without elements
+ * may be a null pointer with length 0. The lists are only read.
+ *
+ * THE ANSWER. One word of 64 bits: bits 0 to 7 the number, 8 to 31 the detail, 32 to 47 p, 48 to 63 q. Number 0 is yes, or a
+ * plan found; every other number is a refusal (below), the first that applies, top to bottom. The detail is 0 where none is
+ * named below. p and q are 0 but for a plan found.
+ */
+#ifndef CHARGEPLAN_H
+#define CHARGEPLAN_H
+
+#include <stddef.h>
+#include <stdint.h>
+
+#ifdef __cplusplus
+extern "C" {
+#endif
+
+/* The ceilings. */
+#define CHARGEPLAN_MODES_MOST 64u
+#define CHARGEPLAN_ARCS_MOST 255u
+#define CHARGEPLAN_COLOURS_MOST 4u
+#define CHARGEPLAN_BOUND_MOST 8191u
+#define CHARGEPLAN_PRODUCT_MOST 8192u /* of n * (b + 1), for search */
+#define CHARGEPLAN_PLAN_MOST 65535u   /* arcs of a plan, for judging */
+#define CHARGEPLAN_WEIGHT_LEAST (-10000)
+#define CHARGEPLAN_WEIGHT_MOST 10000
+
+/* Buffers of these sizes serve every search that 7 does not refuse: some 328 KB and 49 KB. */
+#define CHARGEPLAN_WORK_WORDS_MOST (4u * (CHARGEPLAN_COLOURS_MOST + 1u) * CHARGEPLAN_PRODUCT_MOST)
+#define CHARGEPLAN_PLAN_BYTES_MOST ((CHARGEPLAN_COLOURS_MOST + 2u) * CHARGEPLAN_PRODUCT_MOST)
+
+/* The numbers. Search answers 0 to 10; judging 0 to 6 and 11 to 17. */
+enum {
+    CHARGEPLAN_YES = 0,              /* the plan is feasible and accepted; from search: a plan is in the buffer */
+    CHARGEPLAN_MODE_COUNT = 1,       /* n is 0 or above 64 */
+    CHARGEPLAN_START_MODE = 2,       /* the start mode is not below n */
+    CHARGEPLAN_ARC_LISTS = 3,        /* the four arc lists are of unequal length, or longer than 255 */
+    CHARGEPLAN_COLOUR_COUNT = 4,     /* k is above 4 */
+    CHARGEPLAN_UNFIT_ARC = 5,        /* a source or target not below n, a weight outside its range, or a colour bit at or
+                                        above k; detail: the lowest such arc */
+    CHARGEPLAN_LEVELS = 6,           /* b is above 8,191, or c is above b */
+    CHARGEPLAN_PRODUCT = 7,          /* n * (b + 1) is above 8,192 */
+    CHARGEPLAN_WORKING_SPACE = 8,    /* the working space is too short */
+    CHARGEPLAN_PLAN_BUFFER = 9,      /* the plan buffer is too short */
+    CHARGEPLAN_NO_PLAN = 10,         /* no plan of any length is feasible and accepted */
+    CHARGEPLAN_PLAN_LENGTH = 11,     /* q is 0, p + q is not the plan's length, or that length is above 65,535 */
+    CHARGEPLAN_ARC_NUMBER = 12,      /* an arc number is not below the number of arcs; detail: its first position */
+    CHARGEPLAN_OTHER_MODE = 13,      /* an arc leaves another mode than the current one; detail: its first position */
+    CHARGEPLAN_OPEN_CYCLE = 14,      /* the cycle ends in another mode than it began */
+    CHARGEPLAN_IMPOSSIBLE_STEP = 15, /* a step is impossible; detail: the step, counted from 0 over the prefix, the first
+                                        and the second round of the cycle */
+    CHARGEPLAN_FALLING_CYCLE = 16,   /* the first and the second round each end lower than they began */
+    CHARGEPLAN_MISSING_COLOUR = 17   /* a colour stands on no arc of the cycle; detail: the lowest such colour */
+};
+
+/*
+ * Judging: whether a plan, of any origin, is feasible and accepted for the model.
+ *
+ * n, start, k                         numbers of modes, start mode, number of colours
+ * sources, targets, weights, colours  the arcs, four lists, each with its length
+ * c, b                                the credit and the bound
+ * p, q                                lengths of the plan's prefix and cycle
+ * plan                                p + q arc numbers, with the list's length
+ *
+ * Answers 0 for yes, else the first of 1 to 6 and 11 to 17 that applies. Any number may be given: none is cut down before it is
+ * looked at.
+ */
+uint64_t chargeplan_judge(
+    uint32_t n, uint32_t start, uint32_t k,
+    const uint8_t *sources, size_t sources_length,
+    const uint8_t *targets, size_t targets_length,
+    const int16_t *weights, size_t weights_length,
+    const uint8_t *colours, size_t colours_length,
+    uint32_t c, uint32_t b,
+    uint32_t p, uint32_t q,
+    const uint8_t *plan, size_t plan_length);
+
+/*
+ * Search: a plan for the model, or that there is none.
+ *
+ * n to b as in judging.
+ * work   working space: at least chargeplan_work_words(n, k, b) words; what stands in it does not matter
+ * plan   plan buffer: at least chargeplan_plan_bytes(n, k, b) bytes; what stands in it does not matter
+ *
+ * Answers 0 with p and q: the prefix is in plan[0] to plan[p - 1] and the cycle in plan[p] to plan[p + q - 1]; later bytes are
+ * as they were. Which feasible and accepted plan it is, is free. Answers 10 where no plan of any length is feasible and
+ * accepted: a larger b may help, another buffer will not. After either, every word of work is 0, and after 10 plan is as it
+ * was. Else answers the first of 1 to 9 that applies; work and plan are then as they were.
+ */
+uint64_t chargeplan_search(
+    uint32_t n, uint32_t start, uint32_t k,
+    const uint8_t *sources, size_t sources_length,
+    const uint8_t *targets, size_t targets_length,
+    const int16_t *weights, size_t weights_length,
+    const uint8_t *colours, size_t colours_length,
+    uint32_t c, uint32_t b,
+    uint16_t *work, size_t work_length,
+    uint8_t *plan, size_t plan_length);
+
+/* The number of an answer. */
+static inline uint32_t chargeplan_number(uint64_t answer)
+{
+    return (uint32_t)(answer & 0xffu);
+}
+
+/* The detail of an answer. */
+static inline uint32_t chargeplan_detail(uint64_t answer)
+{
+    return (uint32_t)((answer >> 8) & 0xffffffu);
+}
+
+/* p of a plan found: the length of its prefix. */
+static inline uint32_t chargeplan_prefix(uint64_t answer)
+{
+    return (uint32_t)((answer >> 32) & 0xffffu);
+}
+
+/* q of a plan found: the length of its cycle. */
+static inline uint32_t chargeplan_cycle(uint64_t answer)
+{
+    return (uint32_t)(answer >> 48);
+}
+
+/* Whether search refuses n, k and b whatever the lists and buffers are (1, 4, 6 or 7). */
+static inline int chargeplan_unsearchable(uint32_t n, uint32_t k, uint32_t b)
+{
+    return n == 0 || n > CHARGEPLAN_MODES_MOST || k > CHARGEPLAN_COLOURS_MOST || b > CHARGEPLAN_BOUND_MOST
+        || n * (b + 1) > CHARGEPLAN_PRODUCT_MOST;
+}
+
+/* The words of working space that search needs, 4 * (k + 1) * n * (b + 1); 0 where it refuses n, k and b in any case. */
+static inline size_t chargeplan_work_words(uint32_t n, uint32_t k, uint32_t b)
+{
+    return chargeplan_unsearchable(n, k, b) ? 0 : (size_t)4 * (k + 1) * n * (b + 1);
+}
+
+/* The bytes of plan buffer that search needs, (k + 2) * n * (b + 1); 0 where it refuses n, k and b in any case. */
+static inline size_t chargeplan_plan_bytes(uint32_t n, uint32_t k, uint32_t b)
+{
+    return chargeplan_unsearchable(n, k, b) ? 0 : (size_t)(k + 2) * n * (b + 1);
+}
+
+#ifdef __cplusplus
+}
+#endif
+
+#endif

@@ -1,0 +1,173 @@
+#include "plain.h"
+
+static struct verdict verdict(uint32_t number, uint32_t detail)
+{
+    struct verdict v = {number, detail};
+    return v;
+}
+
+static int unfit_arc(const struct model *m, size_t a)
+{
+    return m->sources[a] >= m->n || m->targets[a] >= m->n || m->weights[a] < -10000 || m->weights[a] > 10000
+        || m->colours[a] >> m->k != 0;
+}
+
+struct verdict plain_fitness(const struct model *m, uint32_t c, uint32_t b)
+{
+    size_t a;
+
+    if (m->n == 0 || m->n > 64)
+        return verdict(1, 0);
+    if (m->start >= m->n)
+        return verdict(2, 0);
+    if (m->targets_length != m->sources_length || m->weights_length != m->sources_length
+        || m->colours_length != m->sources_length || m->sources_length > 255)
+        return verdict(3, 0);
+    if (m->k > 4)
+        return verdict(4, 0);
+    for (a = 0; a < m->sources_length; a++)
+        if (unfit_arc(m, a))
+            return verdict(5, (uint32_t)a);
+    if (b > 8191 || c > b)
+        return verdict(6, 0);
+    return verdict(0, 0);
+}
+
+/* 11 to 14. */
+static struct verdict plain_shape(const struct model *m, uint32_t p, uint32_t q, const uint8_t *plan, size_t length)
+{
+    uint32_t mode = m->start, begin = m->start;
+    size_t i;
+
+    if (q == 0 || (uint64_t)p + q != length || length > 65535)
+        return verdict(11, 0);
+    for (i = 0; i < length; i++)
+        if (plan[i] >= m->sources_length)
+            return verdict(12, (uint32_t)i);
+    for (i = 0; i < length; i++) {
+        if (m->sources[plan[i]] != mode)
+            return verdict(13, (uint32_t)i);
+        if (i == p)
+            begin = mode;
+        mode = m->targets[plan[i]];
+    }
+    return mode == begin ? verdict(0, 0) : verdict(14, 0);
+}
+
+/* 15 and 16: prefix, first and second round, step by step. */
+static struct verdict plain_charges(const struct model *m, uint32_t c, uint32_t b, uint32_t p, uint32_t q, const uint8_t *plan)
+{
+    int64_t charge = c, starts[3] = {0, 0, 0};
+    uint64_t step, steps = (uint64_t)p + 2 * (uint64_t)q;
+
+    for (step = 0; step < steps; step++) {
+        uint64_t at = step < (uint64_t)p + q ? step : step - q;
+
+        if (step == p)
+            starts[0] = charge;
+        if (step == (uint64_t)p + q)
+            starts[1] = charge;
+        charge += m->weights[plan[at]];
+        if (charge < 0)
+            return verdict(15, (uint32_t)step);
+        if (charge > (int64_t)b)
+            charge = b;
+    }
+    starts[2] = charge;
+    return starts[1] < starts[0] && starts[2] < starts[1] ? verdict(16, 0) : verdict(0, 0);
+}
+
+/* 17. */
+static struct verdict plain_colours(const struct model *m, uint32_t p, uint32_t q, const uint8_t *plan)
+{
+    uint32_t j, i;
+
+    for (j = 0; j < m->k; j++) {
+        int met = 0;
+
+        for (i = 0; i < q; i++)
+            met = met || (m->colours[plan[p + i]] >> j & 1) != 0;
+        if (!met)
+            return verdict(17, j);
+    }
+    return verdict(0, 0);
+}
+
+struct verdict plain_judge(const struct model *m, uint32_t c, uint32_t b, uint32_t p, uint32_t q, const uint8_t *plan, size_t length)
+{
+    struct verdict v = plain_fitness(m, c, b);
+
+    if (v.number == 0)
+        v = plain_shape(m, p, q, plan, length);
+    if (v.number == 0)
+        v = plain_charges(m, c, b, p, q, plan);
+    if (v.number == 0)
+        v = plain_colours(m, p, q, plan);
+    return v;
+}
+
+/* The pair of a mode and a charge after an arc, or -1 where the arc does not leave the pair or is not possible there. */
+static int pair_after(const struct model *m, uint32_t b, uint32_t pair, size_t a)
+{
+    int32_t charge = (int32_t)(pair % (b + 1)) + m->weights[a];
+
+    if (m->sources[a] != pair / (b + 1) || charge < 0)
+        return -1;
+    if (charge > (int32_t)b)
+        charge = (int32_t)b;
+    return m->targets[a] * (int)(b + 1) + charge;
+}
+
+/* reach[x]: the pairs that are reached from pair x by one arc or more, a bit for each. */
+static void close_pairs(const struct model *m, uint32_t b, uint32_t pairs, uint64_t *reach)
+{
+    uint32_t x, y;
+    size_t a;
+
+    for (x = 0; x < pairs; x++) {
+        reach[x] = 0;
+        for (a = 0; a < m->sources_length; a++) {
+            int to = pair_after(m, b, x, a);
+
+            if (to >= 0)
+                reach[x] |= (uint64_t)1 << to;
+        }
+    }
+    for (y = 0; y < pairs; y++)
+        for (x = 0; x < pairs; x++)
+            if (reach[x] >> y & 1)
+                reach[x] |= reach[y];
+}
+
+/* The colours on the arcs that lead from the pairs between which and x there are walks both ways to such pairs. */
+static uint32_t colours_around(const struct model *m, uint32_t b, uint32_t pairs, const uint64_t *reach, uint32_t x)
+{
+    uint32_t y, met = 0;
+    size_t a;
+
+    for (y = 0; y < pairs; y++)
+        for (a = 0; a < m->sources_length; a++) {
+            int to = pair_after(m, b, y, a);
+
+            if (to >= 0 && (reach[x] >> y & 1) && (reach[to] >> x & 1))
+                met |= m->colours[a];
+        }
+    return met;
+}
+
+/*
+ * In a plan the pair at the beginning of a round comes again, since there are few pairs; so there is a plan exactly where from some
+ * pair within reach a walk of one arc or more leads back to it and meets every colour.
+ */
+int plain_has_plan(const struct model *m, uint32_t c, uint32_t b)
+{
+    uint64_t reach[PLAIN_PAIRS_MOST];
+    uint32_t pairs = m->n * (b + 1), first = m->start * (b + 1) + c, all = (1u << m->k) - 1, x;
+
+    close_pairs(m, b, pairs, reach);
+    for (x = 0; x < pairs; x++)
+        if ((x == first || (reach[first] >> x & 1)) && (reach[x] >> x & 1)
+            && (colours_around(m, b, pairs, reach, x) & all) == all)
+            return 1;
+    return 0;
+}

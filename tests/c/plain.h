@@ -1,0 +1,41 @@
+/*
+ * Judging and the existence of a plan, as plainly as document 01 has them and with no code of the library: what the C tests compare
+ * with.
+ */
+#ifndef PLAIN_H
+#define PLAIN_H
+
+#include <stddef.h>
+#include <stdint.h>
+
+/* A model as a call is lent it: the four lists may be of unequal length, and null where they have none. */
+struct model {
+    uint32_t n, start, k;
+    const uint8_t *sources;
+    size_t sources_length;
+    const uint8_t *targets;
+    size_t targets_length;
+    const int16_t *weights;
+    size_t weights_length;
+    const uint8_t *colours;
+    size_t colours_length;
+};
+
+/* A number of document 01's table with its detail. */
+struct verdict {
+    uint32_t number, detail;
+};
+
+/* 1 to 6; number 0 where none applies. */
+struct verdict plain_fitness(const struct model *m, uint32_t c, uint32_t b);
+
+/* 1 to 6 and 11 to 17; number 0 is yes. */
+struct verdict plain_judge(const struct model *m, uint32_t c, uint32_t b, uint32_t p, uint32_t q, const uint8_t *plan, size_t length);
+
+/* The most pairs of a mode and a charge that plain_has_plan takes: n * (b + 1). */
+enum { PLAIN_PAIRS_MOST = 64 };
+
+/* Whether a plan of any length is feasible and accepted, for a fit model and right levels with few pairs. */
+int plain_has_plan(const struct model *m, uint32_t c, uint32_t b);
+
+#endif

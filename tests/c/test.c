@@ -1,0 +1,56 @@
+/*
+ * The C entries with valid, edge and broken inputs, and with random ones against the plain reading of document 01.
+ *
+ *     test [RANDOM]    RANDOM: how many random models, 200,000 where it is left out
+ *
+ * A line for each test with its checks; the last line is 'N passed, M failed', and the exit status is 0 where none failed.
+ */
+#include "calls.h"
+
+#include <stdio.h>
+#include <stdlib.h>
+
+static unsigned random_models = 200000;
+
+static void test_random_models(void)
+{
+    test_random(random_models);
+}
+
+static const struct {
+    const char *name;
+    void (*run)(void);
+} tests[] = {
+    {"examples", test_examples},
+    {"1, 2 and 4: numbers", test_numbers},
+    {"3: lists", test_lists},
+    {"5: arcs", test_arcs},
+    {"6: levels", test_levels},
+    {"7 to 9: buffers", test_buffers},
+    {"11 to 14: shape of a plan", test_shape},
+    {"11, 12 and 15 at the greatest length", test_long},
+    {"15 to 17: charges and colours", test_charges},
+    {"search", test_search},
+    {"random models and plans", test_random_models},
+};
+
+int main(int argc, char **argv)
+{
+    unsigned passed = 0, failed = 0;
+    size_t i;
+
+    if (argc > 1)
+        random_models = (unsigned)strtoul(argv[1], NULL, 10);
+    for (i = 0; i < sizeof tests / sizeof tests[0]; i++) {
+        unsigned long checks_before = checks, failures_before = failures;
+
+        tests[i].run();
+        printf("C %s: %lu checks, %lu failed\n", tests[i].name, checks - checks_before, failures - failures_before);
+        if (failures == failures_before)
+            passed++;
+        else
+            failed++;
+    }
+    printf("%u passed, %u failed\n", passed, failed);
+    return failed == 0 ? 0 : 1;
+}
