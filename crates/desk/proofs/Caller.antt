@@ -17,7 +17,7 @@ use Rattle.judge.proofs.Judged.{judged-yes}
 use Rattle.search.specs.declared.Searched.{Searched}
 use Rattle.search.specs.declared.Searched.the-variants as outcome
 use Rattle.search.specs.Search.{searchAnswer, searchable, Found, Answered, none, found, SearchOf}
-use Rattle.search.proofs.Demand3.{plan-searchable, search-judged, search-ten}
+use Rattle.search.proofs.Demand3.{answered-found, plan-searchable, search-judged, search-ten}
 use Rattle.desk.specs.Packing.{judgeAnswer, numberIn, detailIn, prefixIn, cycleIn}
 use Rattle.desk.specs.Desk.{deskJudged, DeskSearched}
 use Rattle.desk.proofs.Details.{refusal-number}
@@ -45,10 +45,6 @@ answered-kept : {g : Automaton} {b c : ℕ} {plan plan′ : List ℕ} {x : Searc
     → searchAnswer x .answer .number ≡ 10 → plan′ ≡ plan
 answered-kept (none e) ten = e
 answered-kept (found f) ten = absurd (omega arith)
-
--- and a plan that is answered is in the plan buffer
-answered-found : {g : Automaton} {b c p q : ℕ} {plan plan′ : List ℕ} → Answered g b c plan plan′ (outcome.Plan p q) → Found g b c p q plan plan′
-answered-found (found f) = f
 
 module _ (n s k : ℕ) (l : Lists) (b c p q : ℕ) (w : List ℕ) where
   -- judging: the number and the detail are those of the verdict, and p and q are 0

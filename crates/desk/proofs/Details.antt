@@ -7,8 +7,7 @@ use Prim.Native.Nat.{ℕ, zero, suc, _+_, _*_, _^_, _≤_, _<_}
 use native.Mathlib.Nat.{sub-zero}
 use native.Mathlib.Omega.{arith}
 use lib.Dec.{leb, ltb, eqb}
-use lib.ListN.{length, getD, take, drop, length-drop, length-take}
-use lib.Seq.{drop-cons, drop-length}
+use lib.ListN.{length, take, length-drop, length-take}
 use Rattle.limits.specs.Ceilings.{modesMost, arcsMost, coloursMost, boundMost, productMost, planMost, workSpace, planBuffer}
 use Rattle.walks.specs.declared.Step.{Step}
 use Rattle.walks.specs.declared.Step.the-variants.{To, Impossible}
@@ -20,12 +19,12 @@ use Rattle.refusals.specs.declared.Verdict.the-variants.{Yes, Refused}
 use Rattle.refusals.specs.Refusals.{numbered, answerOf, refuse, andThen}
 use Rattle.refusals.proofs.Scan.{Scan}
 use Rattle.model.specs.declared.Arc.{Arc}
-use Rattle.model.specs.Automaton.{Automaton, arcAt, meets, noArc}
+use Rattle.model.specs.Automaton.{Automaton, arcAt, meets}
 use Rattle.model.specs.Lists.{Lists, arcsOf, automatonOf}
-use Rattle.model.specs.Fitness.{unfitLists, header, headerOf, unfitArc, arcsVerdict, fitness, levelsOf}
+use Rattle.model.specs.Fitness.{unfitLists, header, headerOf, arcsVerdict, fitness, levelsOf}
 use Rattle.model.specs.Plans.{Plan}
 use Rattle.model.proofs.Arcs.{arcs-length}
-use Rattle.model.proofs.Fitness.{header-yes, fitness-yes}
+use Rattle.model.proofs.Fitness.{arcs-scan, header-yes, fitness-yes}
 use Rattle.judge.specs.Shape.{planOf, lengthOf, numbers, numbersThenChain, modeAfter, closing, shape}
 use Rattle.judge.specs.Charges.{ranOn, ran, afterRan, secondRound, rounds, charges}
 use Rattle.judge.specs.Colours.{someArc, coloursOf}
@@ -95,11 +94,7 @@ module _ {d : ℕ} where
 
   -- 5
   arcs-within : (n power : ℕ) (l : List Arc) → length l ≤ d → Within d (arcsVerdict n power l 0)
-  unfolding arcsVerdict
-  arcs-within n power l h = scan-within {v = λ k. arcsVerdict n power (drop k l) k} scan (λ k i. omega arith)
-    where
-      scan : Scan (λ j. unfitArc n power (getD l j noArc)) UnfitArc (length l) (λ k. arcsVerdict n power (drop k l) k)
-      scan = record { turn = λ k h. rw (drop-cons l k noArc h) refl; ends = rw (drop-length l) refl; tells = λ x y e. cc }
+  arcs-within n power l h = scan-within (arcs-scan n power l) (λ k i. omega arith)
 
   -- 1 to 5
   fitness-within : (n s k : ℕ) (l : Lists) → arcsMost ≤ d → Within d (fitness n s k l)

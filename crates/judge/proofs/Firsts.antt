@@ -32,18 +32,18 @@ mode-next g s (a ∷ w) zero h = refl
 mode-next g s (a ∷ w) (suc k) h = mode-next g (arcAt g a .target) w k (omega arith)
 
 -- an arc leaves another mode than the one that the arcs before it lead to
-abbrev pub strays : Automaton → ℕ → List ℕ → ℕ → Bool
-strays g s w j = not (eqb (arcAt g (getD w j 0) .source) (modeAfter g s (take j w)))
+abbrev pub leavesOther : Automaton → ℕ → List ℕ → ℕ → Bool
+leavesOther g s w j = not (eqb (arcAt g (getD w j 0) .source) (modeAfter g s (take j w)))
 
 -- 13 is a scan of the positions
-pub chain-scan : (g : Automaton) (s : ℕ) (w : List ℕ) → Scan (strays g s w) OtherMode (length w) (λ k. chain g (modeAfter g s (take k w)) (drop k w) k)
+pub chain-scan : (g : Automaton) (s : ℕ) (w : List ℕ) → Scan (leavesOther g s w) OtherMode (length w) (λ k. chain g (modeAfter g s (take k w)) (drop k w) k)
 unfolding chain
 chain-scan g s w =
     record { turn = λ k h. rw (drop-cons w k 0 h, mode-next g s w k h) refl; ends = rw (drop-length w) refl; tells = λ x y e. cc }
 
 -- 13 is answered with the first position whose arc leaves another mode than the one that the arcs before it lead to
-pub chain-first : (g : Automaton) (s : ℕ) (w : List ℕ) (d : ℕ) → (chain g s w 0 ≡ Refused (OtherMode d)) ↔ FirstOf (strays g s w) (length w) d
-chain-first g s w = scan-first (strays g s w) OtherMode (length w) (λ k. chain g (modeAfter g s (take k w)) (drop k w) k) (chain-scan g s w)
+pub chain-first : (g : Automaton) (s : ℕ) (w : List ℕ) (d : ℕ) → (chain g s w 0 ≡ Refused (OtherMode d)) ↔ FirstOf (leavesOther g s w) (length w) d
+chain-first g s w = scan-first (leavesOther g s w) OtherMode (length w) (λ k. chain g (modeAfter g s (take k w)) (drop k w) k) (chain-scan g s w)
 
 -- 17 is a scan of the colours
 pub missing-scan : (has : ℕ → Bool) (f : ℕ) → Scan (λ j. not (has j)) MissingColour f (λ k. missingFrom has (f - k) k)

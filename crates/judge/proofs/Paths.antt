@@ -25,7 +25,7 @@ use Rattle.model.specs.Lists.{held}
 use Rattle.model.proofs.Held.{arcIn, held-arc}
 use Rattle.judge.specs.Shape.{numbers, chain, numbersThenChain, modeAfter, closing, path}
 use Rattle.judge.proofs.Arcs.{path-arcs}
-use Rattle.judge.proofs.Firsts.{strays, chain-scan}
+use Rattle.judge.proofs.Firsts.{leavesOther, chain-scan}
 use Rattle.judge.proofs.Scans.{numbers-stop, numbers-on, numbers-end}
 
 -- 13 at position i, in mode s, where the arc there is one of the model
@@ -37,7 +37,7 @@ chain-at g s w i h q = rw (drop-cons w i 0 h, add-one i, held-arc g (getD w i 0)
 -- the arc at position p leaves the mode that the arcs before it lead to
 chain-source : (g : Automaton) (w : List ℕ) (s p : ℕ) → p < length w → chain g s w 0 ≡ Yes → arcAt g (getD w p 0) .source ≡ modeAfter g s (take p w)
 chain-source g w s p h e =
-    let none = scan-yes (strays g s w) OtherMode (length w) (λ k. chain g (modeAfter g s (take k w)) (drop k w) k) (chain-scan g s w) .0 e in
+    let none = scan-yes (leavesOther g s w) OtherMode (length w) (λ k. chain g (modeAfter g s (take k w)) (drop k w) k) (chain-scan g s w) .0 e in
     differ-no (arcAt g (getD w p 0) .source) (modeAfter g s (take p w)) .0 (none p h)
 
 -- the scan at position i, in mode s: the verdict on 12 and 13 is that on the rest, and the plan leads where the rest does

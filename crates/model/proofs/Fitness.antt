@@ -116,7 +116,7 @@ header-yes n s k l =
     )
 
 -- 5 is a scan of the arcs
-arcs-scan : (n power : ℕ) (l : List Arc) → Scan (λ j. unfitArc n power (getD l j noArc)) UnfitArc (length l) (λ k. arcsVerdict n power (drop k l) k)
+pub arcs-scan : (n power : ℕ) (l : List Arc) → Scan (λ j. unfitArc n power (getD l j noArc)) UnfitArc (length l) (λ k. arcsVerdict n power (drop k l) k)
 unfolding arcsVerdict
 arcs-scan n power l = record { turn = λ k h. rw (drop-cons l k noArc h) refl; ends = rw (drop-length l) refl; tells = λ x y e. cc }
 

@@ -13,8 +13,8 @@ use Rattle.model.specs.Plans
 use Rattle.model.specs.Plans.{Plan, Serves, SomePlan}
 use Rattle.nets.specs.Graph.{Leads}
 use Rattle.nets.specs.Net.{Usable, Lasts, Fits, AcceptedLasso}
-use Rattle.nets.specs.Table.{Reached, Peaks, Tours, KeptCycle, PeakCycle, PeakHit}
-use Rattle.nets.specs.Whole.{graphOf, whole, planOf}
+use Rattle.nets.specs.Table.{Reached, Peaks, Tours, KeptCycle, PeakCycle, PeakClosed}
+use Rattle.nets.specs.Whole.{graphOf, whole, lassoPlan}
 use Rattle.nets.proofs.Leads.{leads-weaken}
 use Rattle.nets.proofs.Criterion.{reached-lasso, criterion}
 use Rattle.nets.proofs.Decides.{decides}
@@ -52,7 +52,7 @@ module _ (g : Automaton) where
 
 module _ (g : Automaton) (b c : ℕ) where
   -- the plan with the prefix and the cycle of a lasso is one of the model, feasible and accepted
-  pub lasso-serves : (p : AcceptedLasso (whole g) b c) → Serves g b c (planOf p)
+  pub lasso-serves : (p : AcceptedLasso (whole g) b c) → Serves g b c (lassoPlan p)
   lasso-serves p =
       record {
         plan =
@@ -73,7 +73,7 @@ module _ (g : Automaton) (b c : ℕ) where
   reached-serves s e r k = lasso-serves (reached-lasso (whole g) b c s e r k)
 
   -- and a feasible and accepted plan of the model is a lasso, with the same prefix and cycle
-  pub serves-lasso : (p : Plan) → Serves g b c p → (l : AcceptedLasso (whole g) b c) × (planOf l ≡ p)
+  pub serves-lasso : (p : Plan) → Serves g b c p → (l : AcceptedLasso (whole g) b c) × (lassoPlan l ≡ p)
   serves-lasso p s = (
     record {
       prefix = p .prefix;
@@ -90,7 +90,7 @@ module _ (g : Automaton) (b c : ℕ) where
 
   -- some plan is feasible and accepted exactly where the net has a lasso
   pub whole-lasso : SomePlan g b c ↔ AcceptedLasso (whole g) b c
-  whole-lasso = (λ p. serves-lasso (p .0) (p .1) .0, λ l. (planOf l, lasso-serves l))
+  whole-lasso = (λ p. serves-lasso (p .0) (p .1) .0, λ l. (lassoPlan l, lasso-serves l))
 
   -- some plan is feasible and accepted exactly where a cycle from some peak keeps the peak and meets every colour
   pub plan-criterion : (high : ℕ → ℕ → ℕ) → Fit g → c ≤ b → Peaks (whole g) b c high → SomePlan g b c ↔ PeakCycle (whole g) b high
@@ -98,9 +98,9 @@ module _ (g : Automaton) (b c : ℕ) where
       let d = criterion (whole g) b c high (whole-fits g f) hc k in
       (λ p. d .0 (whole-lasso .0 p), λ q. whole-lasso .1 (d .1 q))
 
-  -- some plan is feasible and accepted exactly where the tour from some peak has a hit
+  -- some plan is feasible and accepted exactly where the tour from some peak has a closing arc
   pub plan-decided : (high : ℕ → ℕ → ℕ) (tour : ℕ → ℕ → ℕ → ℕ) → Fit g → c ≤ b → Peaks (whole g) b c high → Tours (whole g) b high tour
-      → SomePlan g b c ↔ PeakHit (whole g) b high tour
+      → SomePlan g b c ↔ PeakClosed (whole g) b high tour
   plan-decided high tour f hc k t =
       let d = decides (whole g) b c high tour (whole-fits g f) hc k t in
       (λ p. d .0 (whole-lasso .0 p), λ h. whole-lasso .1 (d .1 h))

@@ -73,7 +73,7 @@ pub record PeakCycle (g : Net) (b : ℕ) (high : ℕ → ℕ → ℕ) : Type 0 w
   pub cycle : KeptCycle g b mode peak
 
 -- an arc from an entry of the tour from mode s with charge e that closes a cycle: it comes to the last level, back to s, no lower than e
-pub record Hit (g : Net) (b s e : ℕ) (high : ℕ → ℕ → ℕ) : Type 0 where
+pub record ClosingArc (g : Net) (b s e : ℕ) (high : ℕ → ℕ → ℕ) : Type 0 where
   pub from : ℕ
   pub arc : ℕ
   pub charged : ℕ
@@ -85,10 +85,10 @@ pub record Hit (g : Net) (b s e : ℕ) (high : ℕ → ℕ → ℕ) : Type 0 whe
   pub back : g .graph .target arc ≡ s
   pub kept : e ≤ after b (g .graph .move arc) charged
 
--- some mode has a peak from which the tour has a hit
-pub record PeakHit (g : Net) (b : ℕ) (high : ℕ → ℕ → ℕ) (tour : ℕ → ℕ → ℕ → ℕ) : Type 0 where
+-- some mode has a peak from which the tour has a closing arc
+pub record PeakClosed (g : Net) (b : ℕ) (high : ℕ → ℕ → ℕ) (tour : ℕ → ℕ → ℕ → ℕ) : Type 0 where
   pub mode : ℕ
   pub peak : ℕ
   pub bounded : mode < g .modes
   pub listed : high 0 mode ≡ suc peak
-  pub hit : Hit g b mode peak (tour mode)
+  pub closes : ClosingArc g b mode peak (tour mode)

@@ -28,5 +28,5 @@ whole g =
     }
 
 -- the plan with a lasso's prefix and cycle
-abbrev pub planOf : {g : Net} {b c : ℕ} → AcceptedLasso g b c → Plan
-planOf p = record { prefix = p .prefix; cycle = p .cycle }
+abbrev pub lassoPlan : {g : Net} {b c : ℕ} → AcceptedLasso g b c → Plan
+lassoPlan p = record { prefix = p .prefix; cycle = p .cycle }

@@ -12,12 +12,12 @@ use Rattle.model.specs.Automaton.{Automaton}
 use Rattle.model.specs.Lists.{Lists, automatonOf}
 use Rattle.model.specs.Fitness.{Fit}
 use Rattle.nets.specs.Net.{Net, Usable, Lasts}
-use Rattle.nets.specs.Table.{next, Hit, KeptCycle}
+use Rattle.nets.specs.Table.{next, ClosingArc, KeptCycle}
 use Rattle.nets.specs.Whole.{whole}
-use Rattle.nets.proofs.Decides.{kept-hit, hit-kept}
+use Rattle.nets.proofs.Decides.{kept-closed, closed-kept}
 use Rattle.nets.proofs.Whole.{whole-usable-arc, whole-lasting-arc}
 use Rattle.passes.specs.Pass.{Pass, Ready, node, room}
-use Rattle.passes.specs.Queue.{nodeAt, chargeAt, Covers, Hits, Begun, Passed}
+use Rattle.passes.specs.Queue.{nodeAt, chargeAt, Covers, Closes, Begun, Passed}
 use Rattle.passes.specs.Trace.{Traced}
 use Rattle.passes.specs.Outcome.{Kept, Peaked, CyclePassed}
 use Rattle.passes.proofs.Nodes.{node-level, node-mode, nodes-first}
@@ -43,14 +43,14 @@ module _ (l : Lists) (n s k b : ℕ) (fit : Fit (automatonOf n s k l)) where
   net = whole model
 
   -- no arc comes to a charge above the bound
-  peaks-unstopped : {c head a tail : ℕ} {best w : List ℕ} {found : Bool} → Passed (peaksPass l n b) s c best w found head a tail
+  peaks-unclosed : {c head a tail : ℕ} {best w : List ℕ} {found : Bool} → Passed (peaksPass l n b) s c best w found head a tail
       → found ≡ false
-  peaks-unstopped {found = false} p = refl
-  peaks-unstopped {found = true} p =
-      let h = p .hits refl in
-      absurd (omega (arith, along-low (h .step), closes-at 0 (b + 1) (h .node) (h .charge) .0 (h .stops) .1))
+  peaks-unclosed {found = false} p = refl
+  peaks-unclosed {found = true} p =
+      let h = p .closing refl in
+      absurd (omega (arith, along-low (h .step), closes-at 0 (b + 1) (h .node) (h .charge) .0 (h .at-goal) .1))
 
-  -- the pass for the peaks is never stopped, and leaves the peaks
+  -- no arc closes a cycle in the pass for the peaks, and it leaves the peaks
   pub passed-peaked : (c : ℕ) {best w : List ℕ} {found : Bool} {head a tail : ℕ}
       → Ready (peaksPass l n b) (length best) (length w) → Passed (peaksPass l n b) s c best w found head a tail
       → Peaked (automatonOf n s k l) b c best w tail
@@ -62,7 +62,7 @@ module _ (l : Lists) (n s k b : ℕ) (fit : Fit (automatonOf n s k l)) where
       record {
         table =
             record {
-              closed = covered-closed P s k fit (Usable net) ok s c best w tail (fit .starts) from (p .closed (peaks-unstopped p));
+              closed = covered-closed P s k fit (Usable net) ok s c best w tail (fit .starts) from (p .covers (peaks-unclosed p));
               attained = λ j t x hj. listed-reached P s k fit (Usable net) ok s c best w tail (fit .starts) from j t x;
             };
         held = λ m hm. from .queue .held m;
@@ -78,13 +78,13 @@ module _ (l : Lists) (n s k b : ℕ) (fit : Fit (automatonOf n s k l)) where
       }
 
   module _ (m e : ℕ) (best w : List ℕ) (tail : ℕ) (hm : m < n) (from : Begun (cyclePass l n k b m e) m e best w tail) where
-    -- where every greatest charge is covered, no cycle from m keeps e: it would have a hit
+    -- where every greatest charge is covered, no cycle from m keeps e: an arc would close it
     cycle-none : ((v x : ℕ) → getD best v 0 ≡ x + 1 → (a : ℕ) → Covers (cyclePass l n k b m e) best a v x) → KeptCycle net b m e → ⊥
     cycle-none covers t =
         let P = cyclePass l n k b m e in
         let high : ℕ → ℕ → ℕ = λ j i. getD best (node n j i) 0 in
         let closed = covered-closed P s k fit (Lasts net) (whole-lasting-arc model) m e best w tail hm from covers in
-        let h : Hit net b m e high = kept-hit net b m e high closed t in
+        let h : ClosingArc net b m e high = kept-closed net b m e high closed t in
         let a = h .arc in
         let u = node n (next net k (h .from) a) (net .graph .target a) in
         let x = after b (net .graph .move a) (h .charged) in
@@ -93,17 +93,17 @@ module _ (l : Lists) (n s k b : ℕ) (fit : Fit (automatonOf n s k l)) where
         let passes = covers (node n (h .from) (net .graph .source a)) (h .charged) (omega (arith, h .listed)) a .passes u x d in
         closes-not (node n k m) e u x passes back (h .kept)
 
-    -- where arc a hits at entry head, the arcs to the entry and arc a are a cycle from m that keeps e
+    -- where arc a closes the cycle at entry head, the arcs to the entry and arc a are a cycle from m that keeps e
     cycle-arcs : (head a : ℕ) → Ready (cyclePass l n k b m e) (length best) (length w) → head < tail
-        → Hits (cyclePass l n k b m e) a (nodeAt w head) (chargeAt w head) → (arcs : List ℕ) → Traced w head 0 arcs
+        → Closes (cyclePass l n k b m e) a (nodeAt w head) (chargeAt w head) → (arcs : List ℕ) → Traced w head 0 arcs
         → Kept model b m e (arcs ++ (a ∷ []))
-    unfolding hit-kept
-    cycle-arcs head a r before hits arcs t =
+    unfolding closed-kept
+    cycle-arcs head a r before closes arcs t =
         let P = cyclePass l n k b m e in
-        let d = along-taken P s k fit (hits .step) in
-        let c = closes-at (node n k m) e (hits .node) (hits .charge) .0 (hits .stops) in
+        let d = along-taken P s k fit (closes .step) in
+        let c = closes-at (node n k m) e (closes .node) (closes .charge) .0 (closes .at-goal) in
         let high : ℕ → ℕ → ℕ = λ j i. suc (chargeAt w head) in
-        let hit : Hit net b m e high =
+        let closing : ClosingArc net b m e high =
         record {
           from = nodeAt w head / n;
           arc = a;
@@ -121,7 +121,7 @@ module _ (l : Lists) (n s k b : ℕ) (fit : Fit (automatonOf n s k l)) where
         traced-reached P s k fit (Lasts net) (whole-lasting-arc model) m e best w tail hm from head (nodeAt w head / n)
         (net .graph .source a) (chargeAt w head) arcs before refl (sym (d .leaves)) refl t
         in
-        record { cycle = hit-kept net b m e high hit (z .0); same = ap {B = List ℕ} (λ (y : List ℕ). y ++ (a ∷ [])) (z .1) }
+        record { cycle = closed-kept net b m e high closing (z .0); same = ap {B = List ℕ} (λ (y : List ℕ). y ++ (a ∷ [])) (z .1) }
 
   -- the pass from mode m with charge e finds a cycle that keeps e, or there is none
   pub passed-cycle : (m e : ℕ) {best w : List ℕ} {found : Bool} {head a tail : ℕ} → m < n
@@ -130,9 +130,9 @@ module _ (l : Lists) (n s k b : ℕ) (fit : Fit (automatonOf n s k l)) where
   passed-cycle m e {best} {w} {head = head} {a = a} {tail = tail} hm r p =
       let q = p .from .queue in
       record {
-        none = λ f. cycle-none m e best w tail hm (p .from) (p .closed f);
+        none = λ f. cycle-none m e best w tail hm (p .from) (p .covers f);
         few = λ f. subst (λ (y : ℕ). head < room y b) (r .table) (omega (arith, p .before f, queue-room q));
         linked = λ f. queue-linked r q (p .before f);
-        byte = λ f. omega (arith, p .hits f .step .known, r .few-arcs);
-        arcs = λ f. cycle-arcs m e best w tail hm (p .from) head a r (p .before f) (p .hits f);
+        byte = λ f. omega (arith, p .closing f .step .known, r .few-arcs);
+        arcs = λ f. cycle-arcs m e best w tail hm (p .from) head a r (p .before f) (p .closing f);
       }

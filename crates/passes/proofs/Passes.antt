@@ -8,8 +8,9 @@ use native.Mathlib.Decide.{ℕ-discrete, decLt}
 use lib.ListN.{length, getD, set, replicate, getD-replicate, List·getD-eq-default}
 use lib.Seq.{getD-set-same, getD-set-other}
 use borrow.Author.Count.{below-more}
-use Rattle.passes.specs.Pass.{Pass, Along, closes}
-use Rattle.passes.specs.Queue.{nodeAt, chargeAt, Entry, Queue, Pushed, Arrived, stops, knows, rises, Grown, Covers, Hits}
+use Rattle.limits.specs.Ceilings.{workWords}
+use Rattle.passes.specs.Pass.{Pass, Along, closesAt}
+use Rattle.passes.specs.Queue.{nodeAt, chargeAt, Entry, Queue, Pushed, Arrived, closed, knows, rises, Grown, Covers, Closes}
 use Rattle.passes.specs.Queue.{Tried, Visited, Begun, Treated, Passed}
 use Rattle.passes.proofs.Queue.{along-unique, sum-set, set-low, push-queue, push-grown}
 
@@ -34,7 +35,7 @@ grown-trans g h =
 -- an entry stays as it is
 pub entry-same : {best w best′ w′ : List ℕ} {tail tail′ : ℕ} (i : ℕ) → Grown best w tail best′ w′ tail′ → i < tail
     → (nodeAt w′ i ≡ nodeAt w i) × (chargeAt w′ i ≡ chargeAt w i)
-entry-same i g h = (g .kept (4 * i) (omega arith), g .kept (4 * i + 1) (omega arith))
+entry-same i g h = (g .kept (workWords * i) (omega arith), g .kept (workWords * i + 1) (omega arith))
 
 -- what is covered stays covered as the table rises
 covers-up : {P : Pass} {a v e : ℕ} (best best′ : List ℕ) → ((u : ℕ) → getD best u 0 ≤ getD best′ u 0) → Covers P best a v e
@@ -43,7 +44,7 @@ covers-up best best′ up c = record { knows = λ u x s. omega (arith, c .knows 
 
 -- an arc is covered by its one result
 covers-step : {P : Pass} {a v e u x : ℕ} (best : List ℕ) → Along P a v e u x → x + 1 ≤ getD best u 0
-    → closes (P .goal) (P .least) u x ≡ false → Covers P best a v e
+    → closesAt (P .goal) (P .least) u x ≡ false → Covers P best a v e
 covers-step {P} {a} {v} {e} {u} {x} best s h c =
     record {
       knows = λ u′ x′ s′. omega (arith, h, along-unique s s′ .1, ap (λ n. getD best n 0) (along-unique s s′ .0));
@@ -58,21 +59,21 @@ tried-covered {P} {best′ = best′} {a = a} {v = v} {e = e} q g c =
       queue = q;
       grown = g;
       covers = λ off i lo hi. subst (λ n. Covers P best′ n v e) {x = a} {y = i} (omega arith) c;
-      hits = λ on. absurd (false≢true on);
+      closing = λ on. absurd (false≢true on);
     }
 
 -- what is done where an arc arrives is what trying it asks
-pub arrived-tried : {P : Pass} {best w best′ w′ : List ℕ} {tail h a u x tail′ : ℕ} {hit : Bool} → Queue P best w tail → h < tail
+pub arrived-tried : {P : Pass} {best w best′ w′ : List ℕ} {tail h a u x tail′ : ℕ} {closes : Bool} → Queue P best w tail → h < tail
     → Along P a (nodeAt w h) (chargeAt w h) u x → u < length best
-    → Arrived (P .goal) (P .least) best w tail u x h a best′ w′ hit tail′
-    → Tried P best w tail a (a + 1) (nodeAt w h) (chargeAt w h) best′ w′ hit a tail′
-arrived-tried {P} {best} {w} {tail = tail} {u = u} {x = x} q hh s hu (stops c eb ew eh et) =
+    → Arrived (P .goal) (P .least) best w tail u x h a best′ w′ closes tail′
+    → Tried P best w tail a (a + 1) (nodeAt w h) (chargeAt w h) best′ w′ closes a tail′
+arrived-tried {P} {best} {w} {tail = tail} {u = u} {x = x} q hh s hu (closed c eb ew eh et) =
     rw (eb, ew, eh, et)
     (record {
       queue = q;
       grown = grown-refl best w tail;
       covers = λ off. absurd (true≢false off);
-      hits = λ on. record { node = u; charge = x; step = s; stops = c };
+      closing = λ on. record { node = u; charge = x; step = s; at-goal = c };
     })
 arrived-tried {P} {best} {w} {tail = tail} q hh s hu (knows c known eb ew eh et) =
     rw (eb, ew, eh, et) (tried-covered q (grown-refl best w tail) (covers-step best s known c))
@@ -95,40 +96,40 @@ tried-none {P} {best} {w} {tail} lo v e a q =
       queue = q;
       grown = grown-refl best w tail;
       covers = λ off i l h. absurd (omega arith);
-      hits = λ on. absurd (false≢true on);
+      closing = λ on. absurd (false≢true on);
     }
 
 -- some arcs and then some more
-pub tried-more : {P : Pass} {best w b1 w1 b2 w2 : List ℕ} {tail lo mid hi v e a1 a2 t1 t2 : ℕ} {hit : Bool}
-    → Tried P best w tail lo mid v e b1 w1 false a1 t1 → Tried P b1 w1 t1 mid hi v e b2 w2 hit a2 t2
-    → Tried P best w tail lo hi v e b2 w2 hit a2 t2
-tried-more {P} {b1 = b1} {b2 = b2} {lo = lo} {mid = mid} {hi = hi} {v = v} {e = e} {hit = hit} s r =
+pub tried-more : {P : Pass} {best w b1 w1 b2 w2 : List ℕ} {tail lo mid hi v e a1 a2 t1 t2 : ℕ} {closes : Bool}
+    → Tried P best w tail lo mid v e b1 w1 false a1 t1 → Tried P b1 w1 t1 mid hi v e b2 w2 closes a2 t2
+    → Tried P best w tail lo hi v e b2 w2 closes a2 t2
+tried-more {P} {b1 = b1} {b2 = b2} {lo = lo} {mid = mid} {hi = hi} {v = v} {e = e} {closes = closes} s r =
     record {
       queue = r .queue;
       grown = grown-trans (s .grown) (r .grown);
       covers = λ off i l h. go off i l h (decLt i mid);
-      hits = r .hits;
+      closing = r .closing;
     }
   where
-    go : hit ≡ false → (i : ℕ) → lo ≤ i → i < hi → Dec (i < mid) → Covers P b2 i v e
+    go : closes ≡ false → (i : ℕ) → lo ≤ i → i < hi → Dec (i < mid) → Covers P b2 i v e
     go off i l h (yes lt) = covers-up b1 b2 (r .grown .up) (s .covers refl i l lt)
     go off i l h (no ge) = r .covers off i (omega arith) h
 
--- where no arc hits, the number of the arc is free
-pub tried-free : {P : Pass} {best w best′ w′ : List ℕ} {tail lo hi v e a tail′ : ℕ} {hit : Bool} (a′ : ℕ) → hit ≡ false
-    → Tried P best w tail lo hi v e best′ w′ hit a tail′ → Tried P best w tail lo hi v e best′ w′ false a′ tail′
-tried-free a′ off t = record { queue = t .queue; grown = t .grown; covers = λ e. t .covers off; hits = λ on. absurd (false≢true on) }
+-- where no arc closes the cycle, the number of the arc is free
+pub tried-free : {P : Pass} {best w best′ w′ : List ℕ} {tail lo hi v e a tail′ : ℕ} {closes : Bool} (a′ : ℕ) → closes ≡ false
+    → Tried P best w tail lo hi v e best′ w′ closes a tail′ → Tried P best w tail lo hi v e best′ w′ false a′ tail′
+tried-free a′ off t = record { queue = t .queue; grown = t .grown; covers = λ e. t .covers off; closing = λ on. absurd (false≢true on) }
 
--- where an arc hits, the arcs after it need not be tried
-pub tried-hit : {P : Pass} {best w best′ w′ : List ℕ} {tail lo hi v e a tail′ : ℕ} {hit : Bool} (hi′ : ℕ) → hit ≡ true
-    → Tried P best w tail lo hi v e best′ w′ hit a tail′ → Tried P best w tail lo hi′ v e best′ w′ hit a tail′
-tried-hit hi′ on t =
-    record { queue = t .queue; grown = t .grown; covers = λ off. absurd (true≢false (sym on ∙ off)); hits = t .hits }
+-- where an arc closes the cycle, the arcs after it need not be tried
+pub tried-closed : {P : Pass} {best w best′ w′ : List ℕ} {tail lo hi v e a tail′ : ℕ} {closes : Bool} (hi′ : ℕ) → closes ≡ true
+    → Tried P best w tail lo hi v e best′ w′ closes a tail′ → Tried P best w tail lo hi′ v e best′ w′ closes a tail′
+tried-closed hi′ on t =
+    record { queue = t .queue; grown = t .grown; covers = λ off. absurd (true≢false (sym on ∙ off)); closing = t .closing }
 
 -- every arc is tried at an entry
-pub visited-tried : {P : Pass} {best w best′ w′ : List ℕ} {head tail a tail′ : ℕ} {hit : Bool}
-    → Tried P best w tail 0 (length (P .lists .sources)) (nodeAt w head) (chargeAt w head) best′ w′ hit a tail′
-    → Visited P best w tail head best′ w′ hit a tail′
+pub visited-tried : {P : Pass} {best w best′ w′ : List ℕ} {head tail a tail′ : ℕ} {closes : Bool}
+    → Tried P best w tail 0 (length (P .lists .sources)) (nodeAt w head) (chargeAt w head) best′ w′ closes a tail′
+    → Visited P best w tail head best′ w′ closes a tail′
 visited-tried t =
     record {
       queue = t .queue;
@@ -139,7 +140,7 @@ visited-tried t =
             knows = λ u x s. t .covers off i (omega arith) (s .known) .knows u x s;
             passes = λ u x s. t .covers off i (omega arith) (s .known) .passes u x s;
           };
-      hits = t .hits;
+      closing = t .closing;
     }
 
 -- an entry whose charge is no longer the greatest of its node asks nothing
@@ -150,7 +151,7 @@ visited-stale {P} {best} {w} {head} {tail} a q n =
       queue = q;
       grown = grown-refl best w tail;
       covers = λ off e. absurd (n e);
-      hits = λ on. absurd (false≢true on);
+      closing = λ on. absurd (false≢true on);
     }
 
 -- a table of zeros has 0 everywhere
@@ -212,8 +213,8 @@ begun-grown {s = s} b q g =
     }
 
 -- one entry more is treated
-pub treated-more : {P : Pass} {s c head tail a tail′ : ℕ} {best w best′ w′ : List ℕ} {hit : Bool} → hit ≡ false
-    → Treated P s c best w head tail → head < tail → Visited P best w tail head best′ w′ hit a tail′
+pub treated-more : {P : Pass} {s c head tail a tail′ : ℕ} {best w best′ w′ : List ℕ} {closes : Bool} → closes ≡ false
+    → Treated P s c best w head tail → head < tail → Visited P best w tail head best′ w′ closes a tail′
     → Treated P s c best′ w′ (head + 1) tail′
 treated-more {P} {head = head} {tail} {best = best} {w} {best′} {w′} off t h r =
     record {
@@ -237,32 +238,32 @@ treated-more {P} {head = head} {tail} {best = best} {w} {best′} {w′} off t h
     old i hi e n = move i (omega arith) n (covers-up best best′ (r .grown .up) (t .treated i hi (was i (omega arith) e) n))
 
 -- every entry is treated
-pub passed-closed : {P : Pass} {s c head tail : ℕ} {best w : List ℕ} (a : ℕ) → Treated P s c best w head tail → tail ≤ head
+pub passed-covered : {P : Pass} {s c head tail : ℕ} {best w : List ℕ} (a : ℕ) → Treated P s c best w head tail → tail ≤ head
     → Passed P s c best w false head a tail
-passed-closed {P} {s} {c} {head} {tail} {best} {w} a t h =
+passed-covered {P} {s} {c} {head} {tail} {best} {w} a t h =
     record {
       from = t .from;
-      closed = λ off. closed;
+      covers = λ off. covers;
       before = λ on. absurd (false≢true on);
-      hits = λ on. absurd (false≢true on);
+      closing = λ on. absurd (false≢true on);
     }
   where
-    closed : (v x : ℕ) → getD best v 0 ≡ x + 1 → (i : ℕ) → Covers P best i v x
-    closed v x hv i =
+    covers : (v x : ℕ) → getD best v 0 ≡ x + 1 → (i : ℕ) → Covers P best i v x
+    covers v x hv i =
         let n = t .from .queue .held v (omega arith) in
         let nb = n .before in
         let nc = n .charge in
         subst₂ (λ v e. Covers P best i v e) (n .node) (omega arith)
         (t .treated (n .index) (omega arith) (ap (λ k. getD best k 0) (n .node) ∙ sym (n .charge)) i)
 
--- an arc hits
-pub passed-hit : {P : Pass} {s c head tail a tail′ : ℕ} {best w best′ w′ : List ℕ} {hit : Bool} → hit ≡ true
-    → Treated P s c best w head tail → head < tail → Visited P best w tail head best′ w′ hit a tail′
+-- an arc closes the cycle
+pub passed-closed : {P : Pass} {s c head tail a tail′ : ℕ} {best w best′ w′ : List ℕ} {closes : Bool} → closes ≡ true
+    → Treated P s c best w head tail → head < tail → Visited P best w tail head best′ w′ closes a tail′
     → Passed P s c best′ w′ true head a tail′
-passed-hit {P} {head = head} {a = a} on t h r =
+passed-closed {P} {head = head} {a = a} on t h r =
     record {
       from = begun-grown (t .from) (r .queue) (r .grown);
-      closed = λ off. absurd (true≢false off);
+      covers = λ off. absurd (true≢false off);
       before = λ e. omega (arith, r .grown .more);
-      hits = λ e. let (n, c) = entry-same head (r .grown) h in subst₂ (λ v e. Hits P a v e) (sym n) (sym c) (r .hits on);
+      closing = λ e. let (n, c) = entry-same head (r .grown) h in subst₂ (λ v e. Closes P a v e) (sym n) (sym c) (r .closing on);
     }

@@ -11,6 +11,7 @@ use lib.Dec.{ltb}
 use lib.ListN.{length, getD, set, length-set, List·getD-eq-default}
 use lib.Seq.{getD-set-same, getD-set-other}
 use borrow.Author.Tests.{ltb-true}
+use Rattle.limits.specs.Ceilings.{workWords}
 use Rattle.walks.proofs.Weights.{stepped-to}
 use Rattle.model.specs.Automaton.{bit}
 use Rattle.model.specs.Lists.{arcOf}
@@ -102,7 +103,7 @@ entry-low {P} {best} {w} {tail} i q h = (go (decLt (nodeAt w i) (length best)), 
 
 -- an entry stands within the working space, and its number is a word
 pub entry-space : {P : Pass} {best w : List ℕ} {tail : ℕ} (i : ℕ) → Ready P (length best) (length w) → Queue P best w tail → i < tail
-    → (4 * i + 4 ≤ length w) × (i < wordCount)
+    → (workWords * i + workWords ≤ length w) × (i < wordCount)
 entry-space i r q h = (omega (arith, r .space, queue-room q), omega (arith, r .small, queue-room q))
 
 -- a charge up to the bound keeps the table low
@@ -142,62 +143,63 @@ queue-arrives {P} {best} {w} {tail} {h} {a} {v} {e} {u} {x} r q hh hu s =
       room = λ up. omega (arith, r .space, next-room u x q hu up low);
     }
 
+-- four stores from a word on keep the words before it
+sets-kept : (w : List ℕ) (at v x h a j : ℕ) → j < at
+    → getD (set (set (set (set w at v) (at + 1) x) (at + 2) h) (at + 3) a) j 0 ≡ getD w j 0
+sets-kept w at v x h a j l =
+    let n0 : j ≢ at = omega arith in
+    let n1 : j ≢ at + 1 = omega arith in
+    let n2 : j ≢ at + 2 = omega arith in
+    let n3 : j ≢ at + 3 = omega arith in
+    simp getD-set-other
+
 -- the four stores of a push
-pub push-sets : (w : List ℕ) (tail v x h a : ℕ) → 4 * tail + 4 ≤ length w
-    → Pushed w tail v x h a (set (set (set (set w (4 * tail) v) (4 * tail + 1) x) (4 * tail + 2) h) (4 * tail + 3) a)
+pub push-sets : (w : List ℕ) (tail v x h a : ℕ) → workWords * tail + workWords ≤ length w
+    → Pushed w tail v x h a
+    (set (set (set (set w (workWords * tail) v) (workWords * tail + 1) x) (workWords * tail + 2) h) (workWords * tail + 3) a)
 push-sets w tail v x h a fits =
-    let n01 : 4 * tail ≢ 4 * tail + 1 = omega arith in
-    let n02 : 4 * tail ≢ 4 * tail + 2 = omega arith in
-    let n03 : 4 * tail ≢ 4 * tail + 3 = omega arith in
-    let n12 : 4 * tail + 1 ≢ 4 * tail + 2 = omega arith in
-    let n13 : 4 * tail + 1 ≢ 4 * tail + 3 = omega arith in
-    let n23 : 4 * tail + 2 ≢ 4 * tail + 3 = omega arith in
-    let w1 = set w (4 * tail) v in
-    let w2 = set w1 (4 * tail + 1) x in
-    let w3 = set w2 (4 * tail + 2) h in
+    let at = workWords * tail in
+    let n01 : at ≢ at + 1 = omega arith in
+    let n02 : at ≢ at + 2 = omega arith in
+    let n03 : at ≢ at + 3 = omega arith in
+    let n12 : at + 1 ≢ at + 2 = omega arith in
+    let n13 : at + 1 ≢ at + 3 = omega arith in
+    let n23 : at + 2 ≢ at + 3 = omega arith in
+    let w1 = set w at v in
+    let w2 = set w1 (at + 1) x in
+    let w3 = set w2 (at + 2) h in
     record {
       size = simp length-set;
-      kept = λ j l. kept j l;
+      kept = sets-kept w at v x h a;
       node =
-          getD-set-other w3 (4 * tail + 3) (4 * tail) a 0 n03 ∙ getD-set-other w2 (4 * tail + 2) (4 * tail) h 0 n02
-          ∙ getD-set-other w1 (4 * tail + 1) (4 * tail) x 0 n01
-          ∙ getD-set-same w (4 * tail) v 0 (omega arith);
+          getD-set-other w3 (at + 3) at a 0 n03 ∙ getD-set-other w2 (at + 2) at h 0 n02 ∙ getD-set-other w1 (at + 1) at x 0 n01
+          ∙ getD-set-same w at v 0 (omega arith);
       charge =
-          getD-set-other w3 (4 * tail + 3) (4 * tail + 1) a 0 n13 ∙ getD-set-other w2 (4 * tail + 2) (4 * tail + 1) h 0 n12
-          ∙ getD-set-same w1 (4 * tail + 1) x 0 (simp length-set (omega arith));
-      parent =
-          getD-set-other w3 (4 * tail + 3) (4 * tail + 2) a 0 n23 ∙ getD-set-same w2 (4 * tail + 2) h 0 (simp length-set (omega arith));
-      number = getD-set-same w3 (4 * tail + 3) a 0 (simp length-set (omega arith));
+          getD-set-other w3 (at + 3) (at + 1) a 0 n13 ∙ getD-set-other w2 (at + 2) (at + 1) h 0 n12
+          ∙ getD-set-same w1 (at + 1) x 0 (simp length-set (omega arith));
+      parent = getD-set-other w3 (at + 3) (at + 2) a 0 n23 ∙ getD-set-same w2 (at + 2) h 0 (simp length-set (omega arith));
+      number = getD-set-same w3 (at + 3) a 0 (simp length-set (omega arith));
     }
-  where
-    kept : (j : ℕ) → j < 4 * tail
-        → getD (set (set (set (set w (4 * tail) v) (4 * tail + 1) x) (4 * tail + 2) h) (4 * tail + 3) a) j 0 ≡ getD w j 0
-    kept j l =
-        let n0 : j ≢ 4 * tail = omega arith in
-        let n1 : j ≢ 4 * tail + 1 = omega arith in
-        let n2 : j ≢ 4 * tail + 2 = omega arith in
-        let n3 : j ≢ 4 * tail + 3 = omega arith in
-        simp getD-set-other
 
 -- where the entries before tail are kept, one that follows from an earlier one still does ..
 made-kept : {P : Pass} {w w′ : List ℕ} {i tail : ℕ}
-    → ((j : ℕ) → j < 4 * tail → getD w′ j 0 ≡ getD w j 0) → i < tail → Made P w i → Made P w′ i
+    → ((j : ℕ) → j < workWords * tail → getD w′ j 0 ≡ getD w j 0) → i < tail → Made P w i → Made P w′ i
 made-kept {P} {w} {w′} {i} {tail} kept h m =
     let back = m .back in
-    let kp = kept (4 * i + 2) (omega arith) in
-    let p2 = kept (4 * parentAt w i) (omega arith) in
-    let p3 = kept (4 * parentAt w i + 1) (omega arith) in
+    let kp = kept (workWords * i + 2) (omega arith) in
+    let p2 = kept (workWords * parentAt w i) (omega arith) in
+    let p3 = kept (workWords * parentAt w i + 1) (omega arith) in
     record {
       back = omega arith;
       step =
-          along-cast (sym (kept (4 * i + 3) (omega arith))) (cc) (cc) (sym (kept (4 * i) (omega arith)))
-          (sym (kept (4 * i + 1) (omega arith)))
+          along-cast (sym (kept (workWords * i + 3) (omega arith))) (cc) (cc) (sym (kept (workWords * i) (omega arith)))
+          (sym (kept (workWords * i + 1) (omega arith)))
           (m .step);
     }
 
 -- .. and an entry for a node and its charge is still there
 entry-kept : {w w′ : List ℕ} {i tail tail′ v y : ℕ}
-    → ((j : ℕ) → j < 4 * tail → getD w′ j 0 ≡ getD w j 0) → tail ≤ tail′ → Entry w i tail v y → Entry w′ i tail′ v y
+    → ((j : ℕ) → j < workWords * tail → getD w′ j 0 ≡ getD w j 0) → tail ≤ tail′ → Entry w i tail v y → Entry w′ i tail′ v y
 entry-kept kept h m =
     let before = m .before in
     let charge = m .charge in
@@ -205,8 +207,8 @@ entry-kept kept h m =
       index = m .index;
       from = m .from;
       before = omega arith;
-      node = kept (4 * m .index) (omega arith) ∙ m .node;
-      charge = omega (arith, kept (4 * m .index + 1) (omega arith));
+      node = kept (workWords * m .index) (omega arith) ∙ m .node;
+      charge = omega (arith, kept (workWords * m .index + 1) (omega arith));
     }
 
 -- a word of the table that rises, and an entry for it, keep the invariant
@@ -215,8 +217,8 @@ module _ (P : Pass) (best w w′ : List ℕ) (tail v x h a : ℕ) (q : Queue P b
   push-made-new : Made P w′ tail
   push-made-new =
       let e1 = p .parent in
-      let e2 = p .kept (4 * h) (omega arith) in
-      let e3 = p .kept (4 * h + 1) (omega arith) in
+      let e2 = p .kept (workWords * h) (omega arith) in
+      let e3 = p .kept (workWords * h + 1) (omega arith) in
       record { back = omega arith; step = along-cast (sym (p .number)) (cc) (cc) (sym (p .node)) (sym (p .charge)) s }
 
   push-made : (i : ℕ) → 0 < i → i < tail + 1 → Made P w′ i
@@ -256,7 +258,7 @@ module _ (P : Pass) (best w w′ : List ℕ) (tail v x h a : ℕ) (q : Queue P b
           subst (λ n. chargeAt w′ n + 1 ≤ getD (set best v (x + 1)) (nodeAt w′ n) 0) (sym e)
           (rw (p .node, p .charge) (omega (arith, getD-set-same best v (x + 1) 0 hv)))
       go (no ne) =
-          rw (p .kept (4 * i) (omega arith), p .kept (4 * i + 1) (omega arith))
+          rw (p .kept (workWords * i) (omega arith), p .kept (workWords * i + 1) (omega arith))
           (omega (arith, q .known i (omega arith), push-up (nodeAt w i)))
 
   -- the invariant of the new state ..
@@ -280,7 +282,7 @@ pub ready-kept : {P : Pass} {m size m′ size′ : ℕ} → Ready P m size → m
 ready-kept r em es = rw (em, es) r
 
 -- there is a node, and room for the first entry
-pub ready-some : {P : Pass} {m size : ℕ} → Ready P m size → (0 < m) × (m ≤ wordCount) × (4 ≤ size)
+pub ready-some : {P : Pass} {m size : ℕ} → Ready P m size → (0 < m) × (m ≤ wordCount) × (workWords ≤ size)
 unfolding node
 ready-some {P} {m} r =
     let most = room-most m (P .bound) in

@@ -19,19 +19,19 @@ use Rattle.model.proofs.Arcs.{arcs-here, arcs-length}
 use Rattle.nets.specs.Net.{Net}
 use Rattle.nets.specs.Table.{next}
 use Rattle.nets.specs.Whole.{whole}
-use Rattle.passes.specs.Pass.{Pass, Along, closes, levelAfter, node}
+use Rattle.passes.specs.Pass.{Pass, Along, closesAt, levelAfter, node}
 use Rattle.passes.proofs.Nodes.{node-level, node-mode}
 
--- the pass stops exactly at the goal, with the least charge or more
-pub closes-at : (goal least u x : ℕ) → (closes goal least u x ≡ true) ↔ ((u ≡ goal) × (least ≤ x))
-unfolding closes
+-- an arc closes the cycle exactly where it comes to the goal with the least charge or more
+pub closes-at : (goal least u x : ℕ) → (closesAt goal least u x ≡ true) ↔ ((u ≡ goal) × (least ≤ x))
+unfolding closesAt
 closes-at goal least u x = (
   λ h. let q = and-eq-true-iff (eqb u goal) (leb least x) .0 h in (eqb-true u goal (q .0), leb-true least x (q .1)),
   λ h. rw (eq-eqb u goal (h .0), le-leb least x (h .1)) refl,
 )
 
--- where the pass goes on, it is not at the goal or has less
-pub closes-not : (goal least u x : ℕ) → closes goal least u x ≡ false → u ≡ goal → least ≤ x → ⊥
+-- where it does not, it is not at the goal or has less
+pub closes-not : (goal least u x : ℕ) → closesAt goal least u x ≡ false → u ≡ goal → least ≤ x → ⊥
 closes-not goal least u x h q k = false≢true (sym h ∙ closes-at goal least u x .1 (q, k))
 
 module _ (P : Pass) (s k : ℕ) where

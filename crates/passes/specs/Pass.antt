@@ -1,5 +1,5 @@
--- A pass over the nodes of a model, a node being a level and a mode: which arcs it follows, and where it stops. Document 001, section 2,
--- degeneralisation: "we split the states of A into levels"; section 4, FindMaxE.
+-- A pass over the nodes of a model, a node being a level and a mode: which arcs it follows, and which arc closes a cycle. Document 001,
+-- section 2, degeneralisation: "we split the states of A into levels"; section 4, FindMaxE.
 use Prim.Native.Nat.{ℕ, suc, _+_, _*_, _/_, _%_, _≤_, _<_}
 use mathlib.Core.Path.{_≡_}
 use mathlib.Core.Bool.{Bool, _&&_}
@@ -29,7 +29,8 @@ room m b = m * (b + 1)
 unfoldable pub levelAfter : ℕ → ℕ → ℕ → ℕ
 levelAfter last colours l = raisedIf (ltb l last && bit colours l) l
 
--- A pass: the arcs, the number of modes, the last level, the bound; it stops where an arc comes to the node goal with the charge least or more.
+-- A pass: the arcs, the number of modes, the last level, the bound; an arc that comes to the node goal with the charge least or more closes the
+-- cycle, and ends the pass.
 pub record Pass : Type 0 where
   pub lists : Lists
   pub modes : ℕ
@@ -45,9 +46,9 @@ pub record Along (P : Pass) (a v e u x : ℕ) : Type 0 where
   pub steps : stepped (P .bound) (arcOf (P .lists) a .weight) e ≡ To x
   pub enters : u ≡ node (P .modes) (levelAfter (P .last) (arcOf (P .lists) a .colours) (v / P .modes)) (arcOf (P .lists) a .target)
 
--- the pass stops where an arc comes to node u with charge x
-unfoldable pub closes : ℕ → ℕ → ℕ → ℕ → Bool
-closes goal least u x = eqb u goal && leb least x
+-- an arc that comes to node u with charge x closes the cycle
+unfoldable pub closesAt : ℕ → ℕ → ℕ → ℕ → Bool
+closesAt goal least u x = eqb u goal && leb least x
 
 -- What a pass asks of its numbers and lists, with a table of m nodes and a working space of size words.
 pub record Ready (P : Pass) (m size : ℕ) : Type 0 where

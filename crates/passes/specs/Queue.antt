@@ -5,7 +5,8 @@ use mathlib.Core.Bool.{Bool, true, false}
 use mathlib.Core.List.{List, [], _∷_}
 use Prim.Native.Nat.{ℕ, _+_, _*_, _≤_, _<_}
 use lib.ListN.{length, getD, set}
-use Rattle.passes.specs.Pass.{Pass, Along, closes}
+use Rattle.limits.specs.Ceilings.{workWords}
+use Rattle.passes.specs.Pass.{Pass, Along, closesAt}
 
 -- the numbers that a word holds, and a byte
 abbrev pub wordCount : ℕ
@@ -16,16 +17,16 @@ byteCount = 256
 
 -- Entry i: a node, the charge with which it was reached, the entry that it was reached from, and the arc.
 abbrev pub nodeAt : List ℕ → ℕ → ℕ
-nodeAt w i = getD w (4 * i) 0
+nodeAt w i = getD w (workWords * i) 0
 
 abbrev pub chargeAt : List ℕ → ℕ → ℕ
-chargeAt w i = getD w (4 * i + 1) 0
+chargeAt w i = getD w (workWords * i + 1) 0
 
 abbrev pub parentAt : List ℕ → ℕ → ℕ
-parentAt w i = getD w (4 * i + 2) 0
+parentAt w i = getD w (workWords * i + 2) 0
 
 abbrev pub numberAt : List ℕ → ℕ → ℕ
-numberAt w i = getD w (4 * i + 3) 0
+numberAt w i = getD w (workWords * i + 3) 0
 
 -- what the words of a list add up to
 unfoldable pub sum : List ℕ → ℕ
@@ -58,7 +59,7 @@ pub record Queue (P : Pass) (best w : List ℕ) (tail : ℕ) : Type 0 where
 -- w′ is w with the entry (v, x, h, a) at tail; what stands before tail is kept
 pub record Pushed (w : List ℕ) (tail v x h a : ℕ) (w′ : List ℕ) : Type 0 where
   pub size : length w′ ≡ length w
-  pub kept : (j : ℕ) → j < 4 * tail → getD w′ j 0 ≡ getD w j 0
+  pub kept : (j : ℕ) → j < workWords * tail → getD w′ j 0 ≡ getD w j 0
   pub node : nodeAt w′ tail ≡ v
   pub charge : chargeAt w′ tail ≡ x
   pub parent : parentAt w′ tail ≡ h
@@ -71,50 +72,51 @@ pub record Arrives (best w : List ℕ) (tail u x h a : ℕ) : Type 0 where
   pub low : x + 1 < wordCount
   pub parent : h < wordCount
   pub number : a < wordCount
-  pub room : getD best u 0 < x + 1 → 4 * tail + 4 ≤ length w
+  pub room : getD best u 0 < x + 1 → workWords * tail + workWords ≤ length w
 
--- What is done there: nothing where the pass stops, nothing where the table knows as much, and else the table rises and an entry is added.
-pub data Arrived (goal least : ℕ) (best w : List ℕ) (tail u x h a : ℕ) (best′ w′ : List ℕ) (hit : Bool) (tail′ : ℕ) : Type 0 where
-  stops : closes goal least u x ≡ true → best′ ≡ best → w′ ≡ w → hit ≡ true → tail′ ≡ tail
-      → Arrived goal least best w tail u x h a best′ w′ hit tail′
-  knows : closes goal least u x ≡ false → x + 1 ≤ getD best u 0 → best′ ≡ best → w′ ≡ w → hit ≡ false → tail′ ≡ tail
-      → Arrived goal least best w tail u x h a best′ w′ hit tail′
-  rises : closes goal least u x ≡ false → getD best u 0 < x + 1 → best′ ≡ set best u (x + 1) → Pushed w tail u x h a w′ → hit ≡ false
-      → tail′ ≡ tail + 1 → Arrived goal least best w tail u x h a best′ w′ hit tail′
+-- What is done there: nothing where the arc closes the cycle, nothing where the table knows as much, and else the table rises and an entry is
+-- added.
+pub data Arrived (goal least : ℕ) (best w : List ℕ) (tail u x h a : ℕ) (best′ w′ : List ℕ) (closes : Bool) (tail′ : ℕ) : Type 0 where
+  closed : closesAt goal least u x ≡ true → best′ ≡ best → w′ ≡ w → closes ≡ true → tail′ ≡ tail
+      → Arrived goal least best w tail u x h a best′ w′ closes tail′
+  knows : closesAt goal least u x ≡ false → x + 1 ≤ getD best u 0 → best′ ≡ best → w′ ≡ w → closes ≡ false → tail′ ≡ tail
+      → Arrived goal least best w tail u x h a best′ w′ closes tail′
+  rises : closesAt goal least u x ≡ false → getD best u 0 < x + 1 → best′ ≡ set best u (x + 1) → Pushed w tail u x h a w′ → closes ≡ false
+      → tail′ ≡ tail + 1 → Arrived goal least best w tail u x h a best′ w′ closes tail′
 
 -- a later state: entries are only added, and no word of the table falls
 pub record Grown (best w : List ℕ) (tail : ℕ) (best′ w′ : List ℕ) (tail′ : ℕ) : Type 0 where
   pub more : tail ≤ tail′
-  pub kept : (j : ℕ) → j < 4 * tail → getD w′ j 0 ≡ getD w j 0
+  pub kept : (j : ℕ) → j < workWords * tail → getD w′ j 0 ≡ getD w j 0
   pub up : (v : ℕ) → getD best v 0 ≤ getD best′ v 0
   pub best-size : length best′ ≡ length best
   pub size : length w′ ≡ length w
 
--- where arc a is possible at (v, e), the table knows what it comes to, and the pass does not stop there
+-- where arc a is possible at (v, e), the table knows what it comes to, and the arc does not close the cycle
 pub record Covers (P : Pass) (best : List ℕ) (a v e : ℕ) : Type 0 where
   pub knows : (u x : ℕ) → Along P a v e u x → x + 1 ≤ getD best u 0
-  pub passes : (u x : ℕ) → Along P a v e u x → closes (P .goal) (P .least) u x ≡ false
+  pub passes : (u x : ℕ) → Along P a v e u x → closesAt (P .goal) (P .least) u x ≡ false
 
--- arc a is possible at (v, e), and the pass stops where it comes to
-pub record Hits (P : Pass) (a v e : ℕ) : Type 0 where
+-- arc a is possible at (v, e), and closes the cycle
+pub record Closes (P : Pass) (a v e : ℕ) : Type 0 where
   pub node : ℕ
   pub charge : ℕ
   pub step : Along P a v e node charge
-  pub stops : closes (P .goal) (P .least) node charge ≡ true
+  pub at-goal : closesAt (P .goal) (P .least) node charge ≡ true
 
--- what trying the arcs from lo on and below hi at (v, e) gives: all are covered, or arc a hits
-pub record Tried (P : Pass) (best w : List ℕ) (tail lo hi v e : ℕ) (best′ w′ : List ℕ) (hit : Bool) (a tail′ : ℕ) : Type 0 where
+-- what trying the arcs from lo on and below hi at (v, e) gives: all are covered, or arc a closes the cycle
+pub record Tried (P : Pass) (best w : List ℕ) (tail lo hi v e : ℕ) (best′ w′ : List ℕ) (closes : Bool) (a tail′ : ℕ) : Type 0 where
   pub queue : Queue P best′ w′ tail′
   pub grown : Grown best w tail best′ w′ tail′
-  pub covers : hit ≡ false → (i : ℕ) → lo ≤ i → i < hi → Covers P best′ i v e
-  pub hits : hit ≡ true → Hits P a v e
+  pub covers : closes ≡ false → (i : ℕ) → lo ≤ i → i < hi → Covers P best′ i v e
+  pub closing : closes ≡ true → Closes P a v e
 
 -- what a visit of entry head gives: the same for every arc, or nothing where the entry's charge is no longer the greatest of its node
-pub record Visited (P : Pass) (best w : List ℕ) (tail head : ℕ) (best′ w′ : List ℕ) (hit : Bool) (a tail′ : ℕ) : Type 0 where
+pub record Visited (P : Pass) (best w : List ℕ) (tail head : ℕ) (best′ w′ : List ℕ) (closes : Bool) (a tail′ : ℕ) : Type 0 where
   pub queue : Queue P best′ w′ tail′
   pub grown : Grown best w tail best′ w′ tail′
-  pub covers : hit ≡ false → getD best (nodeAt w head) 0 ≡ chargeAt w head + 1 → (i : ℕ) → Covers P best′ i (nodeAt w head) (chargeAt w head)
-  pub hits : hit ≡ true → Hits P a (nodeAt w head) (chargeAt w head)
+  pub covers : closes ≡ false → getD best (nodeAt w head) 0 ≡ chargeAt w head + 1 → (i : ℕ) → Covers P best′ i (nodeAt w head) (chargeAt w head)
+  pub closing : closes ≡ true → Closes P a (nodeAt w head) (chargeAt w head)
 
 -- a queue from the first entry (s, c)
 pub record Begun (P : Pass) (s c : ℕ) (best w : List ℕ) (tail : ℕ) : Type 0 where
@@ -128,9 +130,9 @@ pub record Treated (P : Pass) (s c : ℕ) (best w : List ℕ) (head tail : ℕ) 
   pub from : Begun P s c best w tail
   pub treated : (i : ℕ) → i < head → getD best (nodeAt w i) 0 ≡ chargeAt w i + 1 → (a : ℕ) → Covers P best a (nodeAt w i) (chargeAt w i)
 
--- what a pass leaves: every greatest charge is covered, or arc a hits at entry head
+-- what a pass leaves: every greatest charge is covered, or arc a closes the cycle at entry head
 pub record Passed (P : Pass) (s c : ℕ) (best w : List ℕ) (found : Bool) (head a tail : ℕ) : Type 0 where
   pub from : Begun P s c best w tail
-  pub closed : found ≡ false → (v x : ℕ) → getD best v 0 ≡ x + 1 → (i : ℕ) → Covers P best i v x
+  pub covers : found ≡ false → (v x : ℕ) → getD best v 0 ≡ x + 1 → (i : ℕ) → Covers P best i v x
   pub before : found ≡ true → head < tail
-  pub hits : found ≡ true → Hits P a (nodeAt w head) (chargeAt w head)
+  pub closing : found ≡ true → Closes P a (nodeAt w head) (chargeAt w head)

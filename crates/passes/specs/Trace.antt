@@ -3,11 +3,12 @@ use mathlib.Core.Path.{_≡_}
 use mathlib.Core.List.{List, [], _∷_}
 use Prim.Native.Nat.{ℕ, suc, _+_, _*_, _≤_, _<_}
 use lib.ListN.{length, take, drop}
+use Rattle.limits.specs.Ceilings.{workWords}
 use Rattle.passes.specs.Queue.{byteCount, parentAt, numberAt}
 
 -- the entries up to i can be followed by their parents, and their arcs are bytes
 pub record Linked (w : List ℕ) (i : ℕ) : Type 0 where
-  pub space : 4 * i + 4 ≤ length w
+  pub space : workWords * i + workWords ≤ length w
   pub back : (j : ℕ) → 0 < j → j ≤ i → parentAt w j < j
   pub byte : (j : ℕ) → 0 < j → j ≤ i → numberAt w j < byteCount
 

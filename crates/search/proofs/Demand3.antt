@@ -34,7 +34,7 @@ found-lengths {p = p} {q} {plan′ = plan′} f =
     }
 
 -- the plan of an answer with one
-answered-found : {g : Automaton} {b c p q : ℕ} {plan plan′ : List ℕ} → Answered g b c plan plan′ (outcome.Plan p q) → Found g b c p q plan plan′
+pub answered-found : {g : Automaton} {b c p q : ℕ} {plan plan′ : List ℕ} → Answered g b c plan plan′ (outcome.Plan p q) → Found g b c p q plan plan′
 answered-found (found f) = f
 
 -- 10 is the number of that refusal alone

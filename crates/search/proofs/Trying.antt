@@ -72,10 +72,10 @@ relax-arrives {p = p} f s =
     queue-arrives (f .ready) (f .queue) (f .before) (along-inside (f .ready) (entry-low (p .index) (f .queue) (f .before) .0) s) s
 
 -- what is done there is what trying the arc asks
-pub relax-arrived : {l : Lists} {t : PassNumbers} {p : Place} {best w best′ w′ : List ℕ} {tail a u x r tail′ : ℕ} {hit : Bool}
+pub relax-arrived : {l : Lists} {t : PassNumbers} {p : Place} {best w best′ w′ : List ℕ} {tail a u x r tail′ : ℕ} {closes : Bool}
     → Trying l t p best w tail a → Along (passOf l t) a (nodeAt w (p .index)) (chargeAt w (p .index)) u x
-    → Arrived (t .goal) (t .least) best w tail u x (p .index) a best′ w′ hit tail′ → r ≡ a
-    → Tried (passOf l t) best w tail a (a + 1) (nodeAt w (p .index)) (chargeAt w (p .index)) best′ w′ hit r tail′
+    → Arrived (t .goal) (t .least) best w tail u x (p .index) a best′ w′ closes tail′ → r ≡ a
+    → Tried (passOf l t) best w tail a (a + 1) (nodeAt w (p .index)) (chargeAt w (p .index)) best′ w′ closes r tail′
 relax-arrived {p = p} f s d e =
     rw e (arrived-tried (f .queue) (f .before) s (along-inside (f .ready) (entry-low (p .index) (f .queue) (f .before) .0) s) d)
 
@@ -88,10 +88,10 @@ place-later {head = head} n g h e =
     e ∙ rw (index, node-kept, charge-kept) refl
 
 -- one arc more at the entry
-pub expand-more : {P : Pass} {best w b1 w1 b2 w2 : List ℕ} {tail a a1 r t1 t2 : ℕ} {hit : Bool} (i head : ℕ)
+pub expand-more : {P : Pass} {best w b1 w1 b2 w2 : List ℕ} {tail a a1 r t1 t2 : ℕ} {closes : Bool} (i head : ℕ)
     → Tried P best w tail 0 a (nodeAt w head) (chargeAt w head) b1 w1 false a1 t1 → head < tail → i ≡ head
-    → Tried P b1 w1 t1 a (a + 1) (nodeAt w1 i) (chargeAt w1 i) b2 w2 hit r t2
-    → Tried P best w tail 0 (a + 1) (nodeAt w head) (chargeAt w head) b2 w2 hit r t2
+    → Tried P b1 w1 t1 a (a + 1) (nodeAt w1 i) (chargeAt w1 i) b2 w2 closes r t2
+    → Tried P best w tail 0 (a + 1) (nodeAt w head) (chargeAt w head) b2 w2 closes r t2
 expand-more i head s h index r =
     let (node-kept, charge-kept) = entry-same head (s .grown) h in
     tried-more s (rw (index, node-kept, charge-kept) at r)

@@ -56,7 +56,7 @@ module _ {g : Automaton} {b c r : ℕ} {best w : List ℕ} (peaked : Peaked g b 
 
 module _ {g : Automaton} {b s e head a : ℕ} {w : List ℕ} {found : Bool} (passed : CyclePassed g b s e w found head a)
     (cycle : KeptCycle (whole g) b s e) where
-  -- where a cycle keeps the charge, the pass stops at one
+  -- where a cycle keeps the charge, the pass finds one
   pub cycle-found : found ≡ true
   cycle-found = go found refl
     where

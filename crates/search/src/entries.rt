@@ -5,7 +5,7 @@ ghost use mathlib.Core.Bool.{_&&_};
 ghost use Prim.Native.Nat.{_+_, _*_, _≤_, _<_};
 ghost use lib.Dec.{eqb};
 ghost use lib.ListN.{length, replicate};
-ghost use Rattle.passes.specs.Pass.{node};
+ghost use Rattle.limits.specs.Ceilings.{workWords};
 ghost use Rattle.passes.specs.Queue.{byteCount, nodeAt, chargeAt, parentAt, numberAt, Entry, Pushed};
 ghost use Rattle.passes.specs.Trace.{Linked, Chain, Wrote};
 use limits::Limits;
@@ -30,7 +30,7 @@ pub fn clear(words: &mut [u16])
 
 // Writes the entry with number tail.
 pub fn push(work: &mut [u16], tail: usize, node: u16, charge: u16, parent: u16, arc: u16)
-    requires { ⌜ 4 * tail + 4 ≤ length (now work) ⌝ }
+    requires { ⌜ workWords * tail + workWords ≤ length (now work) ⌝ }
     ensures { λ _. ⌜ Pushed (now (work .entry)) tail node charge parent arc (now (work .exit)) ⌝ }
 {
     let at = Limits::WORK_WORDS * tail;
@@ -42,7 +42,7 @@ pub fn push(work: &mut [u16], tail: usize, node: u16, charge: u16, parent: u16, 
 
 // The node of an entry.
 pub fn node_of(work: &[u16], i: usize) -> usize
-    requires { ⌜ 4 * i + 4 ≤ length (now work) ⌝ }
+    requires { ⌜ workWords * i + workWords ≤ length (now work) ⌝ }
     ensures { λ r. ⌜ r ≡ nodeAt (now (work .entry)) i ⌝ }
 {
     let at = Limits::WORK_WORDS * i;
@@ -51,7 +51,7 @@ pub fn node_of(work: &[u16], i: usize) -> usize
 
 // The charge of an entry.
 pub fn charge_of(work: &[u16], i: usize) -> u16
-    requires { ⌜ 4 * i + 4 ≤ length (now work) ⌝ }
+    requires { ⌜ workWords * i + workWords ≤ length (now work) ⌝ }
     ensures { λ r. ⌜ r ≡ chargeAt (now (work .entry)) i ⌝ }
 {
     let at = Limits::WORK_WORDS * i + 1;
@@ -60,7 +60,7 @@ pub fn charge_of(work: &[u16], i: usize) -> u16
 
 // The entry that an entry was reached from.
 fn parent_of(work: &[u16], i: usize) -> usize
-    requires { ⌜ 4 * i + 4 ≤ length (now work) ⌝ }
+    requires { ⌜ workWords * i + workWords ≤ length (now work) ⌝ }
     ensures { λ r. ⌜ r ≡ parentAt (now (work .entry)) i ⌝ }
 {
     let at = Limits::WORK_WORDS * i + 2;
@@ -77,7 +77,7 @@ fn narrow(x: u16) -> u8
 
 // The arc that an entry was reached by.
 fn arc_of(work: &[u16], i: usize) -> u8
-    requires { ⌜ (4 * i + 4 ≤ length (now work)) × (numberAt (now work) i < byteCount) ⌝ }
+    requires { ⌜ (workWords * i + workWords ≤ length (now work)) × (numberAt (now work) i < byteCount) ⌝ }
     ensures { λ r. ⌜ r ≡ numberAt (now (work .entry)) i ⌝ }
 {
     let at = Limits::WORK_WORDS * i + 3;
@@ -116,7 +116,7 @@ pub fn trace(work: &[u16], i: usize, plan: &mut [u8]) -> usize
 
 // Whether an entry has a node and a charge.
 fn is_entry(work: &[u16], i: usize, node: usize, charge: u16) -> bool
-    requires { ⌜ 4 * i + 4 ≤ length (now work) ⌝ }
+    requires { ⌜ workWords * i + workWords ≤ length (now work) ⌝ }
     ensures { λ r. ⌜ r ≡ eqb (nodeAt (now (work .entry)) i) node && eqb (chargeAt (now (work .entry)) i) charge ⌝ }
 {
     if node_of(work, i) != node {
@@ -127,7 +127,7 @@ fn is_entry(work: &[u16], i: usize, node: usize, charge: u16) -> bool
 
 // The first entry with a node and a charge.
 pub fn entry_of(work: &[u16], tail: usize, node: usize, charge: u16) -> usize
-    requires { ⌜ Entry (now work) 0 tail node (charge + 1) × (4 * tail ≤ length (now work)) ⌝ }
+    requires { ⌜ Entry (now work) 0 tail node (charge + 1) × (workWords * tail ≤ length (now work)) ⌝ }
     ensures { λ r. ⌜ (r < tail) × (nodeAt (now (work .entry)) r ≡ node) × (chargeAt (now (work .entry)) r ≡ charge) ⌝ }
 {
     let mut i = 0;

@@ -1,11 +1,11 @@
-// The pass: the greatest charge with which each node, a level and a mode, is reached, and an arc that stops it.
+// The pass: the greatest charge with which each node, a level and a mode, is reached, and an arc that closes a cycle.
 ghost use mathlib.Core.Path.{_≡_};
 ghost use Prim.Native.Nat.{_+_, _*_, _≤_, _<_};
 ghost use lib.Dec.{eqb};
 ghost use lib.ListN.{length, getD, set, replicate};
-ghost use Rattle.limits.specs.Ceilings.{modesMost, coloursMost, boundMost};
+ghost use Rattle.limits.specs.Ceilings.{modesMost, coloursMost, boundMost, workWords};
 ghost use Rattle.model.specs.Lists.{lists};
-ghost use Rattle.passes.specs.Pass.{node, levelAfter, closes, Ready};
+ghost use Rattle.passes.specs.Pass.{node, levelAfter, closesAt, Ready};
 ghost use Rattle.passes.specs.Queue.{wordCount, nodeAt, chargeAt, Queue, Pushed, Arrives, Arrived, Tried, Visited, Passed};
 ghost use Rattle.search.specs.Tasks.{passOf, placeAt};
 use crate::entries::charge_of;
@@ -14,8 +14,8 @@ use crate::entries::push;
 use walks::Step;
 use walks::bounded_step;
 
-// The numbers of a pass over the levels 0 to last (its arcs stay in the lent lists). It stops where an arc comes to the node goal with the
-// charge least or more.
+// The numbers of a pass over the levels 0 to last (its arcs stay in the lent lists). An arc that comes to the node goal with the charge least
+// or more closes the cycle, and ends the pass.
 pub struct PassNumbers {
     pub modes: usize,
     pub last: usize,
@@ -32,15 +32,15 @@ pub struct Place {
     pub charge: u16,
 }
 
-// What trying arcs at an entry gives: whether the pass stops there, by which arc, and the number of entries of the queue.
+// What trying arcs at an entry gives: whether an arc closes the cycle, which, and the number of entries of the queue.
 pub struct Trial {
-    pub hit: bool,
+    pub closes: bool,
     pub arc: usize,
     pub tail: usize,
 }
 
-// How a pass ends: whether an arc stopped it, and then that arc and the entry head that it was tried at; and the number of entries of the
-// queue.
+// How a pass ends: whether it found an arc that closes the cycle, and then that arc and the entry head that it was tried at; and the number of
+// entries of the queue.
 pub struct Outcome {
     pub found: bool,
     pub head: usize,
@@ -50,16 +50,16 @@ pub struct Outcome {
 
 // The first entry, and its word of the table.
 fn begin(best: &mut [u16], work: &mut [u16], node: usize, charge: u16)
-    requires { ⌜ (node < length (now best)) × (length (now best) ≤ wordCount) × (charge ≤ boundMost) × (4 ≤ length (now work)) ⌝ }
+    requires { ⌜ (node < length (now best)) × (length (now best) ≤ wordCount) × (charge ≤ boundMost) × (workWords ≤ length (now work)) ⌝ }
     ensures { λ _. ⌜ (now (best .exit) ≡ set (now (best .entry)) node (charge + 1)) × Pushed (now (work .entry)) 0 node charge 0 0 (now (work .exit)) ⌝ }
 {
     best[node] = charge + 1;
     push(work, 0, node as u16, charge, 0, 0);
 }
 
-// Whether a pass stops at a node with a charge.
-fn stops(numbers: PassNumbers, node: usize, charge: u16) -> bool
-    ensures { λ r. ⌜ r ≡ closes (numbers .goal) (numbers .least) node charge ⌝ }
+// Whether an arc that comes to a node with a charge closes the cycle.
+fn closes(numbers: PassNumbers, node: usize, charge: u16) -> bool
+    ensures { λ r. ⌜ r ≡ closesAt (numbers .goal) (numbers .least) node charge ⌝ }
 {
     if node != numbers.goal {
         return false;
@@ -67,8 +67,8 @@ fn stops(numbers: PassNumbers, node: usize, charge: u16) -> bool
     charge >= numbers.least
 }
 
-// Arc `arc` comes from the entry `parent` to a node with a charge: the pass stops, or where the table has less, the table rises and an entry
-// is added.
+// Arc `arc` comes from the entry `parent` to a node with a charge: it closes the cycle, or where the table has less, the table rises and an
+// entry is added.
 fn arrive(
     numbers: PassNumbers,
     node: usize,
@@ -80,19 +80,19 @@ fn arrive(
     tail: usize,
 ) -> Trial
     requires { ⌜ Arrives (now best) (now work) tail node charge parent arc ⌝ }
-    ensures does { λ r. ⌜ Arrived (numbers .goal) (numbers .least) (now (best .entry)) (now (work .entry)) tail node charge parent arc (now (best .exit)) (now (work .exit)) (r .hit) (r .tail) ⌝ }
+    ensures does { λ r. ⌜ Arrived (numbers .goal) (numbers .least) (now (best .entry)) (now (work .entry)) tail node charge parent arc (now (best .exit)) (now (work .exit)) (r .closes) (r .tail) ⌝ }
     ensures by { λ r. ⌜ r .arc ≡ arc ⌝ }
 {
-    if stops(numbers, node, charge) {
+    if closes(numbers, node, charge) {
         return Trial {
-            hit: true,
+            closes: true,
             arc,
             tail,
         };
     }
     if charge < best[node] {
         return Trial {
-            hit: false,
+            closes: false,
             arc,
             tail,
         };
@@ -100,7 +100,7 @@ fn arrive(
     best[node] = charge + 1;
     push(work, tail, node as u16, charge, parent as u16, arc as u16);
     Trial {
-        hit: false,
+        closes: false,
         arc,
         tail: tail + 1,
     }
@@ -145,11 +145,11 @@ fn relax(
     requires { ⌜ Ready (passOf (lists (now sources) (now targets) (now weights) (now colours)) numbers) (length (now best)) (length (now work)) ⌝ }
     requires { ⌜ Queue (passOf (lists (now sources) (now targets) (now weights) (now colours)) numbers) (now best) (now work) tail ⌝ }
     requires { ⌜ (place ≡ placeAt (numbers .modes) (now work) (place .index)) × (place .index < tail) × (a < length (now sources)) ⌝ }
-    ensures { λ r. ⌜ Tried (passOf (lists (now (sources .entry)) (now (targets .entry)) (now (weights .entry)) (now (colours .entry))) numbers) (now (best .entry)) (now (work .entry)) tail a (a + 1) (nodeAt (now (work .entry)) (place .index)) (chargeAt (now (work .entry)) (place .index)) (now (best .exit)) (now (work .exit)) (r .hit) (r .arc) (r .tail) ⌝ }
+    ensures { λ r. ⌜ Tried (passOf (lists (now (sources .entry)) (now (targets .entry)) (now (weights .entry)) (now (colours .entry))) numbers) (now (best .entry)) (now (work .entry)) tail a (a + 1) (nodeAt (now (work .entry)) (place .index)) (chargeAt (now (work .entry)) (place .index)) (now (best .exit)) (now (work .exit)) (r .closes) (r .arc) (r .tail) ⌝ }
 {
     if sources[a] != place.mode {
         return Trial {
-            hit: false,
+            closes: false,
             arc: a,
             tail,
         };
@@ -161,7 +161,7 @@ fn relax(
             arrive(numbers, node, charge, place.index, a, best, work, tail)
         }
         Step::Impossible => Trial {
-            hit: false,
+            closes: false,
             arc: a,
             tail,
         },
@@ -170,7 +170,7 @@ fn relax(
 
 // The place of an entry.
 fn place_of(modes: usize, work: &[u16], i: usize) -> Place
-    requires { ⌜ (0 < modes) × (modes ≤ modesMost) × (4 * i + 4 ≤ length (now work)) ⌝ }
+    requires { ⌜ (0 < modes) × (modes ≤ modesMost) × (workWords * i + workWords ≤ length (now work)) ⌝ }
     ensures { λ r. ⌜ r ≡ placeAt modes (now (work .entry)) i ⌝ }
 {
     let node = node_of(work, i);
@@ -197,7 +197,7 @@ fn expand(
     requires { ⌜ Ready (passOf (lists (now sources) (now targets) (now weights) (now colours)) numbers) (length (now best)) (length (now work)) ⌝ }
     requires { ⌜ Queue (passOf (lists (now sources) (now targets) (now weights) (now colours)) numbers) (now best) (now work) tail ⌝ }
     requires { ⌜ head < tail ⌝ }
-    ensures { λ r. ⌜ Tried (passOf (lists (now (sources .entry)) (now (targets .entry)) (now (weights .entry)) (now (colours .entry))) numbers) (now (best .entry)) (now (work .entry)) tail 0 (length (now (sources .entry))) (nodeAt (now (work .entry)) head) (chargeAt (now (work .entry)) head) (now (best .exit)) (now (work .exit)) (r .hit) (r .arc) (r .tail) ⌝ }
+    ensures { λ r. ⌜ Tried (passOf (lists (now (sources .entry)) (now (targets .entry)) (now (weights .entry)) (now (colours .entry))) numbers) (now (best .entry)) (now (work .entry)) tail 0 (length (now (sources .entry))) (nodeAt (now (work .entry)) head) (chargeAt (now (work .entry)) head) (now (best .exit)) (now (work .exit)) (r .closes) (r .arc) (r .tail) ⌝ }
 {
     let place = place_of(numbers.modes, work, head);
     let mut end = tail;
@@ -215,14 +215,14 @@ fn expand(
             work,
             end,
         );
-        if trial.hit {
+        if trial.closes {
             return trial;
         }
         end = trial.tail;
         a += 1;
     }
     Trial {
-        hit: false,
+        closes: false,
         arc: a,
         tail: end,
     }
@@ -230,7 +230,7 @@ fn expand(
 
 // Whether the charge of an entry is the greatest of its node.
 fn is_greatest(best: &[u16], work: &[u16], i: usize) -> bool
-    requires { ⌜ (4 * i + 4 ≤ length (now work)) × (nodeAt (now work) i < length (now best)) × (chargeAt (now work) i ≤ boundMost) ⌝ }
+    requires { ⌜ (workWords * i + workWords ≤ length (now work)) × (nodeAt (now work) i < length (now best)) × (chargeAt (now work) i ≤ boundMost) ⌝ }
     ensures { λ r. ⌜ r ≡ eqb (getD (now (best .entry)) (nodeAt (now (work .entry)) i) 0) (chargeAt (now (work .entry)) i + 1) ⌝ }
 {
     let node = node_of(work, i);
@@ -253,7 +253,7 @@ fn visit(
     requires { ⌜ Ready (passOf (lists (now sources) (now targets) (now weights) (now colours)) numbers) (length (now best)) (length (now work)) ⌝ }
     requires { ⌜ Queue (passOf (lists (now sources) (now targets) (now weights) (now colours)) numbers) (now best) (now work) tail ⌝ }
     requires { ⌜ head < tail ⌝ }
-    ensures { λ r. ⌜ Visited (passOf (lists (now (sources .entry)) (now (targets .entry)) (now (weights .entry)) (now (colours .entry))) numbers) (now (best .entry)) (now (work .entry)) tail head (now (best .exit)) (now (work .exit)) (r .hit) (r .arc) (r .tail) ⌝ }
+    ensures { λ r. ⌜ Visited (passOf (lists (now (sources .entry)) (now (targets .entry)) (now (weights .entry)) (now (colours .entry))) numbers) (now (best .entry)) (now (work .entry)) tail head (now (best .exit)) (now (work .exit)) (r .closes) (r .arc) (r .tail) ⌝ }
 {
     if is_greatest(best, work, head) {
         return expand(
@@ -269,14 +269,14 @@ fn visit(
         );
     }
     Trial {
-        hit: false,
+        closes: false,
         arc: 0,
         tail,
     }
 }
 
-// A pass from a node with a charge, with a table of zeros. Where no arc stops it, the table has the greatest charge of each node plus 1, 0
-// for none. The entries that reach them are in the working space.
+// A pass from a node with a charge, with a table of zeros. Where no arc closes the cycle, the table has the greatest charge of each node plus
+// 1, 0 for none. The entries that reach them are in the working space.
 pub fn run(
     sources: &[u8],
     targets: &[u8],
@@ -308,7 +308,7 @@ pub fn run(
             tail,
         );
         tail = trial.tail;
-        if trial.hit {
+        if trial.closes {
             return Outcome {
                 found: true,
                 head,

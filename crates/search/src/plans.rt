@@ -36,7 +36,8 @@ pub struct Task {
     pub bound: u16,
 }
 
-// The pass for the peaks: from the start mode with the credit, over a single level; no charge stops it. Returns the number of entries.
+// The pass for the peaks: from the start mode with the credit, over a single level; least is above the bound, so that no arc closes a cycle.
+// Returns the number of entries.
 fn find_peaks(
     sources: &[u8],
     targets: &[u8],
@@ -71,8 +72,8 @@ fn find_peaks(
     outcome.tail
 }
 
-// The pass from a mode with a charge, over the levels 0 to k: it stops where an arc comes back to the mode in the last level with that charge
-// or more.
+// The pass from a mode with a charge, over the levels 0 to k: an arc that comes back to the mode in the last level with that charge or more
+// closes the cycle.
 fn find_cycle(
     sources: &[u8],
     targets: &[u8],

@@ -2,41 +2,41 @@
 ghost use Prim.Native.Nat.{_≤_};
 ghost use lib.ListN.{length};
 ghost use Rattle.limits.specs.Ceilings.{planMost, programMost};
+use crate::candidates::has_plan;
+use crate::lists::is_clear;
+use crate::lists::is_untouched;
+use crate::lists::junk_plan;
+use crate::lists::junk_work;
+use crate::models::Family;
+use crate::models::Numbers;
+use crate::models::numbers_of;
+use crate::models::put_arcs;
+use crate::models::skip;
+use crate::rounds::is_right;
 use judge::judge;
 use limits::Limits;
-use plain::candidates::has_plan;
-use plain::lists::is_clear;
-use plain::lists::is_untouched;
-use plain::lists::junk_plan;
-use plain::lists::junk_work;
-use plain::models::Family;
-use plain::models::Numbers;
-use plain::models::numbers_of;
-use plain::models::put_arcs;
-use plain::models::skip;
-use plain::rounds::is_right;
 use planwalk::walk;
 use search::Searched;
 use search::search;
 
 // The most pairs of a node and a charge, (k + 1) × n × (b + 1), that the program keeps space for.
-pub const ROOM: usize = Limits::PROGRAM as usize;
+const ROOM: usize = Limits::PROGRAM as usize;
 
 // The words of a working space and the bytes of a plan buffer that suffice for them, and the three more that are lent at most.
 pub const WORDS: usize = Limits::WORK_WORDS * ROOM + 3;
 
 pub const BYTES: usize = 2 * ROOM + 3;
 
-// How a model is answered: by a plan that is right, by none, rightly, or wrongly.
-pub const PLAN: u32 = 0;
-
-pub const NONE: u32 = 1;
-
-pub const DIFFERENT: u32 = 2;
+// How a model is answered: by a plan that is right, rightly by none, or wrongly.
+pub enum Outcome {
+    Plan,
+    NoPlan,
+    Difference,
+}
 
 // How a model is answered, and the next state of the generator.
 pub struct Tried {
-    pub answer: u32,
+    pub outcome: Outcome,
     pub state: u32,
 }
 
@@ -69,7 +69,45 @@ fn is_judged(
     answer.number == 0
 }
 
-// Whether the walk of a plan meets each colour within prefix and cycle, and is refused by 18 for the first number that is no colour.
+// Whether the walk of a plan for a number is right: a colour is met within prefix and cycle, a number that is no colour is refused by 18.
+fn is_walked_for(
+    sources: &[u8],
+    targets: &[u8],
+    weights: &[i16],
+    colours: &[u8],
+    numbers: Numbers,
+    p: u32,
+    q: u32,
+    plan: &[u8],
+    colour: u32,
+) -> bool
+    requires { ⌜ length (now plan) ≤ planMost ⌝ }
+{
+    let walked = walk(
+        numbers.modes,
+        numbers.start,
+        numbers.colours,
+        sources,
+        targets,
+        weights,
+        colours,
+        numbers.credit,
+        numbers.bound,
+        p,
+        q,
+        plan,
+        colour,
+        plan.len() as u16,
+    );
+    let result = walked.answer();
+    let answer = result.answer;
+    if colour < numbers.colours {
+        return result.met;
+    }
+    answer.number == 18
+}
+
+// Whether it is so for each colour and for the first number that is no colour.
 fn is_walked(
     sources: &[u8],
     targets: &[u8],
@@ -82,34 +120,23 @@ fn is_walked(
 ) -> bool
     requires { ⌜ length (now plan) ≤ planMost ⌝ }
 {
-    let mut colour = 0;
-    let mut right = true;
-    while colour <= numbers.colours {
-        let walked = walk(
-            numbers.modes,
-            numbers.start,
-            numbers.colours,
+    let k = numbers.colours;
+    for colour in 0..=k {
+        if !is_walked_for(
             sources,
             targets,
             weights,
             colours,
-            numbers.credit,
-            numbers.bound,
+            numbers,
             p,
             q,
             plan,
             colour,
-            plan.len() as u16,
-        );
-        let result = walked.answer();
-        let answer = result.answer;
-        if colour == numbers.colours {
-            return right && answer.number == 18;
+        ) {
+            return false;
         }
-        right = right && result.met;
-        colour += 1;
     }
-    false
+    true
 }
 
 // A plan is right where it is no longer than judging takes, later bytes are untouched, judging says yes, and it is walked by `walk` and
@@ -123,23 +150,23 @@ fn check_plan(
     p: u32,
     q: u32,
     buffer: &[u8],
-) -> u32 {
+) -> Outcome {
     let length = (p as usize) + (q as usize);
     if length > buffer.len() {
-        return DIFFERENT;
+        return Outcome::Difference;
     }
     if length > Limits::PLAN {
-        return DIFFERENT;
+        return Outcome::Difference;
     }
     if !is_untouched(buffer, length) {
-        return DIFFERENT;
+        return Outcome::Difference;
     }
     let plan = &buffer[..length];
     if !is_judged(sources, targets, weights, colours, numbers, p, q, plan) {
-        return DIFFERENT;
+        return Outcome::Difference;
     }
     if !is_walked(sources, targets, weights, colours, numbers, p, q, plan) {
-        return DIFFERENT;
+        return Outcome::Difference;
     }
     if !is_right(
         sources,
@@ -150,9 +177,9 @@ fn check_plan(
         p as usize,
         plan,
     ) {
-        return DIFFERENT;
+        return Outcome::Difference;
     }
-    PLAN
+    Outcome::Plan
 }
 
 // The answer compared with the expected one.
@@ -165,26 +192,26 @@ fn check_answer(
     searched: Searched,
     expected: bool,
     plan: &[u8],
-) -> u32 {
+) -> Outcome {
     match searched {
         Searched::Plan(p, q) => {
             if !expected {
-                return DIFFERENT;
+                return Outcome::Difference;
             }
             check_plan(sources, targets, weights, colours, numbers, p, q, plan)
         }
         Searched::Refused(refusal) => {
             let answer = refusal.answer();
             if expected {
-                return DIFFERENT;
+                return Outcome::Difference;
             }
             if answer.number != 10 {
-                return DIFFERENT;
+                return Outcome::Difference;
             }
             if !is_untouched(plan, 0) {
-                return DIFFERENT;
+                return Outcome::Difference;
             }
-            NONE
+            Outcome::NoPlan
         }
     }
 }
@@ -199,7 +226,7 @@ fn compare(
     expected: bool,
     work: &mut [u16],
     plan: &mut [u8],
-) -> u32 {
+) -> Outcome {
     junk_work(work);
     junk_plan(plan);
     let searched = search(
@@ -216,7 +243,7 @@ fn compare(
         plan,
     );
     if !is_clear(work) {
-        return DIFFERENT;
+        return Outcome::Difference;
     }
     check_answer(
         sources,
@@ -262,14 +289,14 @@ fn lend(
     colours: &[u8],
     numbers: Numbers,
     extra: usize,
-) -> u32 {
+) -> Outcome {
     let pairs = (numbers.modes as usize) * ((numbers.bound as usize) + 1);
     if pairs > ROOM || numbers.colours > Limits::COLOURS {
-        return DIFFERENT;
+        return Outcome::Difference;
     }
     let room = pairs * ((numbers.colours as usize) + 1);
     if room > ROOM {
-        return DIFFERENT;
+        return Outcome::Difference;
     }
     let expected = expects(sources, targets, weights, colours, numbers, pairs);
     let mut work = [0u16; WORDS];
@@ -294,7 +321,7 @@ pub fn try_model(family: Family, state: u32) -> Tried {
     let count = numbers.arcs as usize;
     if count > Limits::ARCS {
         return Tried {
-            answer: DIFFERENT,
+            outcome: Outcome::Difference,
             state: skip(state),
         };
     }
@@ -312,7 +339,7 @@ pub fn try_model(family: Family, state: u32) -> Tried {
         &mut colours,
     );
     Tried {
-        answer: lend(
+        outcome: lend(
             &sources[..count],
             &targets[..count],
             &weights[..count],

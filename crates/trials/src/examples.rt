@@ -1,15 +1,15 @@
 // Document 01's examples M and N.
 use crate::answers::BYTES;
 use crate::answers::WORDS;
+use crate::lists::is_clear;
+use crate::lists::is_junk;
+use crate::lists::is_untouched;
+use crate::lists::junk_plan;
+use crate::lists::junk_work;
 use crate::print::print_end;
 use crate::print::print_next;
 use crate::print::print_number;
 use crate::print::print_word;
-use plain::lists::is_clear;
-use plain::lists::is_junk;
-use plain::lists::is_untouched;
-use plain::lists::junk_plan;
-use plain::lists::junk_work;
 use planwalk::walk;
 use search::search;
 

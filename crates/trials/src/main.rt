@@ -1,15 +1,22 @@
 // Tries search: document 01's examples M and N, and random models, each compared with a plain search over mode and charge. The buffers hold
 // junk before each call; every plan handed back is judged, walked for each colour, and walked plainly. Prints the examples' answers, and for
 // each family of models how many there were, how many have a plan, how many have none, and the differences.
+//
+// The random models and the plain search (lists, models, pairs, candidates, rounds) share no code with search, judging or walk: of the planner
+// they use the ceilings alone (and their proofs some laws on signed words).
 mod answers;
+mod candidates;
 mod examples;
+mod lists;
+mod models;
+mod pairs;
 mod print;
+mod rounds;
 
-use answers::NONE;
-use answers::PLAN;
+use answers::Outcome;
 use answers::try_model;
 use limits::Limits;
-use plain::models::Family;
+use models::Family;
 use print::print_end;
 use print::print_next;
 use print::print_number;
@@ -63,12 +70,11 @@ fn try_family(name: &[u8], family: Family, first: u32) -> u32 {
     while i < family.models {
         let tried = try_model(family, state);
         state = tried.state;
-        if tried.answer == PLAN {
-            plans += 1;
-        } else if tried.answer == NONE {
-            none += 1;
-        } else {
-            differences += 1;
+        let outcome = tried.outcome;
+        match outcome {
+            Outcome::Plan => plans += 1,
+            Outcome::NoPlan => none += 1,
+            Outcome::Difference => differences += 1,
         }
         i += 1;
     }

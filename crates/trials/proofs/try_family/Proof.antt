@@ -13,7 +13,7 @@ abbrev μ-loop : tie.MeasureT-loop
 μ-loop name family first state₀ plans₀ none₀ differences₀ i₀ state plans none differences i = family .models - i
 
 loop-again : tie.Need-loop-again Inv-loop μ-loop
-loop-again c = ⊎-elim (λ w. omega arith) (⊎-elim (λ w. omega arith) (λ w. omega arith)) (c .if2 .came)
+loop-again c = ⊎-elim (λ w. omega arith) (⊎-elim (λ w. omega arith) (λ w. omega arith)) (c .match .came)
 
 pub try-family-spec : {M : Type 1} → statement M
 try-family-spec =
@@ -21,6 +21,9 @@ try-family-spec =
     (tie.spec
     Inv-loop
     μ-loop
+    (search needs)
+    (search needs)
+    (search needs)
     (search needs)
     (search needs)
     (search needs)

@@ -1,16 +1,16 @@
--- `pass::arrive` meets its contract: it stops, the table knows as much, or an entry is added. Assumes nothing.
+-- `pass::arrive` meets its contract: the arc closes the cycle, the table knows as much, or an entry is added. Assumes nothing.
 use mathlib.Core.Path.{refl, sym, _∙_}
 use native.Mathlib.Omega.{arith}
 use borrow.Author.Needs.{needs}
-use Rattle.passes.specs.Queue.{stops, knows, rises}
+use Rattle.passes.specs.Queue.{closed, knows, rises}
 use Rattle.search.proofs.pass.arrive.Statement.{statement}
 use Rattle.search.proofs.pass.arrive.Tie as tie
 
-stops-requires : tie.Need-stops-requires
-stops-requires c κs = search needs
+closes-requires : tie.Need-closes-requires
+closes-requires c κs = search needs
 
 returns : tie.Need-returns
-returns c = (stops (sym (c .before .stops .ensures) ∙ c .if1 .taken) refl refl refl refl, refl)
+returns c = (closed (sym (c .before .closes .ensures) ∙ c .if1 .taken) refl refl refl refl, refl)
 
 mul-if2 : tie.Need-mul-if2
 mul-if2 c = search needs
@@ -21,7 +21,7 @@ slice-read-if2 c = search needs
 returns-2 : tie.Need-returns-2
 returns-2 c =
     let k = c .before .before in
-    (knows (sym (k .before .stops .ensures) ∙ k .if1 .left) (search needs) refl refl refl refl, refl)
+    (knows (sym (k .before .closes .ensures) ∙ k .if1 .left) (search needs) refl refl refl refl, refl)
 
 add-best : tie.Need-add-best
 add-best c = search needs
@@ -57,7 +57,7 @@ returns-3 : tie.Need-returns-3
 returns-3 c =
     let k = c .before .before .before .before .before in
     let p = c .before .before in (
-      rises (sym (k .before .before .stops .ensures) ∙ k .before .if1 .left) (search needs) refl (p .push .ensures) refl refl,
+      rises (sym (k .before .before .closes .ensures) ∙ k .before .if1 .left) (search needs) refl (p .push .ensures) refl refl,
       refl,
     )
 
@@ -65,7 +65,7 @@ pub arrive-spec : {M : Type 1} → statement M
 arrive-spec =
     tie.close
     (tie.spec
-    stops-requires
+    closes-requires
     returns
     mul-if2
     slice-read-if2

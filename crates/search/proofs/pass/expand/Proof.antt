@@ -12,7 +12,7 @@ use Rattle.passes.specs.Queue.{nodeAt, chargeAt, Tried}
 use Rattle.search.specs.declared.pass.Place.{Place}
 use Rattle.search.specs.Tasks.{passOf}
 use Rattle.passes.proofs.Queue.{entry-space, ready-kept}
-use Rattle.passes.proofs.Passes.{tried-none, tried-free, tried-hit}
+use Rattle.passes.proofs.Passes.{tried-none, tried-free, tried-closed}
 use Rattle.search.proofs.Trying.{place-later, expand-more}
 use Rattle.search.proofs.pass.expand.Statement.{statement}
 use Rattle.search.proofs.pass.expand.Tie as tie
@@ -39,7 +39,7 @@ More d =
     Tried (pass-of s) (s .args .best .now) (s .args .work .now) (s .args .tail) 0 (d .before .before .before .before .loop .a + 1)
     (nodeAt (s .args .work .now) (s .args .head)) (chargeAt (s .args .work .now) (s .args .head))
     (d .relax .last .1 .1 .1 .1 .1 .1 .1 .0) (d .relax .last .1 .1 .1 .1 .1 .1 .1 .1 .0)
-    (d .relax .result .hit) (d .relax .result .arc) (d .relax .result .tail)
+    (d .relax .result .closes) (d .relax .result .arc) (d .relax .result .tail)
 
 more : (d : tie.After-relax Inv-loop μ-loop) → More d
 more d =
@@ -73,7 +73,7 @@ same-length-2 : tie.Need-same-length-2 Inv-loop μ-loop
 same-length-2 c = more (c .before .before .before .before .before) .grown .size
 
 returns : tie.Need-returns Inv-loop μ-loop
-returns c = let d = c .before .before .before .before .before in tried-hit _ (c .if1 .taken) (more d)
+returns c = let d = c .before .before .before .before .before in tried-closed _ (c .if1 .taken) (more d)
 
 add-a : tie.Need-add-a Inv-loop μ-loop
 add-a c = search needs

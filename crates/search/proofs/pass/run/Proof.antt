@@ -8,7 +8,7 @@ use Rattle.passes.specs.Pass.{Pass, Ready, room}
 use Rattle.passes.specs.Queue.{Treated}
 use Rattle.search.specs.Tasks.{passOf}
 use Rattle.passes.proofs.Queue.{queue-room, entry-space, ready-kept, ready-some}
-use Rattle.passes.proofs.Passes.{treated-first, treated-more, passed-closed, passed-hit}
+use Rattle.passes.proofs.Passes.{treated-first, treated-more, passed-covered, passed-closed}
 use Rattle.search.proofs.pass.run.Statement.{statement}
 use Rattle.search.proofs.pass.run.Tie as tie
 
@@ -68,7 +68,7 @@ returns : tie.Need-returns Inv-loop μ-loop
 returns c =
     let d = c .before .before .before .before .before in
     let i = d .before .before .before in
-    passed-hit (c .if1 .taken) (i .before .loop .inv .2) (i .loop-test .taken) (d .visit .ensures)
+    passed-closed (c .if1 .taken) (i .before .loop .inv .2) (i .loop-test .taken) (d .visit .ensures)
 
 add-head : tie.Need-add-head Inv-loop μ-loop
 add-head c =
@@ -100,7 +100,7 @@ same-length-4 : tie.Need-same-length-4 Inv-loop μ-loop
 same-length-4 c = work-size (c .before)
 
 returns-2 : tie.Need-returns-2 Inv-loop μ-loop
-returns-2 c = passed-closed 0 (c .before .loop .inv .2) (c .loop-test .left)
+returns-2 c = passed-covered 0 (c .before .loop .inv .2) (c .loop-test .left)
 
 pub run-spec : {M : Type 1} → statement M
 run-spec =

@@ -1,4 +1,4 @@
--- `plans::write_cycle` meets its contract: the pass stops at an arc that closes a cycle, and the arcs read back and that arc are the
+-- `plans::write_cycle` meets its contract: the pass finds an arc that closes a cycle, and the arcs read back and that arc are the
 -- cycle. Assumes nothing.
 use native.Mathlib.Omega.{arith}
 use borrow.Author.Needs.{needs}
@@ -14,8 +14,8 @@ trace-requires c κs =
     let d = c .before .before .before .before in
     let f = d .find-cycle in
     let s = d .before .before .before .before .before .before .before in
-    let stops = cycle-found (f .ensures) (s .pre .1 .0 .2) in
-    (f .ensures .linked stops, omega (arith, f .ensures .few stops, s .pre .1 .1))
+    let found = cycle-found (f .ensures) (s .pre .1 .0 .2) in
+    (f .ensures .linked found, omega (arith, f .ensures .few found, s .pre .1 .1))
 
 cast-part : tie.Need-cast-part
 cast-part c =
