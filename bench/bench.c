@@ -1,0 +1,204 @@
+/*
+ * The benchmark: the library against the same algorithm in C, compiled with -O2 and with -O3. Answers and buffers are compared first, and a
+ * difference ends the run; then each is timed. It prints times and ratios and asserts no time.
+ */
+#define _POSIX_C_SOURCE 199309L
+
+#include <stdbool.h>
+#include <stdio.h>
+#include <stdlib.h>
+#include <string.h>
+#include <time.h>
+
+#include "chargeplan.h"
+#include "inputs.h"
+#include "reference.h"
+
+enum {
+    VERSIONS = 3,
+    SET_MOST = 16,
+    REPETITIONS = 15,
+    SAMPLE_MICROSECONDS = 5000,
+    DRAWS_MOST = 100000,
+    WORK_WORDS = CHARGEPLAN_WORK_WORDS_MOST,
+    PLAN_BYTES = CHARGEPLAN_PLAN_BYTES_MOST
+};
+
+struct version {
+    const char *name;
+    search_entry *search;
+    judge_entry *judge;
+};
+
+/* A set of inputs of one kind that have the same number as answer. Plans to be judged have `length` arcs; 0 is for search. */
+struct family {
+    const char *name;
+    void (*draw)(struct input *in);
+    size_t count;
+    uint32_t number;
+    uint32_t length;
+};
+
+static const struct version versions[VERSIONS] = {
+    {"library", chargeplan_search, chargeplan_judge},
+    {"C -O2", reference_o2_search, reference_o2_judge},
+    {"C -O3", reference_o3_search, reference_o3_judge},
+};
+
+static const struct family families[] = {
+    {"search, random, 64 modes, 255 arcs, b 127, with a plan", draw_64_modes, 16, 0, 0},
+    {"search, random, 64 modes, 255 arcs, b 127, without", draw_64_modes, 16, 10, 0},
+    {"search, chain of 64 modes with +1 loops, b 127, without", draw_chain, 1, 10, 0},
+    {"search, random, 8 modes, 64 arcs, b 1,023, with a plan", draw_8_modes, 16, 0, 0},
+    {"search, random, 8 modes, 64 arcs, b 1,023, without", draw_8_modes, 16, 10, 0},
+    {"search, 1 mode, 255 arcs, b 8,191, k 0, with a plan", draw_one_mode, 16, 0, 0},
+    {"search, 1 mode, 255 arcs, b 8,191, k 4, with a plan", draw_one_mode_colours, 16, 0, 0},
+    {"search, 1 mode, 255 arcs, b 8,191, k 1, without", draw_one_mode_climb, 4, 10, 0},
+    {"judging, 1 arc", draw_plan, 16, 0, 1},
+    {"judging, 255 arcs", draw_plan, 16, 0, 255},
+    {"judging, 4,000 arcs", draw_plan, 16, 0, 4000},
+    {"judging, 65,000 arcs", draw_plan, 16, 0, 65000},
+    {"judging, 65,000 arcs, many steps cut off at the bound", draw_steep_plan, 16, 0, 65000},
+};
+
+/* Allocated once: the inputs of a family, their plans to be judged, the buffers of search, and what the library left in those. */
+static struct input inputs[SET_MOST];
+static uint8_t judged[SET_MOST][CHARGEPLAN_PLAN_MOST];
+static uint16_t work[WORK_WORDS], library_work[WORK_WORDS];
+static uint8_t plan[PLAN_BYTES], library_plan[PLAN_BYTES];
+
+static void fail(const struct family *family, const char *what)
+{
+    fprintf(stderr, "%s: %s\n", family->name, what);
+    exit(1);
+}
+
+static uint64_t call_search(const struct version *version, const struct input *in)
+{
+    return version->search(in->n, in->start, in->k, in->sources, in->arcs, in->targets, in->arcs, in->weights, in->arcs,
+                           in->colours, in->arcs, in->c, in->b, work, chargeplan_work_words(in->n, in->k, in->b), plan,
+                           chargeplan_plan_bytes(in->n, in->k, in->b));
+}
+
+static uint64_t call_judge(const struct version *version, const struct input *in)
+{
+    return version->judge(in->n, in->start, in->k, in->sources, in->arcs, in->targets, in->arcs, in->weights, in->arcs,
+                          in->colours, in->arcs, in->c, in->b, in->p, in->q, in->plan, (size_t)in->p + in->q);
+}
+
+static uint64_t call(const struct family *family, const struct version *version, const struct input *in)
+{
+    return family->length > 0 ? call_judge(version, in) : call_search(version, in);
+}
+
+/* The same junk in the buffers before each comparison and each sample. */
+static void fill_buffers(void)
+{
+    for (size_t i = 0; i < WORK_WORDS; i++)
+        work[i] = (uint16_t)(i * 40503 + 1);
+    for (size_t i = 0; i < PLAN_BYTES; i++)
+        plan[i] = (uint8_t)(i * 167 + 1);
+}
+
+/* Draws each input until the answer is the family's. */
+static void draw_inputs(const struct family *family)
+{
+    for (size_t i = 0; i < family->count; i++) {
+        struct input *in = &inputs[i];
+        size_t draws = 0;
+        in->p = family->length / 4;
+        in->q = family->length - in->p;
+        in->plan = judged[i];
+        do {
+            if (draws++ == DRAWS_MOST)
+                fail(family, "no such input was drawn");
+            family->draw(in);
+        } while (chargeplan_number(call(family, &versions[0], in)) != family->number);
+    }
+}
+
+/* Compares answers, plan buffers and working spaces of the references with the library's. */
+static void compare(const struct family *family, const struct input *in)
+{
+    fill_buffers();
+    uint64_t answer = call(family, &versions[0], in);
+    memcpy(library_work, work, sizeof work);
+    memcpy(library_plan, plan, sizeof plan);
+    for (size_t v = 1; v < VERSIONS; v++) {
+        fill_buffers();
+        if (call(family, &versions[v], in) != answer)
+            fail(family, "answers differ");
+        if (memcmp(library_work, work, sizeof work) != 0)
+            fail(family, "working spaces differ");
+        if (memcmp(library_plan, plan, sizeof plan) != 0)
+            fail(family, "plan buffers differ");
+    }
+}
+
+static double microseconds(void)
+{
+    struct timespec now;
+    clock_gettime(CLOCK_MONOTONIC, &now);
+    return (double)now.tv_sec * 1e6 + (double)now.tv_nsec / 1e3;
+}
+
+/* The time of some rounds over the inputs of a family. */
+static double sample(const struct family *family, const struct version *version, size_t rounds)
+{
+    fill_buffers();
+    double before = microseconds();
+    for (size_t round = 0; round < rounds; round++)
+        for (size_t i = 0; i < family->count; i++)
+            call(family, version, &inputs[i]);
+    return microseconds() - before;
+}
+
+/* Writes the best time per call of each version. The versions take turns, each with rounds enough for some milliseconds. */
+static void measure(const struct family *family, double best[VERSIONS])
+{
+    size_t rounds = 1;
+    while (sample(family, &versions[0], rounds) < SAMPLE_MICROSECONDS)
+        rounds *= 2;
+    for (size_t repetition = 0; repetition < REPETITIONS; repetition++) {
+        for (size_t v = 0; v < VERSIONS; v++) {
+            double time = sample(family, &versions[v], rounds) / (double)(rounds * family->count);
+            if (repetition == 0 || time < best[v])
+                best[v] = time;
+        }
+    }
+}
+
+static void print_heading(void)
+{
+    printf("%-56s %6s", "best time per call, microseconds", "inputs");
+    for (size_t v = 0; v < VERSIONS; v++)
+        printf(" %9s", versions[v].name);
+    for (size_t v = 1; v < VERSIONS; v++)
+        printf("  library / %s", versions[v].name);
+    printf("\n");
+}
+
+static void print_row(const struct family *family, const double best[VERSIONS])
+{
+    printf("%-56s %6zu", family->name, family->count);
+    for (size_t v = 0; v < VERSIONS; v++)
+        printf(" %9.2f", best[v]);
+    for (size_t v = 1; v < VERSIONS; v++)
+        printf("  %15.2f", best[0] / best[v]);
+    printf("\n");
+}
+
+int main(void)
+{
+    print_heading();
+    for (size_t f = 0; f < sizeof families / sizeof families[0]; f++) {
+        double best[VERSIONS];
+        draw_inputs(&families[f]);
+        for (size_t i = 0; i < families[f].count; i++)
+            compare(&families[f], &inputs[i]);
+        measure(&families[f], best);
+        print_row(&families[f], best);
+        fflush(stdout);
+    }
+    return 0;
+}

@@ -1,0 +1,156 @@
+#include "inputs.h"
+
+/* A random number of 32 bits (xorshift64*); the same numbers in every run. */
+static uint32_t draw(void)
+{
+    static uint64_t state = 0x9e3779b97f4a7c15U;
+
+    state ^= state >> 12;
+    state ^= state << 25;
+    state ^= state >> 27;
+    return (uint32_t)(state * 0x2545f4914f6cdd1dU >> 32);
+}
+
+static uint32_t below(uint32_t count)
+{
+    return (uint32_t)((uint64_t)draw() * count >> 32);
+}
+
+static int16_t between(int32_t least, int32_t most)
+{
+    return (int16_t)(least + (int32_t)below((uint32_t)(most - least + 1)));
+}
+
+/* A colour byte: each of k colours with a chance of one in `rarity`. */
+static uint8_t draw_colours(uint32_t k, uint32_t rarity)
+{
+    uint32_t colours = 0;
+
+    for (uint32_t j = 0; j < k; j++)
+        if (below(rarity) == 0)
+            colours |= 1U << j;
+    return (uint8_t)colours;
+}
+
+static void set_numbers(struct input *in, uint32_t n, uint32_t k, uint32_t c, uint32_t b)
+{
+    in->n = n;
+    in->start = 0;
+    in->k = k;
+    in->arcs = 0;
+    in->c = c;
+    in->b = b;
+}
+
+static void add_arc(struct input *in, uint32_t source, uint32_t target, int16_t weight, uint8_t colours)
+{
+    in->sources[in->arcs] = (uint8_t)source;
+    in->targets[in->arcs] = (uint8_t)target;
+    in->weights[in->arcs] = weight;
+    in->colours[in->arcs] = colours;
+    in->arcs++;
+}
+
+static void add_random_arcs(struct input *in, size_t count, int32_t least, int32_t most, uint32_t rarity)
+{
+    for (size_t a = 0; a < count; a++) {
+        uint32_t source = below(in->n);
+        uint32_t target = below(in->n);
+        int16_t weight = between(least, most);
+        add_arc(in, source, target, weight, draw_colours(in->k, rarity));
+    }
+}
+
+void draw_64_modes(struct input *in)
+{
+    set_numbers(in, 64, 4, 63, 127);
+    add_random_arcs(in, 255, -100, 15, 32);
+}
+
+void draw_8_modes(struct input *in)
+{
+    set_numbers(in, 8, 4, 511, 1023);
+    add_random_arcs(in, 64, -800, 120, 32);
+}
+
+void draw_chain(struct input *in)
+{
+    set_numbers(in, 64, 1, 0, 127);
+    for (uint32_t mode = 0; mode < in->n; mode++)
+        add_arc(in, mode, mode, 1, 0);
+    for (uint32_t mode = 0; mode + 1 < in->n; mode++)
+        add_arc(in, mode, mode + 1, -127, 1);
+}
+
+void draw_one_mode(struct input *in)
+{
+    set_numbers(in, 1, 0, 4095, 8191);
+    add_random_arcs(in, 255, -10000, 10000, 2);
+}
+
+void draw_one_mode_colours(struct input *in)
+{
+    set_numbers(in, 1, 4, 4095, 8191);
+    add_random_arcs(in, 255, -10000, 10000, 2);
+}
+
+void draw_one_mode_climb(struct input *in)
+{
+    set_numbers(in, 1, 1, 0, 8191);
+    for (size_t a = 0; a < 254; a++)
+        add_arc(in, 0, 0, between(-8191, -1), 0);
+    add_arc(in, 0, 0, 1, 0);
+}
+
+/* An arc that is possible from a mode with a charge, to a target or (target n) to any. Returns false where some draws give none. */
+static bool draw_step(const struct input *in, uint32_t mode, uint32_t target, int32_t charge, uint8_t *arc)
+{
+    for (size_t tries = 0; tries < 1000; tries++) {
+        uint32_t a = below((uint32_t)in->arcs);
+        bool right = in->sources[a] == mode && (target == in->n || in->targets[a] == target);
+        if (right && charge + in->weights[a] >= 0) {
+            *arc = (uint8_t)a;
+            return true;
+        }
+    }
+    return false;
+}
+
+/* Draws p + q arcs for a model. The last goes to the mode that the cycle begins in. Returns false where it does not come through. */
+static bool draw_arcs(struct input *in)
+{
+    uint32_t mode = in->start;
+    uint32_t first = in->start;
+    int32_t charge = (int32_t)in->c;
+
+    for (uint32_t i = 0; i < in->p + in->q; i++) {
+        if (i == in->p)
+            first = mode;
+        uint32_t target = i + 1 == in->p + in->q ? first : in->n;
+        if (!draw_step(in, mode, target, charge, &in->plan[i]))
+            return false;
+        mode = in->targets[in->plan[i]];
+        charge += in->weights[in->plan[i]];
+        if (charge > (int32_t)in->b)
+            charge = (int32_t)in->b;
+    }
+    return true;
+}
+
+static void draw_model_and_arcs(struct input *in, int32_t weight)
+{
+    do {
+        set_numbers(in, 8, 4, 4095, 8191);
+        add_random_arcs(in, 255, -weight, weight, 2);
+    } while (!draw_arcs(in));
+}
+
+void draw_plan(struct input *in)
+{
+    draw_model_and_arcs(in, 1000);
+}
+
+void draw_steep_plan(struct input *in)
+{
+    draw_model_and_arcs(in, 8191);
+}

@@ -1,0 +1,343 @@
+/*
+ * Search and judging in C, to compare the library with: the same checks, passes and scans in the same order, so that answers and plans
+ * are equal. The entries are REFERENCE_search and REFERENCE_judge, where the build names REFERENCE.
+ */
+#include <stdbool.h>
+#include <stddef.h>
+#include <stdint.h>
+#include <string.h>
+
+#include "chargeplan.h"
+#include "reference.h"
+
+#define JOIN_NAMES(a, b) a##b
+#define JOIN(a, b) JOIN_NAMES(a, b)
+
+enum { NODES_MOST = (CHARGEPLAN_COLOURS_MOST + 1) * CHARGEPLAN_MODES_MOST };
+
+/* A model, the bound and the credit. */
+struct model {
+    uint32_t modes;
+    uint32_t start;
+    uint32_t levels; /* the number of colours */
+    size_t arcs;
+    const uint8_t *sources;
+    const uint8_t *targets;
+    const int16_t *weights;
+    const uint8_t *colours;
+    int32_t bound;
+    int32_t credit;
+};
+
+/* An entry of the queue in the working space: its words. */
+enum { NODE, CHARGE, PARENT, ARC, ENTRY_WORDS };
+
+/* A pass over the levels 0 to last; a node is a level and a mode. It stops at the node goal with the charge least or more. */
+struct pass {
+    uint32_t last;
+    uint32_t goal;
+    int32_t least;
+    uint16_t best[NODES_MOST]; /* the greatest charge of each node plus 1, 0 for none */
+    uint16_t *queue;
+    size_t head; /* the entry at which it stopped */
+    size_t arc;  /* the arc by which it stopped */
+    size_t tail; /* the number of entries */
+};
+
+static uint64_t refused(uint64_t number, uint64_t detail)
+{
+    return number | detail << 8;
+}
+
+/* The charge after a step; below 0 where the step is not possible. */
+static int32_t step(int32_t charge, int32_t weight, int32_t bound)
+{
+    int32_t next = charge + weight;
+    return next < bound ? next : bound;
+}
+
+static bool unfit_arc(const struct model *m, size_t a)
+{
+    return m->sources[a] >= m->modes || m->targets[a] >= m->modes || m->weights[a] < CHARGEPLAN_WEIGHT_LEAST ||
+           m->weights[a] > CHARGEPLAN_WEIGHT_MOST || m->colours[a] >> m->levels != 0;
+}
+
+/* Refusals 1 to 5. */
+static uint64_t check_model(const struct model *m, size_t targets_len, size_t weights_len, size_t colours_len)
+{
+    if (m->modes == 0 || m->modes > CHARGEPLAN_MODES_MOST)
+        return CHARGEPLAN_MODE_COUNT;
+    if (m->start >= m->modes)
+        return CHARGEPLAN_START_MODE;
+    if (targets_len != m->arcs || weights_len != m->arcs || colours_len != m->arcs || m->arcs > CHARGEPLAN_ARCS_MOST)
+        return CHARGEPLAN_ARC_LISTS;
+    if (m->levels > CHARGEPLAN_COLOURS_MOST)
+        return CHARGEPLAN_COLOUR_COUNT;
+    for (size_t a = 0; a < m->arcs; a++)
+        if (unfit_arc(m, a))
+            return refused(CHARGEPLAN_UNFIT_ARC, a);
+    return CHARGEPLAN_YES;
+}
+
+/* Refusal 6. */
+static uint64_t check_levels(uint32_t c, uint32_t b)
+{
+    return b > CHARGEPLAN_BOUND_MOST || c > b ? CHARGEPLAN_LEVELS : CHARGEPLAN_YES;
+}
+
+/* Refusals 7 to 9. */
+static uint64_t check_spaces(uint32_t n, uint32_t k, uint32_t b, size_t work_len, size_t plan_len)
+{
+    size_t room = (size_t)n * (b + 1);
+    if (room > CHARGEPLAN_PRODUCT_MOST)
+        return CHARGEPLAN_PRODUCT;
+    if (work_len < ENTRY_WORDS * (k + 1) * room)
+        return CHARGEPLAN_WORKING_SPACE;
+    if (plan_len < (k + 2) * room)
+        return CHARGEPLAN_PLAN_BUFFER;
+    return CHARGEPLAN_YES;
+}
+
+static void push(struct pass *pass, uint32_t node, int32_t charge, size_t parent, size_t arc)
+{
+    uint16_t *entry = pass->queue + ENTRY_WORDS * pass->tail;
+    entry[NODE] = (uint16_t)node;
+    entry[CHARGE] = (uint16_t)charge;
+    entry[PARENT] = (uint16_t)parent;
+    entry[ARC] = (uint16_t)arc;
+    pass->best[node] = (uint16_t)(charge + 1);
+    pass->tail++;
+}
+
+/* The level after an arc with this colour byte. */
+static uint32_t next_level(uint32_t level, uint32_t last, uint32_t colours)
+{
+    return level < last ? level + (colours >> level & 1) : level;
+}
+
+/* Tries every arc at an entry. Returns true where one stops the pass. */
+static bool expand(const struct model *m, struct pass *pass, size_t head)
+{
+    const uint16_t *entry = pass->queue + ENTRY_WORDS * head;
+    uint32_t level = entry[NODE] / m->modes;
+    uint32_t mode = entry[NODE] % m->modes;
+    int32_t from = entry[CHARGE];
+
+    for (size_t a = 0; a < m->arcs; a++) {
+        if (m->sources[a] != mode)
+            continue;
+        int32_t charge = step(from, m->weights[a], m->bound);
+        if (charge < 0)
+            continue;
+        uint32_t node = next_level(level, pass->last, m->colours[a]) * m->modes + m->targets[a];
+        if (node == pass->goal && charge >= pass->least) {
+            pass->head = head;
+            pass->arc = a;
+            return true;
+        }
+        if (charge >= pass->best[node])
+            push(pass, node, charge, head, a);
+    }
+    return false;
+}
+
+/* Runs a pass from a node with a charge. Entries for whose node a greater charge is known are skipped. */
+static bool run_pass(const struct model *m, struct pass *pass, uint32_t node, int32_t charge)
+{
+    memset(pass->best, 0, (pass->last + 1) * m->modes * sizeof pass->best[0]);
+    pass->tail = 0;
+    push(pass, node, charge, 0, 0);
+    for (size_t head = 0; head < pass->tail; head++) {
+        const uint16_t *entry = pass->queue + ENTRY_WORDS * head;
+        if (pass->best[entry[NODE]] == entry[CHARGE] + 1 && expand(m, pass, head))
+            return true;
+    }
+    return false;
+}
+
+/* The pass for the peaks, the greatest charges of the modes: over one level, and no charge stops it. */
+static void find_peaks(const struct model *m, struct pass *pass)
+{
+    pass->last = 0;
+    pass->goal = 0;
+    pass->least = m->bound + 1;
+    run_pass(m, pass, m->start, m->credit);
+}
+
+/* The pass from a mode with a charge that stops where an arc comes back to the mode in the last level with that charge or more. */
+static bool find_cycle(const struct model *m, struct pass *pass, uint32_t mode, int32_t charge)
+{
+    pass->last = m->levels;
+    pass->goal = m->levels * m->modes + mode;
+    pass->least = charge;
+    return run_pass(m, pass, mode, charge);
+}
+
+/* Writes the arcs that lead to an entry, and returns their number. */
+static size_t trace(const uint16_t *queue, size_t i, uint8_t *plan)
+{
+    size_t length = 0;
+    for (size_t j = i; j > 0; j = queue[ENTRY_WORDS * j + PARENT])
+        length++;
+    for (size_t at = length; i > 0; i = queue[ENTRY_WORDS * i + PARENT])
+        plan[--at] = (uint8_t)queue[ENTRY_WORDS * i + ARC];
+    return length;
+}
+
+/* Writes a prefix to a mode with its peak, and returns its length. */
+static size_t write_prefix(const struct model *m, struct pass *pass, uint32_t mode, int32_t peak, uint8_t *plan)
+{
+    find_peaks(m, pass);
+    size_t i = 0;
+    while (pass->queue[ENTRY_WORDS * i + NODE] != mode || pass->queue[ENTRY_WORDS * i + CHARGE] != peak)
+        i++;
+    return trace(pass->queue, i, plan);
+}
+
+/* Writes a cycle from a mode that keeps a charge, and returns its length. */
+static size_t write_cycle(const struct model *m, struct pass *pass, uint32_t mode, int32_t charge, uint8_t *part)
+{
+    find_cycle(m, pass, mode, charge);
+    size_t length = trace(pass->queue, pass->head, part);
+    part[length] = (uint8_t)pass->arc;
+    return length + 1;
+}
+
+/* A plan from the first mode whose peak a cycle keeps, or that there is none. */
+static uint64_t decide(const struct model *m, uint16_t *work, uint8_t *plan)
+{
+    uint16_t peaks[CHARGEPLAN_MODES_MOST];
+    struct pass pass;
+
+    pass.queue = work;
+    find_peaks(m, &pass);
+    memcpy(peaks, pass.best, m->modes * sizeof peaks[0]);
+    for (uint32_t mode = 0; mode < m->modes; mode++) {
+        int32_t peak = peaks[mode] - 1;
+        if (peak < 0 || !find_cycle(m, &pass, mode, peak))
+            continue;
+        size_t p = write_prefix(m, &pass, mode, peak, plan);
+        size_t q = write_cycle(m, &pass, mode, peak, plan + p);
+        return (uint64_t)p << 32 | (uint64_t)q << 48;
+    }
+    return CHARGEPLAN_NO_PLAN;
+}
+
+uint64_t JOIN(REFERENCE, _search)(uint32_t n, uint32_t start, uint32_t k, const uint8_t *sources, size_t sources_len,
+                                  const uint8_t *targets, size_t targets_len, const int16_t *weights,
+                                  size_t weights_len, const uint8_t *colours, size_t colours_len, uint32_t c,
+                                  uint32_t b, uint16_t *work, size_t work_len, uint8_t *plan, size_t plan_len)
+{
+    struct model m = {n, start, k, sources_len, sources, targets, weights, colours, (int32_t)b, (int32_t)c};
+    uint64_t answer = check_model(&m, targets_len, weights_len, colours_len);
+
+    if (answer == CHARGEPLAN_YES)
+        answer = check_levels(c, b);
+    if (answer == CHARGEPLAN_YES)
+        answer = check_spaces(n, k, b, work_len, plan_len);
+    if (answer != CHARGEPLAN_YES)
+        return answer;
+    answer = decide(&m, work, plan);
+    memset(work, 0, work_len * sizeof work[0]);
+    return answer;
+}
+
+/* Refusal 11. */
+static uint64_t check_length(uint32_t p, uint32_t q, size_t length)
+{
+    return q == 0 || (uint64_t)p + q != length || length > CHARGEPLAN_PLAN_MOST ? CHARGEPLAN_PLAN_LENGTH : CHARGEPLAN_YES;
+}
+
+/* Refusals 12 and 13 where the arc at a position leaves another mode: 12 in the rest of the plan comes first. */
+static uint64_t other_mode(const struct model *m, const uint8_t *plan, size_t length, size_t at)
+{
+    for (size_t i = at + 1; i < length; i++)
+        if (plan[i] >= m->arcs)
+            return refused(CHARGEPLAN_ARC_NUMBER, i);
+    return refused(CHARGEPLAN_OTHER_MODE, at);
+}
+
+/* Refusals 12 to 14. */
+static uint64_t check_path(const struct model *m, const uint8_t *plan, size_t length, size_t p)
+{
+    uint32_t mode = m->start;
+
+    for (size_t i = 0; i < length; i++) {
+        uint8_t arc = plan[i];
+        if (arc >= m->arcs)
+            return refused(CHARGEPLAN_ARC_NUMBER, i);
+        if (m->sources[arc] != mode)
+            return other_mode(m, plan, length, i);
+        mode = m->targets[arc];
+    }
+    return m->sources[plan[p]] != mode ? CHARGEPLAN_OPEN_CYCLE : CHARGEPLAN_YES;
+}
+
+/* Walks arcs from a charge to the charge at their end. Returns the number of steps made: less than all where one is not possible. */
+static size_t walk(const struct model *m, const uint8_t *arcs, size_t count, int32_t *charge)
+{
+    int32_t reached = *charge;
+
+    for (size_t i = 0; i < count; i++) {
+        reached = step(reached, m->weights[arcs[i]], m->bound);
+        if (reached < 0)
+            return i;
+    }
+    *charge = reached;
+    return count;
+}
+
+/* Refusals 15 and 16: the prefix, and two rounds of the cycle. A first round that ends no lower than it began decides. */
+static uint64_t check_charges(const struct model *m, const uint8_t *plan, size_t p, size_t q)
+{
+    int32_t charge = m->credit;
+    size_t steps = walk(m, plan, p, &charge);
+    if (steps < p)
+        return refused(CHARGEPLAN_IMPOSSIBLE_STEP, steps);
+    for (size_t round = 0; round < 2; round++) {
+        int32_t before = charge;
+        steps = walk(m, plan + p, q, &charge);
+        if (steps < q)
+            return refused(CHARGEPLAN_IMPOSSIBLE_STEP, p + round * q + steps);
+        if (charge >= before)
+            return CHARGEPLAN_YES;
+    }
+    return CHARGEPLAN_FALLING_CYCLE;
+}
+
+/* Refusal 17. */
+static uint64_t check_colours(const struct model *m, const uint8_t *cycle, size_t q)
+{
+    uint32_t required = (1U << m->levels) - 1;
+    uint32_t met = 0;
+    uint32_t missing = 0;
+
+    for (size_t i = 0; i < q && met != required; i++)
+        met |= m->colours[cycle[i]];
+    if (met == required)
+        return CHARGEPLAN_YES;
+    while ((met >> missing & 1) != 0)
+        missing++;
+    return refused(CHARGEPLAN_MISSING_COLOUR, missing);
+}
+
+uint64_t JOIN(REFERENCE, _judge)(uint32_t n, uint32_t start, uint32_t k, const uint8_t *sources, size_t sources_len,
+                                 const uint8_t *targets, size_t targets_len, const int16_t *weights,
+                                 size_t weights_len, const uint8_t *colours, size_t colours_len, uint32_t c,
+                                 uint32_t b, uint32_t p, uint32_t q, const uint8_t *plan, size_t plan_len)
+{
+    struct model m = {n, start, k, sources_len, sources, targets, weights, colours, (int32_t)b, (int32_t)c};
+    uint64_t answer = check_model(&m, targets_len, weights_len, colours_len);
+
+    if (answer == CHARGEPLAN_YES)
+        answer = check_levels(c, b);
+    if (answer == CHARGEPLAN_YES)
+        answer = check_length(p, q, plan_len);
+    if (answer == CHARGEPLAN_YES)
+        answer = check_path(&m, plan, plan_len, p);
+    if (answer == CHARGEPLAN_YES)
+        answer = check_charges(&m, plan, p, q);
+    if (answer == CHARGEPLAN_YES)
+        answer = check_colours(&m, plan + p, q);
+    return answer;
+}
