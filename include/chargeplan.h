@@ -1,5 +1,5 @@
 /*
- * chargeplan.h: judging and searching charge plans for a knee joint, from C99 or C++ on 64-bit x86.
+ * chargeplan.h: judging and searching charge plans for a knee joint, from C99 or C++ on Linux for 64-bit x86 (System V calls).
  *
  * Link with target/staticlib/libdesk.a, which `rt staticlib desk` writes once the code is proved. There is no set-up, no
  * state between calls and no heap: calls on different buffers may run at the same time, and no input traps or hangs a call.
@@ -21,9 +21,9 @@
  * cycle ends in the mode where it began. It is feasible where every step is possible in any number of rounds, and accepted
  * where each of the k colours stands on some arc of the cycle.
  *
- * LISTS AND BUFFERS. Each is a pointer and the number of its elements. The caller sees to two things: the memory is as long as
- * the call is told and aligned as its type asks, and no two lists or buffers of one call share memory. A list without elements
- * may be a null pointer with length 0. The lists are only read.
+ * LISTS AND BUFFERS. Each is a pointer and the number of its elements. The caller sees to three things: the memory is as long as
+ * the call is told, it is aligned as its type asks, and no two lists or buffers of one call share memory. A list or buffer
+ * without elements may be a null pointer with length 0. The lists are only read.
  *
  * THE ANSWER. One word of 64 bits: bits 0 to 7 the number, 8 to 31 the detail, 32 to 47 p, 48 to 63 q. Number 0 is yes, or a
  * plan found; every other number is a refusal (below), the first that applies, top to bottom. The detail is 0 where none is
@@ -49,7 +49,10 @@ extern "C" {
 #define CHARGEPLAN_WEIGHT_LEAST (-10000)
 #define CHARGEPLAN_WEIGHT_MOST 10000
 
-/* Buffers of these sizes serve every search that 7 does not refuse: some 328 KB and 49 KB. */
+/*
+ * Buffers of these sizes serve every search that 7 does not refuse: some 328 KB and 49 KB. Every word of working space that is lent is
+ * set to 0, so a call that is lent only what its model needs (chargeplan_work_words) takes less time.
+ */
 #define CHARGEPLAN_WORK_WORDS_MOST (4u * (CHARGEPLAN_COLOURS_MOST + 1u) * CHARGEPLAN_PRODUCT_MOST)
 #define CHARGEPLAN_PLAN_BYTES_MOST ((CHARGEPLAN_COLOURS_MOST + 2u) * CHARGEPLAN_PRODUCT_MOST)
 

@@ -4,8 +4,9 @@
  *
  *     desk MISSION
  *
- * A mission is a text of lines, in any order: "modes N", "start MODE", "colours K", "bound B", "credit C", and for each arc
- * "arc SOURCE TARGET WEIGHT COLOUR..", with the numbers of the colours that the arc meets. What follows a '#' is a comment.
+ * A mission is a text of lines, in any order: "modes N", "start MODE", "colours K", "bound B" and "credit C", each once, and for
+ * each arc "arc SOURCE TARGET WEIGHT COLOUR..", with the numbers of the colours that the arc meets. What follows a '#' is a
+ * comment. A line has at most 250 characters.
  * Exit status: 0 a plan, 1 no plan exists, 2 refused, 3 the mission cannot be read or there is no memory.
  */
 #include "chargeplan.h"
@@ -16,15 +17,25 @@
 
 enum { PLAN = 0, NO_PLAN = 1, REFUSED = 2, FAILED = 3 };
 
-enum { LINE = 256 };
+/* A line with its end. */
+enum { LINE = 254 };
+
+/* One arc more than the planner takes is kept, so that it refuses a list that is too long by its number. */
+enum { ARCS_KEPT = CHARGEPLAN_ARCS_MOST + 1 };
+
+/* The numbers of a mission, in the order of their words. */
+enum { MODES, START, COLOURS, BOUND, CREDIT, NUMBERS };
+
+static const char *const words[NUMBERS] = {"modes", "start", "colours", "bound", "credit"};
 
 struct mission {
-    uint32_t modes, start, colours, bound, credit;
+    uint32_t numbers[NUMBERS];
+    int known[NUMBERS];
     size_t arcs;
-    uint8_t sources[CHARGEPLAN_ARCS_MOST];
-    uint8_t targets[CHARGEPLAN_ARCS_MOST];
-    int16_t weights[CHARGEPLAN_ARCS_MOST];
-    uint8_t met[CHARGEPLAN_ARCS_MOST];
+    uint8_t sources[ARCS_KEPT];
+    uint8_t targets[ARCS_KEPT];
+    int16_t weights[ARCS_KEPT];
+    uint8_t met[ARCS_KEPT];
 };
 
 /* The sentence that each number stands for, and what its detail is. */
@@ -69,32 +80,33 @@ static void print_refusal(const char *call, uint64_t answer)
     printf("\n");
 }
 
-/* The next word of a line as a number from least to most. Where there is none, the answer is 0. */
-static int next_number(char **line, long least, long most, long *value)
-{
-    char *end;
-
-    *value = strtol(*line, &end, 10);
-    if (end == *line || *value < least || *value > most)
-        return 0;
-    *line = end;
-    return 1;
-}
-
 /* Whether nothing but blanks is left of a line. */
 static int is_blank(const char *line)
 {
     return line[strspn(line, " \t\r\n")] == '\0';
 }
 
-/* One number after its word, to the end of the line. */
-static int read_number(char *line, uint32_t *to)
+/* The next word of a line as a number from least to most; the answer is 0 where it is none. */
+static int next_number(char **line, long least, long most, long *value)
+{
+    char *end;
+
+    *value = strtol(*line, &end, 10);
+    if (end == *line || (*end != '\0' && strchr(" \t\r\n", *end) == NULL) || *value < least || *value > most)
+        return 0;
+    *line = end;
+    return 1;
+}
+
+/* The number after its word, to the end of the line; once. */
+static int read_number(struct mission *m, int which, char *line)
 {
     long value;
 
-    if (!next_number(&line, 0, INT32_MAX, &value) || !is_blank(line))
+    if (m->known[which] || !next_number(&line, 0, INT32_MAX, &value) || !is_blank(line))
         return 0;
-    *to = (uint32_t)value;
+    m->numbers[which] = (uint32_t)value;
+    m->known[which] = 1;
     return 1;
 }
 
@@ -104,14 +116,16 @@ static int read_arc(struct mission *m, char *line)
     long source, target, weight, colour;
     unsigned met = 0;
 
-    if (m->arcs == CHARGEPLAN_ARCS_MOST || !next_number(&line, 0, UINT8_MAX, &source)
-        || !next_number(&line, 0, UINT8_MAX, &target) || !next_number(&line, INT16_MIN, INT16_MAX, &weight))
+    if (!next_number(&line, 0, UINT8_MAX, &source) || !next_number(&line, 0, UINT8_MAX, &target)
+        || !next_number(&line, INT16_MIN, INT16_MAX, &weight))
         return 0;
     while (!is_blank(line)) {
         if (!next_number(&line, 0, 7, &colour))
             return 0;
         met |= 1u << colour;
     }
+    if (m->arcs == ARCS_KEPT)
+        return 1;
     m->sources[m->arcs] = (uint8_t)source;
     m->targets[m->arcs] = (uint8_t)target;
     m->weights[m->arcs] = (int16_t)weight;
@@ -123,35 +137,45 @@ static int read_arc(struct mission *m, char *line)
 static int read_line(struct mission *m, char *line)
 {
     char word[9];
-    int length = 0;
+    int length = 0, which;
 
     line[strcspn(line, "#")] = '\0';
     if (is_blank(line))
         return 1;
     if (sscanf(line, "%8s%n", word, &length) != 1)
         return 0;
-    line += length;
     if (strcmp(word, "arc") == 0)
-        return read_arc(m, line);
-    if (strcmp(word, "modes") == 0)
-        return read_number(line, &m->modes);
-    if (strcmp(word, "start") == 0)
-        return read_number(line, &m->start);
-    if (strcmp(word, "colours") == 0)
-        return read_number(line, &m->colours);
-    if (strcmp(word, "bound") == 0)
-        return read_number(line, &m->bound);
-    if (strcmp(word, "credit") == 0)
-        return read_number(line, &m->credit);
+        return read_arc(m, line + length);
+    for (which = 0; which < NUMBERS; which++)
+        if (strcmp(word, words[which]) == 0)
+            return read_number(m, which, line + length);
     return 0;
 }
 
-/* The mission of a file; the answer is 0 where it cannot be read, with the reason printed. */
-static int read_mission(const char *name, struct mission *m)
+/* The lines of a mission; the answer is 0 where one cannot be read, with the reason printed. */
+static int read_lines(FILE *file, const char *name, struct mission *m)
 {
     char line[LINE];
     unsigned number = 0;
-    int fine = 1;
+
+    while (fgets(line, LINE, file) != NULL) {
+        number++;
+        if (strlen(line) == LINE - 1 || !read_line(m, line)) {
+            fprintf(stderr, "%s: line %u cannot be read\n", name, number);
+            return 0;
+        }
+    }
+    if (ferror(file)) {
+        fprintf(stderr, "%s: cannot be read\n", name);
+        return 0;
+    }
+    return 1;
+}
+
+/* The mission of a file; the answer is 0 where it cannot be read or lacks a number, with the reason printed. */
+static int read_mission(const char *name, struct mission *m)
+{
+    int fine, which;
     FILE *file = fopen(name, "r");
 
     if (file == NULL) {
@@ -159,16 +183,13 @@ static int read_mission(const char *name, struct mission *m)
         return 0;
     }
     memset(m, 0, sizeof *m);
-    while (fine && fgets(line, LINE, file) != NULL) {
-        number++;
-        fine = strlen(line) < LINE - 1 && read_line(m, line);
-    }
-    if (!fine)
-        fprintf(stderr, "%s: line %u cannot be read\n", name, number);
-    else if (ferror(file))
-        fprintf(stderr, "%s: cannot be read\n", name);
-    fine = fine && !ferror(file);
+    fine = read_lines(file, name, m);
     fclose(file);
+    for (which = 0; fine && which < NUMBERS; which++)
+        if (!m->known[which]) {
+            fprintf(stderr, "%s: has no line \"%s\"\n", name, words[which]);
+            fine = 0;
+        }
     return fine;
 }
 
@@ -187,7 +208,7 @@ static void print_steps(const struct mission *m, const char *title, const uint8_
     for (i = 0; i < count; i++) {
         int32_t charge = at->charge + m->weights[arcs[i]];
 
-        at->charge = charge < (int32_t)m->bound ? charge : (int32_t)m->bound;
+        at->charge = charge < (int32_t)m->numbers[BOUND] ? charge : (int32_t)m->numbers[BOUND];
         at->mode = m->targets[arcs[i]];
         printf("  arc %3u  mode %2u  charge %4ld\n", (unsigned)arcs[i], (unsigned)at->mode, (long)at->charge);
     }
@@ -196,10 +217,10 @@ static void print_steps(const struct mission *m, const char *title, const uint8_
 /* The plan found, walked through its prefix and two rounds of its cycle. */
 static void print_plan(const struct mission *m, const uint8_t *plan, uint32_t p, uint32_t q)
 {
-    struct place at = {(uint8_t)m->start, (int32_t)m->credit};
+    struct place at = {(uint8_t)m->numbers[START], (int32_t)m->numbers[CREDIT]};
 
-    printf("plan: prefix %u, cycle %u; from mode %u with charge %u\n", (unsigned)p, (unsigned)q, (unsigned)m->start,
-        (unsigned)m->credit);
+    printf("plan: prefix %u, cycle %u; from mode %u with charge %u\n", (unsigned)p, (unsigned)q, (unsigned)m->numbers[START],
+        (unsigned)m->numbers[CREDIT]);
     print_steps(m, "prefix", plan, p, &at);
     print_steps(m, "first round", plan + p, q, &at);
     print_steps(m, "second round", plan + p, q, &at);
@@ -207,14 +228,14 @@ static void print_plan(const struct mission *m, const uint8_t *plan, uint32_t p,
 
 static uint64_t search(const struct mission *m, uint16_t *work, size_t words, uint8_t *plan, size_t bytes)
 {
-    return chargeplan_search(m->modes, m->start, m->colours, m->sources, m->arcs, m->targets, m->arcs, m->weights, m->arcs,
-        m->met, m->arcs, m->credit, m->bound, work, words, plan, bytes);
+    return chargeplan_search(m->numbers[MODES], m->numbers[START], m->numbers[COLOURS], m->sources, m->arcs, m->targets, m->arcs, m->weights, m->arcs,
+        m->met, m->arcs, m->numbers[CREDIT], m->numbers[BOUND], work, words, plan, bytes);
 }
 
 static uint64_t judge(const struct mission *m, const uint8_t *plan, uint32_t p, uint32_t q)
 {
-    return chargeplan_judge(m->modes, m->start, m->colours, m->sources, m->arcs, m->targets, m->arcs, m->weights, m->arcs,
-        m->met, m->arcs, m->credit, m->bound, p, q, plan, (size_t)p + q);
+    return chargeplan_judge(m->numbers[MODES], m->numbers[START], m->numbers[COLOURS], m->sources, m->arcs, m->targets, m->arcs, m->weights, m->arcs,
+        m->met, m->arcs, m->numbers[CREDIT], m->numbers[BOUND], p, q, plan, (size_t)p + q);
 }
 
 /* Searches, and tells what came of it. */
@@ -225,7 +246,7 @@ static int plan_mission(const struct mission *m, uint16_t *work, size_t words, u
     uint32_t q = chargeplan_cycle(answer);
 
     if (chargeplan_number(answer) == CHARGEPLAN_NO_PLAN) {
-        printf("no plan exists for this model with bound %u and credit %u\n", (unsigned)m->bound, (unsigned)m->credit);
+        printf("no plan exists for this model with bound %u and credit %u\n", (unsigned)m->numbers[BOUND], (unsigned)m->numbers[CREDIT]);
         return NO_PLAN;
     }
     if (chargeplan_number(answer) != CHARGEPLAN_YES) {
@@ -257,8 +278,8 @@ int main(int argc, char **argv)
     if (!read_mission(argv[1], &m))
         return FAILED;
     /* Where the numbers are refused in any case, no buffer is needed: both sizes are 0. */
-    words = chargeplan_work_words(m.modes, m.colours, m.bound);
-    bytes = chargeplan_plan_bytes(m.modes, m.colours, m.bound);
+    words = chargeplan_work_words(m.numbers[MODES], m.numbers[COLOURS], m.numbers[BOUND]);
+    bytes = chargeplan_plan_bytes(m.numbers[MODES], m.numbers[COLOURS], m.numbers[BOUND]);
     work = malloc(words * sizeof *work);
     plan = malloc(bytes);
     if (words > 0 && (work == NULL || plan == NULL))

@@ -6,13 +6,17 @@
 
 unsigned long checks, failures;
 
+/* Of many failures only the first are printed. */
+enum { PRINTED_MOST = 100 };
+
 void check(int holds, const char *what)
 {
     checks++;
     if (holds)
         return;
     failures++;
-    printf("FAILED %s\n", what);
+    if (failures <= PRINTED_MOST)
+        printf("FAILED %s\n", what);
 }
 
 void check_answer(const char *what, uint64_t answer, uint32_t number, uint32_t detail)
@@ -20,7 +24,7 @@ void check_answer(const char *what, uint64_t answer, uint32_t number, uint32_t d
     int same = chargeplan_number(answer) == number && chargeplan_detail(answer) == detail && answer >> 32 == 0;
 
     check(same, what);
-    if (!same)
+    if (!same && failures <= PRINTED_MOST)
         printf("  number %u detail %u p %u q %u, not %u %u 0 0\n", (unsigned)chargeplan_number(answer),
             (unsigned)chargeplan_detail(answer), (unsigned)chargeplan_prefix(answer), (unsigned)chargeplan_cycle(answer),
             (unsigned)number, (unsigned)detail);

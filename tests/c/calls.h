@@ -43,6 +43,15 @@ void both_refused(const char *what, const struct model *m, uint32_t c, uint32_t 
 struct model model(uint32_t n, uint32_t k, size_t arcs, const uint8_t *sources, const uint8_t *targets, const int16_t *weights,
     const uint8_t *colours);
 
+/* The models of document 01's examples, and lists that they share. */
+extern const uint8_t zeros[256], g_sources[3], g_targets[3], g_colours[3];
+extern const int16_t flat[256];
+struct model model_a(void);
+struct model model_b(void);
+struct model model_e(void);
+struct model model_g(void);
+struct model model_j(void);
+
 void test_examples(void);
 void test_numbers(void);
 void test_lists(void);
@@ -53,6 +62,8 @@ void test_shape(void);
 void test_long(void);
 void test_charges(void);
 void test_search(void);
+void test_long_plans(void);
+void test_ring(void);
 void test_random(unsigned long models);
 
 #endif

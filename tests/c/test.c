@@ -28,9 +28,11 @@ static const struct {
     {"6: levels", test_levels},
     {"7 to 9: buffers", test_buffers},
     {"11 to 14: shape of a plan", test_shape},
-    {"11, 12 and 15 at the greatest length", test_long},
+    {"11 to 13 and 15 of long plans", test_long},
     {"15 to 17: charges and colours", test_charges},
     {"search", test_search},
+    {"search, long plans", test_long_plans},
+    {"search, a ring of 64 modes", test_ring},
     {"random models and plans", test_random_models},
 };
 
