@@ -12,7 +12,9 @@ use crate::entries::charge_of;
 use crate::entries::node_of;
 use crate::entries::push;
 use walks::Step;
-use walks::bounded_step;
+use walks::bounded_move;
+use walks::draw;
+use walks::gain;
 
 // The numbers of a pass over the levels 0 to last (its arcs stay in the lent lists). An arc that comes to the node goal with the charge least
 // or more closes the cycle, and ends the pass.
@@ -154,7 +156,9 @@ fn relax(
             tail,
         };
     }
-    let step = bounded_step(place.charge, weights[a], numbers.bound);
+    // By the weight's move: with bounded_step the compiler splits the loop over the arcs, which can make a pass slower.
+    let weight = weights[a];
+    let step = bounded_move(place.charge, draw(weight), gain(weight), numbers.bound);
     match step {
         Step::To(charge) => {
             let node = entered(numbers, place.level, targets[a], colours[a]);

@@ -1,5 +1,6 @@
--- The laws of walks, one idea a file; Signs serves the proofs of the code.
+-- The laws of walks, one idea a file; Signs and Sums serve the proofs of the code.
 pub mod Signs
+pub mod Sums
 pub mod Weights
 pub mod Charges
 pub mod ClosedWalk

@@ -1,16 +1,24 @@
--- What a signed weight draws and gains, by its sign, as the code computes it. Assumes nothing.
+-- Words of 16 bits made wider, and what a signed weight draws and gains, by its sign, as the code computes it. Assumes nothing.
 use mathlib.Core.Path.{_≡_, refl}
 use mathlib.Core.Bool.{true, false, true≢false}
-use Prim.Native.Nat.{suc}
+use Prim.Native.Nat.{ℕ, suc}
 use native.Mathlib.Nat.{zero-add}
 use native.Mathlib.Omega.{arith}
 use borrow.Author.Tests.{ltb-true}
 use lib.Dec.{T}
 use lib.IntN.{ℤ, pos, negsuc, natAbs, _-ℤ_}
 use lib.Signed.{ltZ, nonNeg}
+use mir.Facts.{toZ-ofZ, toZ-pos, sfits-widen}
 use mir.Syntax.{w16, w32}
-use mir.Val.{Fits, SFits}
+use mir.Val.{Fits, SFits, toZ, ofZ}
 use Rattle.walks.specs.Moves.{drawOf, gainOf}
+
+-- a word of 16 bits, unsigned or signed, stands for the same number as a signed word of 32 bits
+pub unsigned-widened : {n : ℕ} → Fits w16 n → toZ w32 n ≡ pos n
+unsigned-widened f = toZ-pos w32 (omega (arith, f .fits))
+
+pub signed-widened : {z : ℤ} → SFits w16 z → toZ w32 (ofZ w32 (toZ w16 (ofZ w16 z))) ≡ z
+signed-widened f = simp (toZ-ofZ f, toZ-ofZ (sfits-widen {w = w16} {w′ = w32} tt f))
 
 pub gain-negative : (z : ℤ) → ltZ z (pos 0) ≡ true → 0 ≡ gainOf z
 gain-negative (pos n) h = omega (arith, ltb-true n 0 h)

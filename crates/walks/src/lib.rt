@@ -1,5 +1,7 @@
 // The bounded step: a signed weight added to an unsigned charge under a bound. It takes plain numbers and answers an enum.
 ghost use mathlib.Core.Path.{_≡_};
+ghost use mathlib.Core.Bool.{cond};
+ghost use lib.Signed.{ltZ};
 ghost use Rattle.walks.specs.BoundedStep.{stepped};
 ghost use Rattle.walks.specs.Moves.{drawOf, gainOf, moved};
 
@@ -43,10 +45,27 @@ pub fn bounded_move(charge: u16, draw: u16, gain: u16, bound: u16) -> Step
     Step::To(bound)
 }
 
+// The smaller of two numbers.
+fn smaller(x: i32, y: i32) -> i32
+    ensures { λ r. ⌜ r ≡ cond (ltZ x y) x y ⌝ }
+{
+    if x < y {
+        return x;
+    }
+    y
+}
+
 // A step on an arc with this weight: to the smaller of charge + weight and the bound, possible only where charge + weight is at
-// least 0. For all charges, weights and bounds.
+// least 0. For all charges, weights and bounds. The charge is cut off at what leads to the bound before the weight is added, so that no
+// branch hangs on the sign of the weight or on the bound.
 pub fn bounded_step(charge: u16, weight: i16, bound: u16) -> Step
     ensures { λ r. ⌜ r ≡ stepped bound weight charge ⌝ }
 {
-    bounded_move(charge, draw(weight), gain(weight), bound)
+    let change = weight as i32;
+    let room = (bound as i32) - change;
+    let sum = smaller(charge as i32, room) + change;
+    if sum < 0 {
+        return Step::Impossible;
+    }
+    Step::To(sum as u16)
 }

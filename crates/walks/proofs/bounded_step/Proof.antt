@@ -1,26 +1,75 @@
--- `walks::bounded_step` meets its contract: the move that the weight makes is the step over the integers. Assumes nothing.
-use mathlib.Core.Path.{_∙_, sym}
-use mir.Facts.{toZ-ofZ}
-use borrow.Author.Needs.{needs}
-use Rattle.walks.proofs.Weights.{stepped-moved}
+-- `walks::bounded_step` meets its contract: the number that it makes is the sum of charge and weight, cut off at the bound. Assumes nothing.
+use mathlib.Core.Path.{_≡_}
+use lib.IntN.{ℤ, pos, _+ℤ_}
+use mir.Facts.{toZ-ofZ, sfits-widen}
+use mir.Syntax.{w16, w32}
+use mir.Val.{SFits, toZ, ofZ}
+use borrow.Author.Needs.{needs, sfits-of}
+use Rattle.walks.specs.BoundedStep.{stepped}
+use Rattle.walks.proofs.Signs.{unsigned-widened, signed-widened}
+use Rattle.walks.proofs.Sums.{cutOff, smaller-sum, difference-sfits, cut-sum-sfits, cut-fits, cut-leads, cut-impossible}
 use Rattle.walks.proofs.bounded_step.Statement.{statement}
 use Rattle.walks.proofs.bounded_step.Tie as tie
 
-draw-requires : tie.Need-draw-requires
-draw-requires c κs = search needs
+-- charge and weight, not cut off
+abbrev sum : tie.Start → ℤ
+sum s = pos (s .args .charge) +ℤ s .args .weight
 
-gain-requires : tie.Need-gain-requires
-gain-requires c κs = search needs
+sum-cut-sfits : (s : tie.Start) → SFits w32 (cutOff (s .args .bound) (sum s))
+sum-cut-sfits s = cut-sum-sfits (s .args .bound) (s .args .charge) (s .args .weight) (s .fits .bound) (s .fits .charge) (s .fits .weight)
 
-bounded-move-requires : tie.Need-bounded-move-requires
-bounded-move-requires c κs = search needs
+-- what the code makes of the words of `smaller` and of the weight
+abbrev made : tie.After-smaller → ℤ
+made c = toZ w32 (ofZ w32 (c .smaller .result)) +ℤ toZ w32 (ofZ w32 (toZ w16 (ofZ w16 (c .before .args .weight))))
+
+made-cut : (c : tie.After-smaller) → made c ≡ cutOff (c .before .args .bound) (sum (c .before))
+made-cut c =
+    let a = c .before .args in
+    let f = c .before .fits in
+    let room = toZ-ofZ (difference-sfits (a .bound) (a .weight) (f .bound) (f .weight)) in
+    let smaller = simp (signed-widened (f .weight), unsigned-widened (f .charge), unsigned-widened (f .bound), room) at (c .smaller .ensures) in
+    let result : toZ w32 (ofZ w32 (c .smaller .result)) ≡ c .smaller .result = toZ-ofZ (sfits-of (c .smaller .ok)) in
+    rw (result, signed-widened (f .weight), smaller) (smaller-sum (a .bound) (a .charge) (a .weight))
+
+-- also as a word
+word-cut : (c : tie.After-smaller) → toZ w32 (ofZ w32 (made c)) ≡ cutOff (c .before .args .bound) (sum (c .before))
+word-cut c = rw (made-cut c) (toZ-ofZ (sum-cut-sfits (c .before)))
+
+cast-change : tie.Need-cast-change
+cast-change c = let f = c .fits .weight in simp (toZ-ofZ f) (sfits-widen tt f)
+
+cast-room : tie.Need-cast-room
+cast-room c = search needs
+
+sub-room : tie.Need-sub-room
+sub-room c =
+    let f = c .fits in
+    simp (signed-widened (f .weight), unsigned-widened (f .bound)) (difference-sfits (c .args .bound) (c .args .weight) (f .bound) (f .weight))
+
+cast-smaller : tie.Need-cast-smaller
+cast-smaller c = search needs
+
+smaller-requires : tie.Need-smaller-requires
+smaller-requires c κs = search needs
+
+add-sum : tie.Need-add-sum
+add-sum c = rw (made-cut c) (sum-cut-sfits (c .before))
 
 returns : tie.Need-returns
-returns c =
-    let s = c .before .before .before in
-    c .bounded-move .ensures
-    ∙ rw (c .before .before .draw .ensures, c .before .gain .ensures)
-    (simp (toZ-ofZ (s .fits .weight)) (sym (stepped-moved (s .args .bound) (s .args .weight) (s .args .charge))))
+unfolding stepped
+returns c = let s = c .before .before in cut-impossible (s .args .bound) (sum s) (rw (word-cut (c .before)) at (c .if1 .taken))
+
+cast-t10 : tie.Need-cast-t10
+cast-t10 c =
+    let s = c .before .before in
+    rw (word-cut (c .before)) (cut-fits (s .args .bound) (sum s) (s .fits .bound) (rw (word-cut (c .before)) at (c .if1 .left)))
+
+returns-2 : tie.Need-returns-2
+unfolding stepped
+returns-2 c =
+    let s = c .before .before in
+    rw (word-cut (c .before)) (cut-leads (s .args .bound) (sum s) (rw (word-cut (c .before)) at (c .if1 .left)))
 
 pub bounded-step-spec : {M : Type 1} → statement M
-bounded-step-spec = tie.close (tie.spec draw-requires gain-requires bounded-move-requires returns)
+bounded-step-spec =
+    tie.close (tie.spec cast-change cast-room sub-room cast-smaller smaller-requires add-sum returns cast-t10 returns-2)

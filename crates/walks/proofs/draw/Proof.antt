@@ -1,7 +1,6 @@
 -- `walks::draw` meets its contract: a negative weight turned round is what it draws. Assumes nothing.
 use mir.Facts.{toZ-ofZ, sfits-widen}
-use mir.Syntax.{w16, w32}
-use Rattle.walks.proofs.Signs.{draw-negative, draw-positive, negative-sfits, negative-fits}
+use Rattle.walks.proofs.Signs.{signed-widened, draw-negative, draw-positive, negative-sfits, negative-fits}
 use Rattle.walks.proofs.draw.Statement.{statement}
 use Rattle.walks.proofs.draw.Tie as tie
 
@@ -11,21 +10,21 @@ cast-result c = simp (toZ-ofZ (c .before .fits .weight)) (sfits-widen tt (c .bef
 sub-result : tie.Need-sub-result
 sub-result c =
     let f = c .before .fits .weight in
-    simp (toZ-ofZ f, toZ-ofZ (sfits-widen {w = w16} {w′ = w32} tt f))
+    simp (signed-widened f)
     (negative-sfits (c .before .args .weight) (simp (toZ-ofZ f) at (c .if1 .taken)) f)
 
 cast-result-2 : tie.Need-cast-result-2
 cast-result-2 c =
     let f = c .before .fits .weight in
     let n = simp (toZ-ofZ f) at (c .if1 .taken) in
-    simp (toZ-ofZ f, toZ-ofZ (sfits-widen {w = w16} {w′ = w32} tt f), toZ-ofZ (negative-sfits (c .before .args .weight) n f))
+    simp (signed-widened f, toZ-ofZ (negative-sfits (c .before .args .weight) n f))
     (negative-fits (c .before .args .weight) n f)
 
 returns : tie.Need-returns
 returns c =
     let f = c .before .fits .weight in
     let n = simp (toZ-ofZ f) at (c .if1 .taken) in
-    simp (toZ-ofZ f, toZ-ofZ (sfits-widen {w = w16} {w′ = w32} tt f), toZ-ofZ (negative-sfits (c .before .args .weight) n f))
+    simp (signed-widened f, toZ-ofZ (negative-sfits (c .before .args .weight) n f))
     (draw-negative (c .before .args .weight) n)
 
 returns-2 : tie.Need-returns-2

@@ -1,5 +1,5 @@
 -- `pass::relax` meets its contract. Assumes nothing.
-use mathlib.Core.Path.{_≡_, sym, _∙_}
+use mathlib.Core.Path.{_≡_, _∙_}
 use lib.IntN.{pos}
 use lib.ListN.{getD}
 use mir.Facts.{toZ-ofZ}
@@ -7,6 +7,7 @@ use mir.Syntax.{w16}
 use mir.Val.{SFits}
 use borrow.Author.Needs.{needs, sfits-of}
 use Rattle.walks.specs.BoundedStep.{stepped}
+use Rattle.walks.proofs.Weights.{stepped-moved}
 use Rattle.model.specs.Lists.{Lists, lists}
 use Rattle.passes.specs.Pass.{Along}
 use Rattle.passes.specs.Queue.{nodeAt, chargeAt}
@@ -23,19 +24,22 @@ trying : (s : tie.Start)
 trying s =
     record { ready = s .pre .0; queue = s .pre .1 .0; place = s .pre .1 .1 .0; before = s .pre .1 .1 .1; known = s .pre .1 .1 .2 }
 
-abbrev start : tie.After-bounded-step → tie.Start
-start c = c .before .before .before .before .before .before .before .before .before .before
+abbrev start : tie.After-bounded-move → tie.Start
+start c = c .before .before .before .before .before .before .before .before .before .before .before .before
 
--- what the bounded step answers for the arc's weight
-steps : (c : tie.After-bounded-step)
+-- the move of the arc's weight is the bounded step with it
+steps : (c : tie.After-bounded-move)
     → stepped (start c .args .numbers .bound) (getD (start c .args .weights .now) (start c .args .a) (pos 0)) (start c .args .place .charge)
-    ≡ c .bounded-step .result
+    ≡ c .bounded-move .result
 steps c =
-    let fits : SFits w16 (getD (start c .args .weights .now) (start c .args .a) (pos 0)) = sfits-of (c .before .bounded-step-arg .given) in
-    simp (toZ-ofZ fits) at (sym (c .bounded-step .ensures))
+    let weight = getD (start c .args .weights .now) (start c .args .a) (pos 0) in
+    let fits : SFits w16 weight = sfits-of (c .before .before .before .weight .given) in
+    let draw = simp (toZ-ofZ fits) at (c .before .before .draw .ensures) in
+    let gain = simp (toZ-ofZ fits) at (c .before .gain .ensures) in
+    cc (stepped-moved (start c .args .numbers .bound) weight (start c .args .place .charge))
 
--- the bounded step before the node
-abbrev step-of : tie.After-entered → tie.After-bounded-step
+-- the step before the node
+abbrev step-of : tie.After-entered → tie.After-bounded-move
 step-of d = d .before .before .before .before .before .before
 
 -- the step that the arc takes
@@ -45,7 +49,7 @@ along : (d : tie.After-entered)
     (chargeAt (s .args .work .now) (s .args .place .index)) (d .entered .result) (d .before .before .before .before .step .given .0 .0)
 along d =
     let b = step-of d in
-    relax-along (trying (start b)) (b .before .before .if1 .left) (steps b ∙ d .before .before .before .before .step .given .1)
+    relax-along (trying (start b)) (b .before .before .before .before .if1 .left) (steps b ∙ d .before .before .before .before .step .given .1)
     (d .entered .ensures)
 
 shared-slice-read-if1 : tie.Need-shared-slice-read-if1
@@ -54,14 +58,20 @@ shared-slice-read-if1 c = search needs
 returns : tie.Need-returns
 returns c = relax-other (trying (c .before .before .before .before .before .before .before .before)) (c .if1 .taken)
 
-mul-bounded-step : tie.Need-mul-bounded-step
-mul-bounded-step c = search needs
+mul-weight : tie.Need-mul-weight
+mul-weight c = search needs
 
-shared-slice-copy-out-bounded-step : tie.Need-shared-slice-copy-out-bounded-step
-shared-slice-copy-out-bounded-step c = search needs
+shared-slice-copy-out-weight : tie.Need-shared-slice-copy-out-weight
+shared-slice-copy-out-weight c = search needs
 
-bounded-step-requires : tie.Need-bounded-step-requires
-bounded-step-requires c κs = search needs
+draw-requires : tie.Need-draw-requires
+draw-requires c κs = search needs
+
+gain-requires : tie.Need-gain-requires
+gain-requires c κs = search needs
+
+bounded-move-requires : tie.Need-bounded-move-requires
+bounded-move-requires c κs = search needs
 
 enum-known-step : tie.Need-enum-known-step
 enum-known-step c = search needs
@@ -102,9 +112,11 @@ relax-spec =
     (tie.spec
     shared-slice-read-if1
     returns
-    mul-bounded-step
-    shared-slice-copy-out-bounded-step
-    bounded-step-requires
+    mul-weight
+    shared-slice-copy-out-weight
+    draw-requires
+    gain-requires
+    bounded-move-requires
     enum-known-step
     shared-slice-read-entered
     shared-slice-read-entered-2
