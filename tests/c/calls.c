@@ -21,10 +21,10 @@ void check(int holds, const char *what)
 
 void check_answer(const char *what, uint64_t answer, uint32_t number, uint32_t detail)
 {
-    int same = chargeplan_number(answer) == number && chargeplan_detail(answer) == detail && answer >> 32 == 0;
+    int right = chargeplan_number(answer) == number && chargeplan_detail(answer) == detail && answer >> 32 == 0;
 
-    check(same, what);
-    if (!same && failures <= PRINTED_MOST)
+    check(right, what);
+    if (!right && failures <= PRINTED_MOST)
         printf("  number %u detail %u p %u q %u, not %u %u 0 0\n", (unsigned)chargeplan_number(answer),
             (unsigned)chargeplan_detail(answer), (unsigned)chargeplan_prefix(answer), (unsigned)chargeplan_cycle(answer),
             (unsigned)number, (unsigned)detail);
