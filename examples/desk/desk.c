@@ -26,7 +26,7 @@ enum { ARCS_KEPT = CHARGEPLAN_ARCS_MOST + 1 };
 /* The numbers of a mission, in the order of their words. */
 enum { MODES, START, COLOURS, BOUND, CREDIT, NUMBERS };
 
-static const char *const words[NUMBERS] = {"modes", "start", "colours", "bound", "credit"};
+static const char *const number_words[NUMBERS] = {"modes", "start", "colours", "bound", "credit"};
 
 struct mission {
     uint32_t numbers[NUMBERS];
@@ -147,7 +147,7 @@ static int read_line(struct mission *m, char *line)
     if (strcmp(word, "arc") == 0)
         return read_arc(m, line + length);
     for (which = 0; which < NUMBERS; which++)
-        if (strcmp(word, words[which]) == 0)
+        if (strcmp(word, number_words[which]) == 0)
             return read_number(m, which, line + length);
     return 0;
 }
@@ -187,7 +187,7 @@ static int read_mission(const char *name, struct mission *m)
     fclose(file);
     for (which = 0; fine && which < NUMBERS; which++)
         if (!m->known[which]) {
-            fprintf(stderr, "%s: has no line \"%s\"\n", name, words[which]);
+            fprintf(stderr, "%s: has no line \"%s\"\n", name, number_words[which]);
             fine = 0;
         }
     return fine;
