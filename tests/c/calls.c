@@ -95,7 +95,6 @@ uint64_t judge(const char *what, const struct model *m, uint32_t c, uint32_t b, 
     return answer;
 }
 
-/* Judging against what it should answer, and against the plain reading. */
 void judged(const char *what, const struct model *m, uint32_t c, uint32_t b, uint32_t p, uint32_t q, const uint8_t *plan,
     size_t length, uint32_t number, uint32_t detail)
 {
@@ -147,12 +146,14 @@ static void check_found(const char *what, const struct model *m, uint32_t c, uin
     uint32_t p = chargeplan_prefix(answer), q = chargeplan_cycle(answer), room = m->n * (b + 1);
 
     check(chargeplan_detail(answer) == 0 && p <= room && q >= 1 && q <= (m->k + 1) * room, what);
-    check(p + q <= s->bytes && same(s->plan + p + q, s->plan_before + p + q, s->bytes - p - q), what);
+    check(p + q <= s->bytes, what);
+    if (p + q > s->bytes)
+        return;
+    check(same(s->plan + p + q, s->plan_before + p + q, s->bytes - p - q), what);
     check(plain_judge(m, c, b, p, q, s->plan, (size_t)p + q).number == 0, what);
     check(judge(what, m, c, b, p, q, s->plan, (size_t)p + q) == 0, what);
 }
 
-/* Search with buffers of these sizes; what it leaves in them is checked by its answer. */
 uint64_t search(const char *what, const struct model *m, uint32_t c, uint32_t b, size_t words, size_t bytes, unsigned junk)
 {
     struct lent l = lend(m);
@@ -176,7 +177,6 @@ uint64_t search(const char *what, const struct model *m, uint32_t c, uint32_t b,
     return answer;
 }
 
-/* Search with buffers exactly as long as they must be, and longer, with different junk: the answer is the same. */
 uint64_t search_exactly(const char *what, const struct model *m, uint32_t c, uint32_t b)
 {
     size_t words = chargeplan_work_words(m->n, m->k, b), bytes = chargeplan_plan_bytes(m->n, m->k, b);
@@ -192,13 +192,11 @@ void found(const char *what, const struct model *m, uint32_t c, uint32_t b)
     check(chargeplan_number(search_exactly(what, m, c, b)) == CHARGEPLAN_YES, what);
 }
 
-/* Search is refused, with buffers as long as they must be. */
 void refused(const char *what, const struct model *m, uint32_t c, uint32_t b, uint32_t number, uint32_t detail)
 {
     check_answer(what, search_exactly(what, m, c, b), number, detail);
 }
 
-/* A number that both calls refuse, whatever the plan and the buffers are. */
 void both_refused(const char *what, const struct model *m, uint32_t c, uint32_t b, uint32_t number, uint32_t detail)
 {
     static const uint8_t round[] = {0};

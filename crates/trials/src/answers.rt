@@ -1,8 +1,8 @@
-// One random model: search's answer compared with the plain one, and a plan handed back judged and walked.
+// One random model: search's answer compared with the plain one.
 ghost use Prim.Native.Nat.{_≤_};
-ghost use lib.ListN.{length};
-ghost use Rattle.limits.specs.Ceilings.{planMost, programMost};
+ghost use Rattle.limits.specs.Ceilings.{programMost};
 use crate::candidates::has_plan;
+use crate::checks::is_plan_right;
 use crate::lists::is_clear;
 use crate::lists::is_untouched;
 use crate::lists::junk_plan;
@@ -12,10 +12,7 @@ use crate::models::Numbers;
 use crate::models::numbers_of;
 use crate::models::put_arcs;
 use crate::models::skip;
-use crate::rounds::is_right;
-use judge::judge;
 use limits::Limits;
-use planwalk::walk;
 use search::Searched;
 use search::search;
 
@@ -40,148 +37,6 @@ pub struct Tried {
     pub state: u32,
 }
 
-// Whether judging says yes to a plan.
-fn is_judged(
-    sources: &[u8],
-    targets: &[u8],
-    weights: &[i16],
-    colours: &[u8],
-    numbers: Numbers,
-    p: u32,
-    q: u32,
-    plan: &[u8],
-) -> bool {
-    let verdict = judge(
-        numbers.modes,
-        numbers.start,
-        numbers.colours,
-        sources,
-        targets,
-        weights,
-        colours,
-        numbers.credit,
-        numbers.bound,
-        p,
-        q,
-        plan,
-    );
-    let answer = verdict.answer();
-    answer.number == 0
-}
-
-// Whether the walk of a plan for a number is right: a colour is met within prefix and cycle, a number that is no colour is refused by 18.
-fn is_walked_for(
-    sources: &[u8],
-    targets: &[u8],
-    weights: &[i16],
-    colours: &[u8],
-    numbers: Numbers,
-    p: u32,
-    q: u32,
-    plan: &[u8],
-    colour: u32,
-) -> bool
-    requires { ⌜ length (now plan) ≤ planMost ⌝ }
-{
-    let walked = walk(
-        numbers.modes,
-        numbers.start,
-        numbers.colours,
-        sources,
-        targets,
-        weights,
-        colours,
-        numbers.credit,
-        numbers.bound,
-        p,
-        q,
-        plan,
-        colour,
-        plan.len() as u16,
-    );
-    let result = walked.answer();
-    let answer = result.answer;
-    if colour < numbers.colours {
-        return result.met;
-    }
-    answer.number == 18
-}
-
-// Whether it is so for each colour and for the first number that is no colour.
-fn is_walked(
-    sources: &[u8],
-    targets: &[u8],
-    weights: &[i16],
-    colours: &[u8],
-    numbers: Numbers,
-    p: u32,
-    q: u32,
-    plan: &[u8],
-) -> bool
-    requires { ⌜ length (now plan) ≤ planMost ⌝ }
-{
-    let k = numbers.colours;
-    for colour in 0..=k {
-        if !is_walked_for(
-            sources,
-            targets,
-            weights,
-            colours,
-            numbers,
-            p,
-            q,
-            plan,
-            colour,
-        ) {
-            return false;
-        }
-    }
-    true
-}
-
-// A plan is right where it is no longer than judging takes, later bytes are untouched, judging says yes, and it is walked by `walk` and
-// plainly.
-fn check_plan(
-    sources: &[u8],
-    targets: &[u8],
-    weights: &[i16],
-    colours: &[u8],
-    numbers: Numbers,
-    p: u32,
-    q: u32,
-    buffer: &[u8],
-) -> Outcome {
-    let length = (p as usize) + (q as usize);
-    if length > buffer.len() {
-        return Outcome::Difference;
-    }
-    if length > Limits::PLAN {
-        return Outcome::Difference;
-    }
-    if !is_untouched(buffer, length) {
-        return Outcome::Difference;
-    }
-    let plan = &buffer[..length];
-    if !is_judged(sources, targets, weights, colours, numbers, p, q, plan) {
-        return Outcome::Difference;
-    }
-    if !is_walked(sources, targets, weights, colours, numbers, p, q, plan) {
-        return Outcome::Difference;
-    }
-    if !is_right(
-        sources,
-        targets,
-        weights,
-        colours,
-        numbers,
-        p as usize,
-        plan,
-    ) {
-        return Outcome::Difference;
-    }
-    Outcome::Plan
-}
-
 // The answer compared with the expected one.
 fn check_answer(
     sources: &[u8],
@@ -198,7 +53,10 @@ fn check_answer(
             if !expected {
                 return Outcome::Difference;
             }
-            check_plan(sources, targets, weights, colours, numbers, p, q, plan)
+            if !is_plan_right(sources, targets, weights, colours, numbers, p, q, plan) {
+                return Outcome::Difference;
+            }
+            Outcome::Plan
         }
         Searched::Refused(refusal) => {
             let answer = refusal.answer();

@@ -6,6 +6,7 @@
 // they use the ceilings alone (and their proofs some laws on signed words).
 mod answers;
 mod candidates;
+mod checks;
 mod examples;
 mod lists;
 mod models;

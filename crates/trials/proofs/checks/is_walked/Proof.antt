@@ -1,9 +1,9 @@
--- `answers::is_walked` is safe and ends: the loop goes through the colours and the first number that is none. Assumes nothing.
+-- `checks::is_walked` is safe and ends: the loop goes through the colours and the first number that is none. Assumes nothing.
 use Prim.{Unit}
 use Prim.Native.Nat.{suc, _-_}
 use borrow.Author.Needs.{needs}
-use Rattle.trials.proofs.answers.is_walked.Statement.{statement}
-use Rattle.trials.proofs.answers.is_walked.Tie as tie
+use Rattle.trials.proofs.checks.is_walked.Statement.{statement}
+use Rattle.trials.proofs.checks.is_walked.Tie as tie
 
 abbrev Inv-loop : tie.InvT-loop
 Inv-loop sources targets weights colours numbers p q plan k colour₀ colour = Unit {0}
