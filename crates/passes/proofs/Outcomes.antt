@@ -1,21 +1,17 @@
 -- What a pass leaves, in the words of nets: its table is the table of the greatest charges, and the arcs read back are walks of the model.
 -- So the pass for the peaks finds them, and the pass from a mode with a charge says whether a cycle keeps it. Assumes nothing.
 use mathlib.Core.Path.{_≡_, refl, sym, ap, subst, _∙_}
-use mathlib.Core.Bool.{Bool, true, false}
+use mathlib.Core.Bool.{Bool, true, false, _&&_, and-eq-true-iff}
+use mathlib.Core.Logic.{_↔_}
 use mathlib.Core.List.{List, [], _∷_, _++_}
 use Prim.Native.Nat.{ℕ, suc, _+_, _/_, _≤_, _<_}
 use native.Mathlib.Nat.{div-eq-of-lt, mod-eq-of-lt}
 use native.Mathlib.Omega.{arith}
 use lib.ListN.{length, getD}
 use Rattle.walks.specs.Moves.{after}
-use Rattle.model.specs.Automaton.{Automaton}
-use Rattle.model.specs.Lists.{Lists, automatonOf}
-use Rattle.model.specs.Fitness.{Fit}
-use Rattle.nets.specs.Net.{Net, Usable, Lasts}
+use Rattle.nets.specs.Net.{Net, Usable, Lasts, Fits}
 use Rattle.nets.specs.Table.{next, ClosingArc, KeptCycle}
-use Rattle.nets.specs.Whole.{whole}
 use Rattle.nets.proofs.Decides.{kept-closed, closed-kept}
-use Rattle.nets.proofs.Whole.{whole-usable-arc, whole-lasting-arc}
 use Rattle.passes.specs.Pass.{Pass, Ready, node, room}
 use Rattle.passes.specs.Queue.{nodeAt, chargeAt, Covers, Closes, Begun, Passed}
 use Rattle.passes.specs.Trace.{Traced}
@@ -27,23 +23,40 @@ use Rattle.passes.proofs.Traces.{queue-linked}
 use Rattle.passes.proofs.Walks.{traced-reached, listed-reached, covered-closed}
 
 -- the pass for the peaks: a single level, and a charge that no arc comes to
-abbrev pub peaksPass : Lists → ℕ → ℕ → Pass
-peaksPass l n b = record { lists = l; modes = n; last = 0; bound = b; goal = 0; least = b + 1 }
+abbrev pub peaksPass : Net → List ℕ → ℕ → Pass
+peaksPass g places b = record { net = g; places = places; ok = g .on; last = 0; bound = b; goal = 0; least = b + 1 }
 
 -- the pass from mode m with charge e: the levels 0 to k, and back to m in the last one with e or more
-abbrev pub cyclePass : Lists → ℕ → ℕ → ℕ → ℕ → ℕ → Pass
-cyclePass l n k b m e = record { lists = l; modes = n; last = k; bound = b; goal = node n k m; least = e }
+abbrev pub cyclePass : Net → List ℕ → ℕ → ℕ → ℕ → Pass
+cyclePass g places b m e =
+    record {
+      net = g;
+      places = places;
+      ok = λ a. g .on a && g .lasting a;
+      last = g .duties;
+      bound = b;
+      goal = node (g .modes) (g .duties) m;
+      least = e;
+    }
 
-module _ (l : Lists) (n s k b : ℕ) (fit : Fit (automatonOf n s k l)) where
-  -- the model and its net
-  abbrev model : Automaton
-  model = automatonOf n s k l
+module _ (net : Net) (places : List ℕ) (b : ℕ) (fits : Fits net) where
+  -- a prefix may use the arcs that are on, a cycle those that last
+  usable-ok : (a : ℕ) → Usable net a ↔ ((a < net .count) × (net .on a ≡ true))
+  usable-ok a = (λ h. h, λ h. h)
 
-  abbrev net : Net
-  net = whole model
+  lasts-ok : (a : ℕ) → Lasts net a ↔ ((a < net .count) × ((net .on a && net .lasting a) ≡ true))
+  lasts-ok a =
+      let both = and-eq-true-iff (net .on a) (net .lasting a) in
+      (λ h. (h .0 .0, both .1 (h .0 .1, h .1)), λ h. ((h .0, both .0 (h .1) .0), both .0 (h .1) .1))
+
+  peaks-usable : (a : ℕ) → a < net .count → net .on a ≡ true → Usable net a
+  peaks-usable a h o = (h, o)
+
+  cycle-usable : (a : ℕ) → a < net .count → (net .on a && net .lasting a) ≡ true → Usable net a
+  cycle-usable a h o = lasts-ok a .1 (h, o) .0
 
   -- no arc comes to a charge above the bound
-  peaks-unclosed : {c head a tail : ℕ} {best w : List ℕ} {found : Bool} → Passed (peaksPass l n b) s c best w found head a tail
+  peaks-unclosed : {c head a tail : ℕ} {best w : List ℕ} {found : Bool} → Passed (peaksPass net places b) (net .start) c best w found head a tail
       → found ≡ false
   peaks-unclosed {found = false} p = refl
   peaks-unclosed {found = true} p =
@@ -52,18 +65,18 @@ module _ (l : Lists) (n s k b : ℕ) (fit : Fit (automatonOf n s k l)) where
 
   -- no arc closes a cycle in the pass for the peaks, and it leaves the peaks
   pub passed-peaked : (c : ℕ) {best w : List ℕ} {found : Bool} {head a tail : ℕ}
-      → Ready (peaksPass l n b) (length best) (length w) → Passed (peaksPass l n b) s c best w found head a tail
-      → Peaked (automatonOf n s k l) b c best w tail
+      → Ready (peaksPass net places b) (length best) (length w) → Passed (peaksPass net places b) (net .start) c best w found head a tail
+      → Peaked net b c best w tail
   passed-peaked c {best} {w} {tail = tail} r p =
-      let P = peaksPass l n b in
-      let ok = whole-usable-arc model in
+      let P = peaksPass net places b in
+      let n = net .modes in
       let from = p .from in
       let size : length best ≡ n = r .table ∙ nodes-first n in
       record {
         table =
             record {
-              closed = covered-closed P s k fit (Usable net) ok s c best w tail (fit .starts) from (p .covers (peaks-unclosed p));
-              attained = λ j t x hj. listed-reached P s k fit (Usable net) ok s c best w tail (fit .starts) from j t x;
+              closed = covered-closed P fits peaks-usable (Usable net) usable-ok (net .start) c best w tail (fits .starts) from (p .covers (peaks-unclosed p));
+              attained = λ j t x hj. listed-reached P fits peaks-usable (Usable net) usable-ok (net .start) c best w tail (fits .starts) from j t x;
             };
         held = λ m hm. from .queue .held m;
         few = subst (λ (y : ℕ). tail ≤ room y b) size (queue-room (from .queue));
@@ -71,36 +84,40 @@ module _ (l : Lists) (n s k b : ℕ) (fit : Fit (automatonOf n s k l)) where
         arcs = λ i h arcs t.
             let low : nodeAt w i < n = omega (arith, entry-low i (from .queue) h .0) in
             let d =
-            traced-reached P s k fit (Usable net) ok s c best w tail (fit .starts) from i 0 (nodeAt w i) (chargeAt w i) arcs h
+            traced-reached P fits peaks-usable (Usable net) usable-ok (net .start) c best w tail (fits .starts) from i 0 (nodeAt w i) (chargeAt w i) arcs h
             (div-eq-of-lt low) (mod-eq-of-lt low) refl t
             in
             record { reached = d .0; same = d .1 };
       }
 
-  module _ (m e : ℕ) (best w : List ℕ) (tail : ℕ) (hm : m < n) (from : Begun (cyclePass l n k b m e) m e best w tail) where
+  module _ (m e : ℕ) (best w : List ℕ) (tail : ℕ) (hm : m < net .modes) (from : Begun (cyclePass net places b m e) m e best w tail) where
     -- where every greatest charge is covered, no cycle from m keeps e: an arc would close it
-    cycle-none : ((v x : ℕ) → getD best v 0 ≡ x + 1 → (a : ℕ) → Covers (cyclePass l n k b m e) best a v x) → KeptCycle net b m e → ⊥
+    cycle-none : ((v x : ℕ) → getD best v 0 ≡ x + 1 → (a : ℕ) → Covers (cyclePass net places b m e) best a v x) → KeptCycle net b m e → ⊥
     cycle-none covers t =
-        let P = cyclePass l n k b m e in
+        let P = cyclePass net places b m e in
+        let n = net .modes in
+        let k = net .duties in
         let high : ℕ → ℕ → ℕ = λ j i. getD best (node n j i) 0 in
-        let closed = covered-closed P s k fit (Lasts net) (whole-lasting-arc model) m e best w tail hm from covers in
+        let closed = covered-closed P fits cycle-usable (Lasts net) lasts-ok m e best w tail hm from covers in
         let h : ClosingArc net b m e high = kept-closed net b m e high closed t in
         let a = h .arc in
         let u = node n (next net k (h .from) a) (net .graph .target a) in
         let x = after b (net .graph .move a) (h .charged) in
         let back : u ≡ node n k m = rw (h .last, h .back) refl in
-        let d = arc-along P s k fit a (h .from) (h .charged) (h .lasts .0 .0) (h .possible) in
+        let d = arc-along P fits cycle-usable a (h .from) (h .charged) (h .lasts .0 .0) (lasts-ok a .0 (h .lasts) .1) (h .possible) in
         let passes = covers (node n (h .from) (net .graph .source a)) (h .charged) (omega (arith, h .listed)) a .passes u x d in
         closes-not (node n k m) e u x passes back (h .kept)
 
     -- where arc a closes the cycle at entry head, the arcs to the entry and arc a are a cycle from m that keeps e
-    cycle-arcs : (head a : ℕ) → Ready (cyclePass l n k b m e) (length best) (length w) → head < tail
-        → Closes (cyclePass l n k b m e) a (nodeAt w head) (chargeAt w head) → (arcs : List ℕ) → Traced w head 0 arcs
-        → Kept model b m e (arcs ++ (a ∷ []))
+    cycle-arcs : (head a : ℕ) → Ready (cyclePass net places b m e) (length best) (length w) → head < tail
+        → Closes (cyclePass net places b m e) a (nodeAt w head) (chargeAt w head) → (arcs : List ℕ) → Traced w head 0 arcs
+        → Kept net b m e (arcs ++ (a ∷ []))
     unfolding closed-kept
     cycle-arcs head a r before closes arcs t =
-        let P = cyclePass l n k b m e in
-        let d = along-taken P s k fit (closes .step) in
+        let P = cyclePass net places b m e in
+        let n = net .modes in
+        let k = net .duties in
+        let d = along-taken P fits cycle-usable (closes .step) in
         let c = closes-at (node n k m) e (closes .node) (closes .charge) .0 (closes .at-goal) in
         let high : ℕ → ℕ → ℕ = λ j i. suc (chargeAt w head) in
         let closing : ClosingArc net b m e high =
@@ -109,7 +126,7 @@ module _ (l : Lists) (n s k b : ℕ) (fit : Fit (automatonOf n s k l)) where
           arc = a;
           charged = chargeAt w head;
           bounded = node-levels r (entry-low head (from .queue) before .0) .0;
-          lasts = whole-lasting-arc model a .1 (d .known);
+          lasts = lasts-ok a .1 (d .known, d .allowed);
           listed = refl;
           possible = d .possible;
           last = d .rises ∙ rw (c .0) (node-level n k m hm);
@@ -118,15 +135,15 @@ module _ (l : Lists) (n s k b : ℕ) (fit : Fit (automatonOf n s k l)) where
         }
         in
         let z =
-        traced-reached P s k fit (Lasts net) (whole-lasting-arc model) m e best w tail hm from head (nodeAt w head / n)
+        traced-reached P fits cycle-usable (Lasts net) lasts-ok m e best w tail hm from head (nodeAt w head / n)
         (net .graph .source a) (chargeAt w head) arcs before refl (sym (d .leaves)) refl t
         in
         record { cycle = closed-kept net b m e high closing (z .0); same = ap {B = List ℕ} (λ (y : List ℕ). y ++ (a ∷ [])) (z .1) }
 
   -- the pass from mode m with charge e finds a cycle that keeps e, or there is none
-  pub passed-cycle : (m e : ℕ) {best w : List ℕ} {found : Bool} {head a tail : ℕ} → m < n
-      → Ready (cyclePass l n k b m e) (length best) (length w) → Passed (cyclePass l n k b m e) m e best w found head a tail
-      → CyclePassed (automatonOf n s k l) b m e w found head a
+  pub passed-cycle : (m e : ℕ) {best w : List ℕ} {found : Bool} {head a tail : ℕ} → m < net .modes
+      → Ready (cyclePass net places b m e) (length best) (length w) → Passed (cyclePass net places b m e) m e best w found head a tail
+      → CyclePassed net b m e w found head a
   passed-cycle m e {best} {w} {head = head} {a = a} {tail = tail} hm r p =
       let q = p .from .queue in
       record {

@@ -2,14 +2,15 @@
 use mathlib.Core.Path.{_≡_, refl, sym, ap, subst, subst₂, _∙_}
 use mathlib.Core.Bool.{Bool, true, false, true≢false, false≢true}
 use mathlib.Core.List.{List}
-use Prim.Native.Nat.{ℕ, _+_, _*_, _≤_, _<_}
+use Prim.Native.Nat.{ℕ, _+_, _*_, _%_, _≤_, _<_}
 use native.Mathlib.Omega.{arith}
 use native.Mathlib.Decide.{ℕ-discrete, decLt}
 use lib.ListN.{length, getD, set, replicate, getD-replicate, List·getD-eq-default}
 use lib.Seq.{getD-set-same, getD-set-other}
 use borrow.Author.Count.{below-more}
 use Rattle.limits.specs.Ceilings.{workWords}
-use Rattle.passes.specs.Pass.{Pass, Along, closesAt}
+use Rattle.groups.specs.Grouped.{firstPlace, arcPlaced, PlaceOf}
+use Rattle.passes.specs.Pass.{Pass, Along, Ready, closesAt}
 use Rattle.passes.specs.Queue.{nodeAt, chargeAt, Entry, Queue, Pushed, Arrived, closed, knows, rises, Grown, Covers, Closes}
 use Rattle.passes.specs.Queue.{Tried, Visited, Begun, Treated, Passed}
 use Rattle.passes.proofs.Queue.{along-unique, sum-set, set-low, push-queue, push-grown}
@@ -52,21 +53,21 @@ covers-step {P} {a} {v} {e} {u} {x} best s h c =
     }
 
 -- an arc that is covered, in a later state
-tried-covered : {P : Pass} {best w best′ w′ : List ℕ} {tail a v e tail′ : ℕ} → Queue P best′ w′ tail′ → Grown best w tail best′ w′ tail′
-    → Covers P best′ a v e → Tried P best w tail a (a + 1) v e best′ w′ false a tail′
-tried-covered {P} {best′ = best′} {a = a} {v = v} {e = e} q g c =
+tried-covered : {P : Pass} {best w best′ w′ : List ℕ} {tail i v e tail′ : ℕ} → Queue P best′ w′ tail′ → Grown best w tail best′ w′ tail′
+    → Covers P best′ (arcPlaced (P .places) i) v e → Tried P best w tail i (i + 1) v e best′ w′ false (arcPlaced (P .places) i) tail′
+tried-covered {P} {best′ = best′} {i = i} {v = v} {e = e} q g c =
     record {
       queue = q;
       grown = g;
-      covers = λ off i lo hi. subst (λ n. Covers P best′ n v e) {x = a} {y = i} (omega arith) c;
+      covers = λ off j lo hi. subst (λ n. Covers P best′ (arcPlaced (P .places) n) v e) {x = i} {y = j} (omega arith) c;
       closing = λ on. absurd (false≢true on);
     }
 
 -- what is done where an arc arrives is what trying it asks
-pub arrived-tried : {P : Pass} {best w best′ w′ : List ℕ} {tail h a u x tail′ : ℕ} {closes : Bool} → Queue P best w tail → h < tail
-    → Along P a (nodeAt w h) (chargeAt w h) u x → u < length best
-    → Arrived (P .goal) (P .least) best w tail u x h a best′ w′ closes tail′
-    → Tried P best w tail a (a + 1) (nodeAt w h) (chargeAt w h) best′ w′ closes a tail′
+pub arrived-tried : {P : Pass} {best w best′ w′ : List ℕ} {tail h i u x tail′ : ℕ} {closes : Bool} → Queue P best w tail → h < tail
+    → Along P (arcPlaced (P .places) i) (nodeAt w h) (chargeAt w h) u x → u < length best
+    → Arrived (P .goal) (P .least) best w tail u x h (arcPlaced (P .places) i) best′ w′ closes tail′
+    → Tried P best w tail i (i + 1) (nodeAt w h) (chargeAt w h) best′ w′ closes (arcPlaced (P .places) i) tail′
 arrived-tried {P} {best} {w} {tail = tail} {u = u} {x = x} q hh s hu (closed c eb ew eh et) =
     rw (eb, ew, eh, et)
     (record {
@@ -77,14 +78,16 @@ arrived-tried {P} {best} {w} {tail = tail} {u = u} {x = x} q hh s hu (closed c e
     })
 arrived-tried {P} {best} {w} {tail = tail} q hh s hu (knows c known eb ew eh et) =
     rw (eb, ew, eh, et) (tried-covered q (grown-refl best w tail) (covers-step best s known c))
-arrived-tried {P} {best} {w} {best′} {w′} {tail} {h} {a} {u} {x} q hh s hu (rises c up eb p eh et) =
+arrived-tried {P} {best} {w} {best′} {w′} {tail} {h} {i} {u} {x} q hh s hu (rises c up eb p eh et) =
+    let a = arcPlaced (P .places) i in
     rw (eb, eh, et)
     (tried-covered (push-queue P best w w′ tail u x h a q p hh s hu up) (push-grown P best w w′ tail u x h a q p hh s hu up)
     (covers-step (set best u (x + 1)) s (omega (arith, getD-set-same best u (x + 1) 0 hu)) c))
 
 -- an arc that is not possible asks nothing
-pub tried-impossible : {P : Pass} {best w : List ℕ} {tail a v e : ℕ} → Queue P best w tail → ((u x : ℕ) → Along P a v e u x → ⊥)
-    → Tried P best w tail a (a + 1) v e best w false a tail
+pub tried-impossible : {P : Pass} {best w : List ℕ} {tail i v e : ℕ} → Queue P best w tail
+    → ((u x : ℕ) → Along P (arcPlaced (P .places) i) v e u x → ⊥)
+    → Tried P best w tail i (i + 1) v e best w false (arcPlaced (P .places) i) tail
 tried-impossible {P} {best} {w} {tail} q n =
     tried-covered q (grown-refl best w tail) (record { knows = λ u x s. absurd (n u x s); passes = λ u x s. absurd (n u x s) })
 
@@ -111,7 +114,7 @@ tried-more {P} {b1 = b1} {b2 = b2} {lo = lo} {mid = mid} {hi = hi} {v = v} {e = 
       closing = r .closing;
     }
   where
-    go : closes ≡ false → (i : ℕ) → lo ≤ i → i < hi → Dec (i < mid) → Covers P b2 i v e
+    go : closes ≡ false → (i : ℕ) → lo ≤ i → i < hi → Dec (i < mid) → Covers P b2 (arcPlaced (P .places) i) v e
     go off i l h (yes lt) = covers-up b1 b2 (r .grown .up) (s .covers refl i l lt)
     go off i l h (no ge) = r .covers off i (omega arith) h
 
@@ -126,22 +129,35 @@ pub tried-closed : {P : Pass} {best w best′ w′ : List ℕ} {tail lo hi v e a
 tried-closed hi′ on t =
     record { queue = t .queue; grown = t .grown; covers = λ off. absurd (true≢false (sym on ∙ off)); closing = t .closing }
 
--- every arc is tried at an entry
-pub visited-tried : {P : Pass} {best w best′ w′ : List ℕ} {head tail a tail′ : ℕ} {closes : Bool}
-    → Tried P best w tail 0 (length (P .lists .sources)) (nodeAt w head) (chargeAt w head) best′ w′ closes a tail′
+-- fewer places
+pub tried-less : {P : Pass} {best w best′ w′ : List ℕ} {tail lo hi hi′ v e a tail′ : ℕ} {closes : Bool} → hi′ ≤ hi
+    → Tried P best w tail lo hi v e best′ w′ closes a tail′ → Tried P best w tail lo hi′ v e best′ w′ closes a tail′
+tried-less h t = record { queue = t .queue; grown = t .grown; covers = λ off i l q. t .covers off i l (omega arith); closing = t .closing }
+
+-- where the places of an entry's mode are tried, every arc is: an arc that leaves another mode asks nothing
+pub visited-tried : {P : Pass} {best w best′ w′ : List ℕ} {head tail a tail′ m size : ℕ} {closes : Bool} → Ready P m size
+    → Tried P best w tail (firstPlace (P .places) (nodeAt w head % P .net .modes)) (firstPlace (P .places) (nodeAt w head % P .net .modes + 1))
+    (nodeAt w head) (chargeAt w head) best′ w′ closes a tail′
     → Visited P best w tail head best′ w′ closes a tail′
-visited-tried t =
+visited-tried {P} {w = w} {best′ = best′} {head = head} {closes = closes} ready t =
     record {
       queue = t .queue;
       grown = t .grown;
       covers =
           λ off e i.
           record {
-            knows = λ u x s. t .covers off i (omega arith) (s .known) .knows u x s;
-            passes = λ u x s. t .covers off i (omega arith) (s .known) .passes u x s;
+            knows = λ u x s. covered off i (s .known) (s .leaves) .knows u x s;
+            passes = λ u x s. covered off i (s .known) (s .leaves) .passes u x s;
           };
       closing = t .closing;
     }
+  where
+    covered : closes ≡ false → (i : ℕ) → i < P .net .count → P .net .graph .source i ≡ nodeAt w head % P .net .modes
+        → Covers P best′ i (nodeAt w head) (chargeAt w head)
+    covered off i known leaves =
+        let (j, p, e) = ready .grouped .places i known in
+        let q : PlaceOf (P .places) (nodeAt w head % P .net .modes) j = rw leaves at p in
+        rw e at (t .covers off j (q .from) (q .below))
 
 -- an entry whose charge is no longer the greatest of its node asks nothing
 pub visited-stale : {P : Pass} {best w : List ℕ} {head tail : ℕ} (a : ℕ) → Queue P best w tail

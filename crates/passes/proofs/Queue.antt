@@ -12,24 +12,19 @@ use lib.ListN.{length, getD, set, length-set, List·getD-eq-default}
 use lib.Seq.{getD-set-same, getD-set-other}
 use borrow.Author.Tests.{ltb-true}
 use Rattle.limits.specs.Ceilings.{workWords}
-use Rattle.walks.proofs.Weights.{stepped-to}
 use Rattle.model.specs.Automaton.{bit}
-use Rattle.model.specs.Lists.{arcOf}
-use Rattle.nets.specs.Table.{raisedIf}
+use Rattle.nets.specs.Table.{raisedIf, next}
 use Rattle.nets.proofs.Pigeonhole.{paired-bound}
 use Rattle.passes.specs.Pass.{Pass, Along, Ready, node, room, levelAfter}
 use Rattle.passes.specs.Queue.{wordCount, nodeAt, chargeAt, parentAt, sum, Made, Entry, Queue, Pushed, Arrives, Grown}
 
 -- a step leads no higher than the bound
 pub along-low : {P : Pass} {a v e u x : ℕ} → Along P a v e u x → x ≤ P .bound
-along-low {P} {a} {e = e} {x = x} s = omega (arith, stepped-to (P .bound) (arcOf (P .lists) a .weight) e x .0 (s .steps) .1)
+along-low s = omega (arith, s .left)
 
 -- a step has one result
 pub along-unique : {P : Pass} {a v e u x u′ x′ : ℕ} → Along P a v e u x → Along P a v e u′ x′ → (u′ ≡ u) × (x′ ≡ x)
-along-unique s s′ =
-    let t = s .steps in
-    let t′ = s′ .steps in
-    (s′ .enters ∙ sym (s .enters), cc)
+along-unique s s′ = (s′ .enters ∙ sym (s .enters), s′ .left ∙ sym (s .left))
 
 -- equal numbers make equal steps
 along-cast : {P : Pass} {a a′ v v′ e e′ u u′ x x′ : ℕ} → a ≡ a′ → v ≡ v′ → e ≡ e′ → u ≡ u′ → x ≡ x′ → Along P a v e u x
@@ -42,31 +37,34 @@ along-cast {P} {a} {a′} {v} {v′} {e} {e′} {u} {u′} {x} {x′} pa pv pe p
     (subst (λ n. Along P a v e u n) px s))))
 
 -- the level and the mode of a node of the pass
-pub node-levels : {P : Pass} {m size v : ℕ} → Ready P m size → v < m → (v / P .modes ≤ P .last) × (v % P .modes < P .modes)
+pub node-levels : {P : Pass} {m size v : ℕ} → Ready P m size → v < m → (v / P .net .modes ≤ P .last) × (v % P .net .modes < P .net .modes)
 unfolding node
 node-levels {P} {m} {size} {v} r h =
     let t = r .table in
-    let below : v / P .modes < suc (P .last) = div-lt-iff-lt-mul (r .some-mode) .1 (omega arith) in
+    let below : v / P .net .modes < suc (P .last) = div-lt-iff-lt-mul (r .some-mode) .1 (omega arith) in
     (omega arith, mod-lt v (r .some-mode))
 
 -- no arc leads above the last level
-pub level-after-low : (last colours l : ℕ) → l ≤ last → levelAfter last colours l ≤ last
-unfolding levelAfter
-level-after-low last colours l h = go (ltb l last) (bit colours l) refl
+raised-low : (last l : ℕ) (t : Bool) → l ≤ last → raisedIf (ltb l last && t) l ≤ last
+raised-low last l t h = go (ltb l last) t refl
   where
     go : (s t : Bool) → ltb l last ≡ s → raisedIf (s && t) l ≤ last
     go true true p = omega (arith, ltb-true l last p)
     go true false p = h
     go false t p = h
 
+pub level-after-low : (last colours l : ℕ) → l ≤ last → levelAfter last colours l ≤ last
+unfolding levelAfter
+level-after-low last colours l h = raised-low last l (bit colours l) h
+
 -- from a node of the pass an arc leads to a node of it
 pub along-inside : {P : Pass} {m size a v e u x : ℕ} → Ready P m size → v < m → Along P a v e u x → u < m
 unfolding node
 along-inside {P} {m} {size} {a} {v} r h s =
-    let c = getD (P .lists .colours) a 0 in
-    let l = levelAfter (P .last) c (v / P .modes) in
-    let low = level-after-low (P .last) c (v / P .modes) (node-levels r h .0) in
-    let inside = paired-bound (suc (P .last)) (P .modes) l (getD (P .lists .targets) a 0) (omega arith) (r .targets a (s .known)) in
+    let n = P .net .modes in
+    let l = next (P .net) (P .last) (v / n) a in
+    let low = raised-low (P .last) (v / n) (P .net .meets (v / n) a) (node-levels r h .0) in
+    let inside = paired-bound (suc (P .last)) n l (P .net .graph .target a) (omega arith) (r .targets a (s .known)) in
     omega (arith, s .enters, r .table)
 
 -- one store moves the sum by the difference
@@ -286,5 +284,5 @@ pub ready-some : {P : Pass} {m size : ℕ} → Ready P m size → (0 < m) × (m 
 unfolding node
 ready-some {P} {m} r =
     let most = room-most m (P .bound) in
-    let some : 0 < m = omega (arith, r .table, r .some-mode, suc-mul (P .last) (P .modes)) in
+    let some : 0 < m = omega (arith, r .table, r .some-mode, suc-mul (P .last) (P .net .modes)) in
     (some, omega (arith, r .small), omega (arith, r .space))

@@ -4,67 +4,65 @@ use mathlib.Core.Bool.{Bool, true, false}
 use mathlib.Core.List.{List, [], _∷_, _++_}
 use Prim.Native.Nat.{ℕ, suc, _≤_, _<_}
 use lib.ListN.{getD, take, drop}
-use Rattle.model.specs.Automaton.{Automaton}
-use Rattle.nets.specs.Net.{Usable}
+use Rattle.nets.specs.Net.{Net, Usable}
 use Rattle.nets.specs.Table.{Reached, Peaks, KeptCycle}
-use Rattle.nets.specs.Whole.{whole}
 use Rattle.passes.specs.Pass.{node, nodes, room}
 use Rattle.passes.specs.Queue.{byteCount, Entry, nodeAt, chargeAt}
 use Rattle.passes.specs.Trace.{Linked, Traced}
 
 -- the arcs are a walk of possible steps from the start mode with credit c to mode t with charge x
-pub record Arrival (g : Automaton) (b c t x : ℕ) (arcs : List ℕ) : Type 0 where
-  pub reached : Reached (whole g) (Usable (whole g)) 0 b (g .start) c 0 t x
+pub record Arrival (g : Net) (b c t x : ℕ) (arcs : List ℕ) : Type 0 where
+  pub reached : Reached g (Usable g) 0 b (g .start) c 0 t x
   pub same : reached .arcs ≡ arcs
 
 -- the arcs are a cycle from mode s that meets every colour and keeps the charge e
-pub record Kept (g : Automaton) (b s e : ℕ) (arcs : List ℕ) : Type 0 where
-  pub cycle : KeptCycle (whole g) b s e
+pub record Kept (g : Net) (b s e : ℕ) (arcs : List ℕ) : Type 0 where
+  pub cycle : KeptCycle g b s e
   pub same : cycle .arcs ≡ arcs
 
 -- e is the peak of mode s
-pub record Peak (g : Automaton) (b c s e : ℕ) : Type 0 where
+pub record Peak (g : Net) (b c s e : ℕ) : Type 0 where
   pub high : ℕ → ℕ → ℕ
-  pub peaks : Peaks (whole g) b c high
+  pub peaks : Peaks g b c high
   pub mode : s < g .modes
   pub listed : high 0 s ≡ suc e
 
 -- a word of the table of peaks, for mode s, is that of a peak which a cycle keeps
-pub record KeptPeak (g : Automaton) (b s y : ℕ) : Type 0 where
+pub record KeptPeak (g : Net) (b s y : ℕ) : Type 0 where
   pub peak : ℕ
   pub listed : y ≡ suc peak
-  pub cycle : KeptCycle (whole g) b s peak
+  pub cycle : KeptCycle g b s peak
 
 -- what the pass for the peaks leaves: the table, and a queue of r entries in w from which the arcs to each can be read
-pub record Peaked (g : Automaton) (b c : ℕ) (best w : List ℕ) (r : ℕ) : Type 0 where
-  pub table : Peaks (whole g) b c (λ l t. getD best (node (g .modes) l t) 0)
+pub record Peaked (g : Net) (b c : ℕ) (best w : List ℕ) (r : ℕ) : Type 0 where
+  pub table : Peaks g b c (λ l t. getD best (node (g .modes) l t) 0)
   pub held : (s : ℕ) → s < g .modes → 0 < getD best s 0 → Entry w 0 r s (getD best s 0)
   pub few : r ≤ room (g .modes) b
   pub linked : (i : ℕ) → i < r → Linked w i
   pub arcs : (i : ℕ) → i < r → (l : List ℕ) → Traced w i 0 l → Arrival g b c (nodeAt w i) (chargeAt w i) l
 
 -- what the pass from mode s with charge e leaves: no cycle keeps e, or the arcs to entry head and arc a are one that does
-pub record CyclePassed (g : Automaton) (b s e : ℕ) (w : List ℕ) (found : Bool) (head a : ℕ) : Type 0 where
-  pub none : found ≡ false → KeptCycle (whole g) b s e → ⊥
-  pub few : found ≡ true → head < room (nodes (g .modes) (g .colours)) b
+pub record CyclePassed (g : Net) (b s e : ℕ) (w : List ℕ) (found : Bool) (head a : ℕ) : Type 0 where
+  pub none : found ≡ false → KeptCycle g b s e → ⊥
+  pub few : found ≡ true → head < room (nodes (g .modes) (g .duties)) b
   pub linked : found ≡ true → Linked w head
   pub byte : found ≡ true → a < byteCount
   pub arcs : found ≡ true → (l : List ℕ) → Traced w head 0 l → Kept g b s e (l ++ (a ∷ []))
 
 -- mode r is the first whose peak a cycle keeps; where there is none, r is the number of modes
-pub record FirstKept (g : Automaton) (b : ℕ) (peaks : List ℕ) (r : ℕ) : Type 0 where
+pub record FirstKept (g : Net) (b : ℕ) (peaks : List ℕ) (r : ℕ) : Type 0 where
   pub within : r ≤ g .modes
   pub kept : r < g .modes → KeptPeak g b r (getD peaks r 0)
   pub none : (s : ℕ) → s < r → KeptPeak g b s (getD peaks s 0) → ⊥
 
 -- the first r bytes of plan′ are the prefix, from the start to mode s with charge e; the others are plan's
-pub record PrefixWritten (g : Automaton) (b c s e : ℕ) (plan plan′ : List ℕ) (r : ℕ) : Type 0 where
+pub record PrefixWritten (g : Net) (b c s e : ℕ) (plan plan′ : List ℕ) (r : ℕ) : Type 0 where
   pub few : r ≤ room (g .modes) b
   pub arcs : Arrival g b c s e (take r plan′)
   pub later : drop r plan′ ≡ drop r plan
 
 -- the first r bytes of plan′ are the cycle from mode s that keeps e; the others are plan's
-pub record CycleWritten (g : Automaton) (b s e : ℕ) (plan plan′ : List ℕ) (r : ℕ) : Type 0 where
-  pub few : r ≤ room (nodes (g .modes) (g .colours)) b
+pub record CycleWritten (g : Net) (b s e : ℕ) (plan plan′ : List ℕ) (r : ℕ) : Type 0 where
+  pub few : r ≤ room (nodes (g .modes) (g .duties)) b
   pub arcs : Kept g b s e (take r plan′)
   pub later : drop r plan′ ≡ drop r plan

@@ -6,6 +6,7 @@ use mathlib.Core.List.{List, [], _∷_}
 use Prim.Native.Nat.{ℕ, _+_, _*_, _≤_, _<_}
 use lib.ListN.{length, getD, set}
 use Rattle.limits.specs.Ceilings.{workWords}
+use Rattle.groups.specs.Grouped.{arcPlaced}
 use Rattle.passes.specs.Pass.{Pass, Along, closesAt}
 
 -- the numbers that a word holds, and a byte
@@ -104,11 +105,11 @@ pub record Closes (P : Pass) (a v e : ℕ) : Type 0 where
   pub step : Along P a v e node charge
   pub at-goal : closesAt (P .goal) (P .least) node charge ≡ true
 
--- what trying the arcs from lo on and below hi at (v, e) gives: all are covered, or arc a closes the cycle
+-- what trying the arcs at the places from lo on and below hi at (v, e) gives: all are covered, or arc a closes the cycle
 pub record Tried (P : Pass) (best w : List ℕ) (tail lo hi v e : ℕ) (best′ w′ : List ℕ) (closes : Bool) (a tail′ : ℕ) : Type 0 where
   pub queue : Queue P best′ w′ tail′
   pub grown : Grown best w tail best′ w′ tail′
-  pub covers : closes ≡ false → (i : ℕ) → lo ≤ i → i < hi → Covers P best′ i v e
+  pub covers : closes ≡ false → (i : ℕ) → lo ≤ i → i < hi → Covers P best′ (arcPlaced (P .places) i) v e
   pub closing : closes ≡ true → Closes P a v e
 
 -- what a visit of entry head gives: the same for every arc, or nothing where the entry's charge is no longer the greatest of its node

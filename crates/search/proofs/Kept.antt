@@ -6,11 +6,11 @@ use Prim.Native.Nat.{ℕ, _+_, _≤_, _<_}
 use native.Mathlib.Omega.{arith}
 use native.Mathlib.Decide.{ℕ-discrete}
 use lib.ListN.{getD}
-use Rattle.model.specs.Automaton.{Automaton}
+use Rattle.nets.specs.Net.{Net}
 use Rattle.passes.specs.Outcome.{KeptPeak, CyclePassed, FirstKept}
 use Rattle.passes.proofs.Traces.{linked-traced}
 
-module _ {g : Automaton} {b s : ℕ} where
+module _ {g : Net} {b s : ℕ} where
   -- where the pass from a mode with a charge finds a cycle, the charge is kept
   pub cycle-kept : {e head a y : ℕ} {w : List ℕ} {found : Bool} → CyclePassed g b s e w found head a → y ≡ e + 1 → found ≡ true
       → KeptPeak g b s y
@@ -28,11 +28,11 @@ module _ {g : Automaton} {b s : ℕ} where
   none-kept h k = omega (arith, k .listed)
 
 -- of the modes below i none has a peak that a cycle keeps
-pub record NoneKept (g : Automaton) (b : ℕ) (peaks : List ℕ) (i : ℕ) : Type 0 where
+pub record NoneKept (g : Net) (b : ℕ) (peaks : List ℕ) (i : ℕ) : Type 0 where
   pub within : i ≤ g .modes
   pub none : (s : ℕ) → s < i → KeptPeak g b s (getD peaks s 0) → ⊥
 
-module _ {g : Automaton} {b : ℕ} {peaks : List ℕ} where
+module _ {g : Net} {b : ℕ} {peaks : List ℕ} where
   -- there is no mode below 0
   pub first-none : NoneKept g b peaks 0
   first-none = record { within = omega arith; none = λ s h. absurd (omega arith) }

@@ -10,3 +10,4 @@ pub mod Peaks
 pub mod Searchable
 pub mod Demand3
 pub mod Examples
+pub mod Standing

@@ -7,18 +7,14 @@ use native.Mathlib.Omega.{arith}
 use native.Mathlib.Decide.{decLe}
 use lib.ListN.{length, getD, take, drop, replicate, length-append, List·getD-append, List·getD-eq-default}
 use lib.Seq.{length-take-le, take-at}
-use Rattle.model.specs.Automaton.{Automaton}
-use Rattle.model.specs.Lists.{Lists}
-use Rattle.model.specs.Plans.{SomePlan}
 use Rattle.nets.specs.Table.{KeptCycle}
-use Rattle.nets.specs.Whole.{whole}
-use Rattle.nets.specs.Net.{Usable}
+use Rattle.nets.specs.Net.{Net, Usable, AcceptedLasso}
 use Rattle.nets.proofs.Tables.{table-bound}
-use Rattle.nets.proofs.Whole.{plan-criterion}
+use Rattle.nets.proofs.Criterion.{criterion}
 use Rattle.passes.specs.Pass.{node}
 use Rattle.passes.specs.Outcome.{Peak, Peaked, FirstKept}
 use Rattle.search.specs.declared.plans.Task.{Task}
-use Rattle.search.specs.Tasks.{taskModel, Searchable}
+use Rattle.search.specs.Tasks.{taskNet, Searchable}
 use Rattle.passes.proofs.Nodes.{node-first}
 use Rattle.limits.specs.Ceilings.{modesMost}
 use Rattle.search.proofs.Tasks.{take-replicate}
@@ -32,29 +28,29 @@ abbrev filled : ℕ → List ℕ → List ℕ
 filled n best = best ++ drop n blankTable
 
 -- no peak is above the bound
-peaked-low : {g : Automaton} {b c r : ℕ} {best w : List ℕ} → c ≤ b → length best ≡ g .modes → Peaked g b c best w r → (s : ℕ)
+peaked-low : {g : Net} {b c r : ℕ} {best w : List ℕ} → c ≤ b → length best ≡ g .modes → Peaked g b c best w r → (s : ℕ)
     → getD best s 0 ≤ b + 1
 peaked-low {g} {b} {c} {best = best} hc e p s =
     elim (decLe (length best) s) [
       | yes q ↦ omega (arith, List·getD-eq-default best 0 q)
       | no q ↦
           let high : ℕ → ℕ → ℕ = λ l t. getD best (node (g .modes) l t) 0 in
-          let low = table-bound (whole g) (Usable (whole g)) 0 b (g .start) c high hc (p .table) 0 s (omega arith) (omega arith) in
+          let low = table-bound g (Usable g) 0 b (g .start) c high hc (p .table) 0 s (omega arith) (omega arith) in
           omega (arith, rw (node-first (g .modes) s) at low)
     ]
 
-module _ {l : Lists} {t : Task} {words : ℕ} (able : Searchable l t words) where
+module _ {rows places : List ℕ} {t : Task} {words : ℕ} (able : Searchable rows places t words) where
   -- a word for each mode is lent
   pub lent-words : t .modes ≡ length (take (t .modes) blankTable)
-  lent-words = sym (length-take-le (t .modes) blankTable (omega (arith, able .fit .few-modes)))
+  lent-words = sym (length-take-le (t .modes) blankTable (omega (arith, able .few-modes)))
 
   -- and all of them are 0
   pub lent-zeros : take (t .modes) blankTable ≡ replicate (t .modes) 0
-  lent-zeros = take-replicate (t .modes) modesMost (able .fit .few-modes)
+  lent-zeros = take-replicate (t .modes) modesMost (able .few-modes)
 
 -- once the pass has filled it
-module _ {l : Lists} {t : Task} {words r : ℕ} {best w : List ℕ} (able : Searchable l t words)
-    (peaked : Peaked (taskModel l t) (t .bound) (t .credit) best w r) (kept : length best ≡ length (take (t .modes) blankTable)) where
+module _ {rows places : List ℕ} {t : Task} {words r : ℕ} {best w : List ℕ} (able : Searchable rows places t words)
+    (peaked : Peaked (taskNet rows t) (t .bound) (t .credit) best w r) (kept : length best ≡ length (take (t .modes) blankTable)) where
   best-size : length best ≡ t .modes
   best-size = omega (arith, lent-words able)
 
@@ -74,16 +70,16 @@ module _ {l : Lists} {t : Task} {words r : ℕ} {best w : List ℕ} (able : Sear
   filled-low s = rw best-front (peaked-low (able .credit) best-size peaked s)
 
   -- where mode m is answered as the first whose peak is kept
-  module _ {m : ℕ} (lent : FirstKept (taskModel l t) (t .bound) (take (t .modes) (filled (t .modes) best)) m) where
-    first : FirstKept (taskModel l t) (t .bound) best m
+  module _ {m : ℕ} (lent : FirstKept (taskNet rows t) (t .bound) (take (t .modes) (filled (t .modes) best)) m) where
+    first : FirstKept (taskNet rows t) (t .bound) best m
     first = rw best-front at lent
 
-    -- if it is none, there is no plan
-    pub no-plan : m ≡ t .modes → SomePlan (taskModel l t) (t .bound) (t .credit) → ⊥
+    -- if it is none, there is no lasso
+    pub no-plan : m ≡ t .modes → AcceptedLasso (taskNet rows t) (t .bound) (t .credit) → ⊥
     no-plan all plan =
         let n = t .modes in
         let high : ℕ → ℕ → ℕ = λ l t. getD best (node n l t) 0 in
-        let peak = plan-criterion (taskModel l t) (t .bound) (t .credit) high (able .fit) (able .credit) (peaked .table) .0 plan in
+        let peak = criterion (taskNet rows t) (t .bound) (t .credit) high (able .fits) (able .credit) (peaked .table) .0 plan in
         first .none (peak .mode) (omega (arith, peak .bounded))
         (record { peak = peak .peak; listed = rw (node-first n (peak .mode)) at (peak .listed); cycle = peak .cycle })
 
@@ -104,7 +100,7 @@ module _ {l : Lists} {t : Task} {words r : ℕ} {best w : List ℕ} (able : Sear
       first-low = omega (arith, first-word, peaked-low (able .credit) best-size peaked m)
 
       -- of the mode's peak,
-      pub first-peak : Peak (taskModel l t) (t .bound) (t .credit) m (getD (filled (t .modes) best) m 0 - 1)
+      pub first-peak : Peak (taskNet rows t) (t .bound) (t .credit) m (getD (filled (t .modes) best) m 0 - 1)
       first-peak =
           record {
             high = λ l s. getD best (node (t .modes) l s) 0;
@@ -114,7 +110,7 @@ module _ {l : Lists} {t : Task} {words r : ℕ} {best w : List ℕ} (able : Sear
           }
 
       -- and of one that a cycle keeps
-      pub first-cycle : KeptCycle (whole (taskModel l t)) (t .bound) m (getD (filled (t .modes) best) m 0 - 1)
+      pub first-cycle : KeptCycle (taskNet rows t) (t .bound) m (getD (filled (t .modes) best) m 0 - 1)
       first-cycle =
           let k = first .kept first-mode in
-          subst (λ (x : ℕ). KeptCycle (whole (taskModel l t)) (t .bound) m x) (omega (arith, first-word, k .listed)) (k .cycle)
+          subst (λ (x : ℕ). KeptCycle (taskNet rows t) (t .bound) m x) (omega (arith, first-word, k .listed)) (k .cycle)

@@ -5,15 +5,13 @@ use mathlib.Core.List.{List}
 use Prim.Native.Nat.{ℕ, zero, suc, _+_, _*_, _≤_, _<_}
 use native.Mathlib.Nat.{one-mul, mul-le-mul, mul-le-mul-right}
 use native.Mathlib.Omega.{arith}
-use lib.ListN.{length, getD, take, replicate, length-replicate}
-use Rattle.limits.specs.Ceilings.{modesMost, arcsMost, coloursMost}
-use Rattle.model.specs.Lists.{Lists}
-use Rattle.model.proofs.Arcs.{arcs-length, arcs-here}
+use lib.ListN.{length, take, replicate, length-replicate}
+use Rattle.limits.specs.Ceilings.{modesMost, coloursMost}
 use Rattle.passes.specs.Pass.{Pass, Ready, node, room}
 use Rattle.passes.specs.Queue.{Passed}
 use Rattle.passes.specs.Outcome.{Peaked, CyclePassed}
 use Rattle.search.specs.declared.plans.Task.{Task}
-use Rattle.search.specs.Tasks.{taskModel, Searchable}
+use Rattle.search.specs.Tasks.{taskNet, passOf, Searchable}
 use Rattle.passes.proofs.Outcomes.{peaksPass, cyclePass, passed-peaked, passed-cycle}
 use Rattle.passes.proofs.Queue.{ready-kept}
 
@@ -28,20 +26,12 @@ take-replicate (suc n) zero h = absurd (omega arith)
 take-replicate (suc n) (suc m) h = rw (take-replicate n m (omega arith)) refl
 
 -- a pass of a task, over the levels 0 to last
-abbrev taskPass : Lists → Task → ℕ → ℕ → ℕ → Pass
-taskPass l t last goal least = record { lists = l; modes = t .modes; last = last; bound = t .bound; goal = goal; least = least }
+abbrev taskPass : List ℕ → List ℕ → Task → ℕ → ℕ → ℕ → Pass
+taskPass rows places t last goal least = passOf rows places t (record { last = last; goal = goal; least = least })
 
-module _ {l : Lists} {t : Task} {words : ℕ} (able : Searchable l t words) where
-  few-arcs : length (l .sources) ≤ arcsMost
-  few-arcs = omega (arith, able .fit .few-arcs, arcs-length l (length (l .sources)) 0)
-
+module _ {rows places : List ℕ} {t : Task} {words : ℕ} (able : Searchable rows places t words) where
   few-levels : t .colours + 1 ≤ coloursMost + 1
-  few-levels = omega (arith, able .fit .few-colours)
-
-  known-targets : (a : ℕ) → a < length (l .sources) → getD (l .targets) a 0 < t .modes
-  known-targets a h =
-      let q = able .fit .arcs-fit a (omega (arith, arcs-length l (length (l .sources)) 0)) .target in
-      rw (arcs-here l (length (l .sources)) a h) at q
+  few-levels = omega (arith, able .few-colours)
 
   -- a pass over the levels 0 to last, with a blank table that has a word for each node
   module _ {last m : ℕ} {table : List ℕ} (levels : last ≤ t .colours) (count : m ≡ (last + 1) * t .modes)
@@ -53,15 +43,15 @@ module _ {l : Lists} {t : Task} {words : ℕ} (able : Searchable l t words) wher
     more = mul-le-mul-right (t .modes * (t .bound + 1)) (omega arith)
 
     -- it is ready, with a table and a working space as long
-    pass-ready : {goal least nodes words′ : ℕ} → nodes ≡ length table → words′ ≡ words → Ready (taskPass l t last goal least) nodes words′
+    pass-ready : {goal least nodes words′ : ℕ} → nodes ≡ length table → words′ ≡ words → Ready (taskPass rows places t last goal least) nodes words′
     unfolding room node
     pass-ready hb hw =
         ready-kept (record {
-          some-mode = able .fit .some-mode;
-          few-modes = able .fit .few-modes;
-          equal = able .equal;
-          few-arcs = few-arcs;
-          targets = known-targets;
+          some-mode = able .some-mode;
+          few-modes = able .few-modes;
+          few-arcs = able .few-arcs;
+          targets = λ a h. able .fits .targets a (h, refl);
+          grouped = able .grouped;
           levels = omega (arith, few-levels);
           low = able .low;
           table = omega arith;
@@ -71,34 +61,34 @@ module _ {l : Lists} {t : Task} {words : ℕ} (able : Searchable l t words) wher
 
     -- what it asks, where it begins at mode s with charge c
     pub pass-asked : {goal least s c : ℕ} → s < t .modes → c ≤ t .bound
-        → Ready (taskPass l t last goal least) (length table) words
+        → Ready (taskPass rows places t last goal least) (length table) words
         × ((s < length table) × (c ≤ t .bound) × (table ≡ replicate (length table) 0))
     pass-asked hs hc = (pass-ready refl refl, (omega (arith, size, count), hc, rw size blank))
 
   -- what the pass for the peaks leaves
   pub peaks-left : {peaks best w : List ℕ} {found : Bool} {head a tail : ℕ} → peaks ≡ replicate (t .modes) 0 → length best ≡ length peaks
-      → length w ≡ words → Passed (peaksPass l (t .modes) (t .bound)) (t .start) (t .credit) best w found head a tail
-      → Peaked (taskModel l t) (t .bound) (t .credit) best w tail
+      → length w ≡ words → Passed (peaksPass (taskNet rows t) places (t .bound)) (t .start) (t .credit) best w found head a tail
+      → Peaked (taskNet rows t) (t .bound) (t .credit) best w tail
   peaks-left e hb hw p =
-      passed-peaked l (t .modes) (t .start) (t .colours) (t .bound) (able .fit) (t .credit)
+      passed-peaked (taskNet rows t) places (t .bound) (able .fits) (t .credit)
       (pass-ready (omega arith) (sym (one-mul (t .modes))) e hb hw) p
 
   -- what the pass from mode m with charge e leaves
   pub cycle-left : {m e : ℕ} {table best w : List ℕ} {found : Bool} {head a tail : ℕ} → m < t .modes
       → table ≡ replicate ((t .colours + 1) * t .modes) 0 → length best ≡ length table → length w ≡ words
-      → Passed (cyclePass l (t .modes) (t .colours) (t .bound) m e) m e best w found head a tail
-      → CyclePassed (taskModel l t) (t .bound) m e w found head a
+      → Passed (cyclePass (taskNet rows t) places (t .bound) m e) m e best w found head a tail
+      → CyclePassed (taskNet rows t) (t .bound) m e w found head a
   cycle-left {m} {e} hm q hb hw p =
-      passed-cycle l (t .modes) (t .start) (t .colours) (t .bound) (able .fit) m e hm (pass-ready (omega arith) refl q hb hw) p
+      passed-cycle (taskNet rows t) places (t .bound) (able .fits) m e hm (pass-ready (omega arith) refl q hb hw) p
 
   -- the nodes of the pass from a mode fit the table of the code
   pub nodes-few : (t .colours + 1) * t .modes ≤ nodesMost
-  nodes-few = omega (arith, mul-le-mul few-levels (able .fit .few-modes))
+  nodes-few = omega (arith, mul-le-mul few-levels (able .few-modes))
 
   -- the part of that table which is lent to the pass is blank
   pub table-blank : take {A = ℕ} ((t .colours + 1) * t .modes) (replicate nodesMost 0) ≡ replicate ((t .colours + 1) * t .modes) 0
   table-blank = take-replicate ((t .colours + 1) * t .modes) nodesMost nodes-few
 
   -- another working space, as long
-  pub searchable-kept : {words′ : ℕ} → words′ ≡ words → Searchable l t words′
+  pub searchable-kept : {words′ : ℕ} → words′ ≡ words → Searchable rows places t words′
   searchable-kept e = rw e able

@@ -8,34 +8,36 @@ use native.Mathlib.Numerals.{add-one}
 use native.Mathlib.Omega.{arith}
 use lib.ListN.{length, getD, take, drop, set, length-append, length-drop, drop-of-length-le}
 use lib.Seq.{length-take-le, take-at, drop-at, take-append-add, drop-append-add, take-suc-set, drop-set-lt, drop-drop}
-use Rattle.limits.specs.Ceilings.{productMost, planBuffer}
+use Rattle.limits.specs.Ceilings.{coloursMost, productMost, planBuffer}
 use Rattle.model.specs.Automaton.{Automaton}
-use Rattle.model.specs.Fitness.{Fit}
-use Rattle.model.specs.Plans.{Serves, SomePlan}
+use Rattle.model.specs.Plans.{Plan}
 use Rattle.judge.specs.Shape.{planOf}
 use Rattle.judge.proofs.Arcs.{rest-part}
-use Rattle.nets.specs.Net.{Usable}
+use Rattle.nets.specs.Net.{Net, Usable, AcceptedLasso}
 use Rattle.nets.specs.Table.{KeptCycle}
-use Rattle.nets.specs.Whole.{whole}
+use Rattle.nets.specs.Whole.{whole, lassoPlan}
 use Rattle.nets.proofs.Tables.{table-unique}
-use Rattle.nets.proofs.Whole.{reached-serves}
+use Rattle.nets.proofs.Whole.{lasso-serves}
+use Rattle.nets.proofs.Criterion.{reached-lasso}
 use Rattle.passes.specs.Pass.{node}
 use Rattle.passes.specs.Queue.{Entry, nodeAt, chargeAt}
 use Rattle.passes.specs.Trace.{Wrote}
 use Rattle.passes.specs.Outcome.{Peak, Peaked, CyclePassed, PrefixWritten, CycleWritten}
 use Rattle.search.specs.declared.Searched.{Searched}
 use Rattle.search.specs.declared.Searched.the-variants as outcome
-use Rattle.search.specs.Search.{noPlan, Found, Answered, none, found}
+use Rattle.search.specs.Search as search
+use Rattle.search.specs.Search.{noPlan, Found, Answered}
+use Rattle.search.specs.Tasks.{LassoFound, Written, none, found}
 use Rattle.passes.proofs.Nodes.{node-first}
 use Rattle.search.proofs.Spaces.{plan-held, buffer-short, prefix-few, cycle-few}
 
-module _ {g : Automaton} {b c r : ℕ} {best w : List ℕ} (peaked : Peaked g b c best w r) where
+module _ {g : Net} {b c r : ℕ} {best w : List ℕ} (peaked : Peaked g b c best w r) where
   -- the table that the pass leaves has the peak of a mode
   peak-listed : {s e : ℕ} → Peak g b c s e → getD best s 0 ≡ e + 1
   peak-listed {s} {e} p =
       let table : ℕ → ℕ → ℕ = λ l t. getD best (node (g .modes) l t) 0 in
       let same : p .high 0 s ≡ getD best (node (g .modes) 0 s) 0 =
-      table-unique (whole g) (Usable (whole g)) 0 b (g .start) c (p .high) table (p .peaks) (peaked .table) 0 s (omega arith) (p .mode)
+      table-unique g (Usable g) 0 b (g .start) c (p .high) table (p .peaks) (peaked .table) 0 s (omega arith) (p .mode)
       in
       omega (arith, rw (node-first (g .modes) s) at same, p .listed)
 
@@ -54,8 +56,8 @@ module _ {g : Automaton} {b c r : ℕ} {best w : List ℕ} (peaked : Peaked g b 
         later = wrote .later;
       }
 
-module _ {g : Automaton} {b s e head a : ℕ} {w : List ℕ} {found : Bool} (passed : CyclePassed g b s e w found head a)
-    (cycle : KeptCycle (whole g) b s e) where
+module _ {g : Net} {b s e head a : ℕ} {w : List ℕ} {found : Bool} (passed : CyclePassed g b s e w found head a)
+    (cycle : KeptCycle g b s e) where
   -- where a cycle keeps the charge, the pass finds one
   pub cycle-found : found ≡ true
   cycle-found = go found refl
@@ -76,7 +78,7 @@ module _ {g : Automaton} {b s e head a : ℕ} {w : List ℕ} {found : Bool} (pas
             ∙ drop-drop 1 r plan;
       }
 
-module _ {g : Automaton} {b c s e p q : ℕ} {plan plan₁ part : List ℕ} (prefix : PrefixWritten g b c s e plan plan₁ p)
+module _ {g : Net} {b c s e p q : ℕ} {plan plan₁ part : List ℕ} (prefix : PrefixWritten g b c s e plan plan₁ p)
     (cycle : CycleWritten g b s e (drop p plan₁) part q) (long : p ≤ length plan₁) where
   -- the first bytes are the prefix and the cycle,
   plan-bytes : take (p + q) (take p plan₁ ++ part) ≡ take p plan₁ ++ take q part
@@ -84,14 +86,19 @@ module _ {g : Automaton} {b c s e p q : ℕ} {plan plan₁ part : List ℕ} (pre
       let size = length-take-le p plan₁ long in
       subst (λ (x : ℕ). take (x + q) (take p plan₁ ++ part) ≡ take p plan₁ ++ take q part) size (take-append-add (take p plan₁) part q)
 
-  -- a plan that serves,
-  plan-serves : Serves g b c (planOf p (take (p + q) (take p plan₁ ++ part)))
-  plan-serves =
+  -- a lasso,
+  plan-lasso : AcceptedLasso g b c
+  plan-lasso = reached-lasso g b c s e (prefix .arcs .reached) (cycle .arcs .cycle)
+
+  plan-same : lassoPlan plan-lasso ≡ planOf p (take (p + q) (take p plan₁ ++ part))
+  unfolding reached-lasso plan-lasso
+  plan-same =
       let size = length-take-le p plan₁ long in
       let one = prefix .arcs in
       let two = cycle .arcs in
       rw (plan-bytes, take-at (take p plan₁) (take q part) p size, drop-at (take p plan₁) (take q part) p size)
-      (rw (one .same, two .same) at (reached-serves g b c s e (one .reached) (two .cycle)))
+      (ap {B = Plan} (λ x. record { prefix = x; cycle = two .cycle .arcs }) (one .same)
+      ∙ ap {B = Plan} (λ x. record { prefix = take p plan₁; cycle = x }) (two .same))
 
   -- and later bytes are not touched
   plan-later : drop (p + q) (take p plan₁ ++ part) ≡ drop (p + q) plan
@@ -101,12 +108,12 @@ module _ {g : Automaton} {b c s e p q : ℕ} {plan plan₁ part : List ℕ} (pre
       ∙ cycle .later ∙ ap {B = List ℕ} (drop q) (prefix .later) ∙ drop-drop q p plan
 
 -- the prefix, and behind it the cycle, that are written into the plan buffer are a plan
-pub plan-found : {g : Automaton} {b c s e p q : ℕ} {plan plan₁ part : List ℕ} → Fit g → g .modes * (b + 1) ≤ productMost
-    → planBuffer (g .colours) (g .modes) b ≤ length plan → PrefixWritten g b c s e plan plan₁ p → length plan₁ ≡ length plan
+pub plan-found : {g : Net} {b c s e p q : ℕ} {plan plan₁ part : List ℕ} → g .duties ≤ coloursMost → g .modes * (b + 1) ≤ productMost
+    → planBuffer (g .duties) (g .modes) b ≤ length plan → PrefixWritten g b c s e plan plan₁ p → length plan₁ ≡ length plan
     → CycleWritten g b s e (take (length plan₁ - p) (drop p plan₁)) part q → length part ≡ length (take (length plan₁ - p) (drop p plan₁))
-    → Found g b c p q plan (take p plan₁ ++ (part ++ drop (length plan₁ - p) (drop p plan₁)))
+    → LassoFound g b c p q plan (take p plan₁ ++ (part ++ drop (length plan₁ - p) (drop p plan₁)))
 plan-found {g} {b} {c} {s} {e} {p} {q} {plan} {plan₁} {part} fit product buffer prefix size cycle kept =
-    let k = g .colours in
+    let k = g .duties in
     let n = g .modes in
     let held = plan-held k n b p q (prefix .few) (cycle .few) in
     let long : p ≤ length plan₁ = omega (arith, held) in
@@ -117,20 +124,36 @@ plan-found {g} {b} {c} {s} {e} {p} {q} {plan} {plan₁} {part} fit product buffe
     in
     rw (past, append-nil part) (record {
       within = omega (arith, held, length-append (take p plan₁) part, length-take-le p plan₁ long, length-drop p plan₁, rw rest at kept);
-      short = omega (arith, held, buffer-short k n b (fit .few-colours) product);
+      short = omega (arith, held, buffer-short k n b fit product);
       prefix-short = prefix-few n b p (prefix .few);
       cycle-short = cycle-few k n b q (cycle .few);
-      serves = plan-serves prefix behind long;
+      lasso = plan-lasso prefix behind long;
+      same = plan-same prefix behind long;
       later = plan-later prefix behind long;
+    })
+
+-- where a lasso is answered there is one
+pub written-lasso : {g : Net} {b c : ℕ} {plan plan′ : List ℕ} {r : Searched} → Written g b c plan plan′ r → (r ≡ noPlan → ⊥)
+    → (r ≡ noPlan) ↔ (AcceptedLasso g b c → ⊥)
+written-lasso (none e) not = absurd (not refl)
+written-lasso (found f) not = (λ e. absurd (not e), λ no. absurd (no (f .lasso)))
+
+-- in the words of the model, where the net stands for it
+pub written-answered : (g : Automaton) {b c : ℕ} {plan plan′ : List ℕ} {r : Searched} → Written (whole g) b c plan plan′ r
+    → Answered g b c plan plan′ r
+written-answered g {b} {c} (none e) = search.none e
+written-answered g {b} {c} (found f) =
+    search.found (record {
+      serves = rw (f .same) at (lasso-serves g b c (f .lasso));
+      within = f .within;
+      short = f .short;
+      prefix-short = f .prefix-short;
+      cycle-short = f .cycle-short;
+      later = f .later;
     })
 
 -- an answer without the refusal 10 has a plan
 pub answered-plan : {g : Automaton} {b c : ℕ} {plan plan′ : List ℕ} {r : Searched} → Answered g b c plan plan′ r → (r ≡ noPlan → ⊥)
     → (p : ℕ) × (q : ℕ) × (r ≡ outcome.Plan p q) × Found g b c p q plan plan′
-answered-plan (none e) not = absurd (not refl)
-answered-plan (found {p} {q} f) not = (p, q, refl, f)
-
--- where a plan is answered there is one
-pub plan-answered : {g : Automaton} {b c : ℕ} {plan plan′ : List ℕ} {r : Searched} → Answered g b c plan plan′ r → (r ≡ noPlan → ⊥)
-    → (r ≡ noPlan) ↔ (SomePlan g b c → ⊥)
-plan-answered a not = let (p, q, e, f) = answered-plan a not in (λ e. absurd (not e), λ no. absurd (no (_, f .serves)))
+answered-plan (search.none e) not = absurd (not refl)
+answered-plan (search.found {p} {q} f) not = (p, q, refl, f)

@@ -1,33 +1,103 @@
--- What the inner functions of search are given: the task, once none of 1 to 9 applies, and a pass of it.
-use Prim.Native.Nat.{ℕ, _+_, _*_, _/_, _%_, _≤_}
+-- What the inner functions of search are given: the rows and groups of a model, the task, once none of 1 to 9 applies, and a pass of it; and
+-- what they write. No public promise rests on these words.
+use Prim.Native.Nat.{ℕ, _+_, _*_, _/_, _%_, _≤_, _<_}
+use mathlib.Core.Path.{_≡_}
+use mathlib.Core.Bool.{true}
 use mathlib.Core.List.{List}
-use Rattle.limits.specs.Ceilings.{boundMost, productMost, workSpace}
-use Rattle.model.specs.Automaton.{Automaton}
+use lib.ListN.{length, take, drop}
+use Rattle.limits.specs.Ceilings.{modesMost, arcsMost, coloursMost, boundMost, productMost, planMost, workSpace, planBuffer}
+use Rattle.model.specs.declared.Model.{Model}
+use Rattle.model.specs.Automaton.{bit}
 use Rattle.model.specs.Lists.{Lists, automatonOf}
-use Rattle.model.specs.Fitness.{EqualLists, Fit}
+use Rattle.model.specs.Fitness.{EqualLists, Fit, Holds}
+use Rattle.judge.specs.Shape.{planOf}
+use Rattle.nets.specs.Net.{Net, Fits, AcceptedLasso}
+use Rattle.nets.specs.Whole.{lassoPlan}
+use Rattle.groups.specs.Rows.{sourceAt, targetAt, drawAt, gainAt, coloursAt}
+use Rattle.groups.specs.Grouped.{Grouped}
 use Rattle.passes.specs.Pass.{Pass}
 use Rattle.passes.specs.Queue.{nodeAt, chargeAt}
+use Rattle.search.specs.declared.Searched.{Searched}
+use Rattle.search.specs.declared.Searched.the-variants as outcome
 use Rattle.search.specs.declared.plans.Task.{Task}
-use Rattle.search.specs.declared.pass.PassNumbers.{PassNumbers}
+use Rattle.search.specs.declared.pass.Aim.{Aim}
 use Rattle.search.specs.declared.pass.Place.{Place}
+use Rattle.search.specs.Search.{noPlan}
 
--- the model of a task over its lists
-abbrev pub taskModel : Lists → Task → Automaton
-taskModel l t = automatonOf (t .modes) (t .start) (t .colours) l
+-- the net of n modes and m arcs that stand in rows, with the start mode s and k duties
+abbrev pub rowsNet : List ℕ → ℕ → ℕ → ℕ → ℕ → Net
+rowsNet rows n s k m =
+    record {
+      graph =
+          record {
+            source = λ a. sourceAt rows a;
+            target = λ a. targetAt rows a;
+            move = λ a. record { draw = drawAt rows a; gain = gainAt rows a };
+          };
+      modes = n;
+      start = s;
+      count = m;
+      on = λ a. true;
+      lasting = λ a. true;
+      duties = k;
+      meets = λ j a. bit (coloursAt rows a) j;
+    }
 
--- the pass with these numbers over the lists
-abbrev pub passOf : Lists → PassNumbers → Pass
-passOf l t = record { lists = l; modes = t .modes; last = t .last; bound = t .bound; goal = t .goal; least = t .least }
+-- the net of a task over its rows
+abbrev pub taskNet : List ℕ → Task → Net
+taskNet rows t = rowsNet rows (t .modes) (t .start) (t .colours) (t .count)
+
+-- a pass of a task over its rows and groups
+abbrev pub passOf : List ℕ → List ℕ → Task → Aim → Pass
+passOf rows places t i =
+    record { net = taskNet rows t; places = places; ok = λ a. true; last = i .last; bound = t .bound; goal = i .goal; least = i .least }
 
 -- the place of entry i of the queue in w, of n modes
 abbrev pub placeAt : ℕ → List ℕ → ℕ → Place
 placeAt n w i = record { index = i; level = nodeAt w i / n; mode = nodeAt w i % n; charge = chargeAt w i }
 
--- none of 1 to 8 applies, where the working space has this many words
-pub record Searchable (l : Lists) (t : Task) (words : ℕ) : Type 0 where
+-- none of 1 to 8 applies to a call, where the working space has this many words
+pub record Callable (l : Lists) (n s k b c words : ℕ) : Type 0 where
   pub equal : EqualLists l
-  pub fit : Fit (taskModel l t)
+  pub fit : Fit (automatonOf n s k l)
+  pub credit : c ≤ b
+  pub low : b ≤ boundMost
+  pub product : n * (b + 1) ≤ productMost
+  pub space : workSpace k n b ≤ words
+
+-- the value holds a fit model, and none of 6 to 9 applies
+pub record Solvable (g : Model) (b c words bytes : ℕ) : Type 0 where
+  pub holds : Holds g
+  pub credit : c ≤ b
+  pub low : b ≤ boundMost
+  pub product : g .modes * (b + 1) ≤ productMost
+  pub space : workSpace (g .colours) (g .modes) b ≤ words
+  pub buffer : planBuffer (g .colours) (g .modes) b ≤ bytes
+
+-- what the inner functions ask: rows and groups of a net that fits, and none of 6 to 8 applies
+pub record Searchable (rows places : List ℕ) (t : Task) (words : ℕ) : Type 0 where
+  pub some-mode : 0 < t .modes
+  pub few-modes : t .modes ≤ modesMost
+  pub few-arcs : t .count ≤ arcsMost
+  pub few-colours : t .colours ≤ coloursMost
+  pub fits : Fits (taskNet rows t)
+  pub grouped : Grouped (λ a. sourceAt rows a) (t .modes) (t .count) places
   pub credit : t .credit ≤ t .bound
   pub low : t .bound ≤ boundMost
   pub product : t .modes * (t .bound + 1) ≤ productMost
   pub space : workSpace (t .colours) (t .modes) (t .bound) ≤ words
+
+-- the lasso that is handed back, as p and q and the first p + q bytes of the plan buffer
+pub record LassoFound (g : Net) (b c p q : ℕ) (plan plan′ : List ℕ) : Type 0 where
+  pub lasso : AcceptedLasso g b c
+  pub same : lassoPlan lasso ≡ planOf p (take (p + q) plan′)
+  pub within : p + q ≤ length plan′
+  pub short : p + q ≤ planMost
+  pub prefix-short : p ≤ g .modes * (b + 1)
+  pub cycle-short : q ≤ (g .duties + 1) * g .modes * (b + 1)
+  pub later : drop (p + q) plan′ ≡ drop (p + q) plan
+
+-- 10, with the plan buffer untouched, or a lasso in it
+pub data Written (g : Net) (b c : ℕ) (plan plan′ : List ℕ) : Searched → Type 0 where
+  none : plan′ ≡ plan → Written g b c plan plan′ noPlan
+  found : {p q : ℕ} → LassoFound g b c p q plan plan′ → Written g b c plan plan′ (outcome.Plan p q)

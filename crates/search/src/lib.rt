@@ -7,14 +7,25 @@ ghost use mathlib.Core.Path.{_≡_};
 ghost use Prim.Native.Nat.{_≤_};
 ghost use Rattle.limits.specs.Ceilings.{modesMost, coloursMost, boundMost};
 ghost use Rattle.model.specs.Lists.{lists};
-ghost use Rattle.search.specs.Search.{spaces, levelsAndSpaces, searchable, searchAnswer, SearchOf};
+ghost use Rattle.model.specs.Lists.{held};
+ghost use Rattle.model.specs.Fitness.{fittedOf};
+ghost use Rattle.model.specs.Plans.{SomePlan};
+ghost use mathlib.Core.Logic.{_↔_};
+ghost use lib.ListN.{length};
+ghost use Rattle.search.specs.Search.{noPlan, Answered, spaces, levelsAndSpaces, searchable, searchAnswer, SearchOf};
+ghost use Rattle.search.specs.Tasks.{Solvable};
 
 mod entries;
 mod pass;
 mod plans;
+mod table;
 
 use entries::clear;
+use groups::group;
+use groups::tabulate;
 use limits::Limits;
+use model::Fitted;
+use model::Model;
 use model::check_levels;
 use model::check_model;
 use plans::Task;
@@ -88,7 +99,7 @@ fn check_levels_and_spaces(n: u32, k: u32, c: u32, b: u32, words: usize, bytes: 
     }
 }
 
-// Refusals 1 to 9.
+// Refusals 1 to 9, and the model beside the verdict.
 fn check_search(
     n: u32,
     start: u32,
@@ -101,15 +112,44 @@ fn check_search(
     b: u32,
     words: usize,
     bytes: usize,
-) -> Verdict
-    ensures { λ r. ⌜ r ≡ searchable n start k (lists (now (sources .entry)) (now (targets .entry)) (now (weights .entry)) (now (colours .entry))) b c words bytes ⌝ }
+) -> Fitted
+    ensures { λ r. ⌜ r .verdict ≡ searchable n start k (lists (now (sources .entry)) (now (targets .entry)) (now (weights .entry)) (now (colours .entry))) b c words bytes ⌝ }
+    ensures { λ r. ⌜ r .model ≡ fittedOf n start k (lists (now (sources .entry)) (now (targets .entry)) (now (weights .entry)) (now (colours .entry))) .model ⌝ }
 {
     let fitted = check_model(n, start, k, sources, targets, weights, colours);
     let verdict = fitted.verdict;
+    let model = fitted.model;
     match verdict {
-        Verdict::Yes => check_levels_and_spaces(n, k, c, b, words, bytes),
-        Verdict::Refused(refusal) => Verdict::Refused(refusal),
+        Verdict::Yes => {
+            let verdict = check_levels_and_spaces(n, k, c, b, words, bytes);
+            Fitted { verdict, model }
+        }
+        Verdict::Refused(refusal) => {
+            let verdict = Verdict::Refused(refusal);
+            Fitted { verdict, model }
+        }
     }
+}
+
+// A plan for a fit model, or that there is none, by its groups and rows.
+fn decide_model(model: Model, c: u16, b: u16, work: &mut [u16], plan: &mut [u8]) -> Searched
+    requires { ⌜ Solvable model b c (length (now work)) (length (now plan)) ⌝ }
+    ensures no_plan { λ r. ⌜ (r ≡ noPlan) ↔ (SomePlan (held model) b c → ⊥) ⌝ }
+    ensures answered { λ r. ⌜ Answered (held model) b c (now (plan .entry)) (now (plan .exit)) r ⌝ }
+{
+    let groups = group(model);
+    let rows = tabulate(model);
+    let places = groups.places;
+    let words = rows.words;
+    let task = Task {
+        modes: model.modes as usize,
+        start: model.start as usize,
+        colours: model.colours as usize,
+        count: model.count as usize,
+        credit: c,
+        bound: b,
+    };
+    decide(&words, &places, task, work, plan)
 }
 
 // Search: p and q of a plan in the plan buffer, or 10 where there is none, or the first of 1 to 9 that applies. For all numbers, lists and
@@ -132,7 +172,7 @@ pub fn search(
 ) -> Searched
     ensures { λ r. ⌜ SearchOf n start k (lists (now (sources .entry)) (now (targets .entry)) (now (weights .entry)) (now (colours .entry))) b c (now (work .entry)) (now (plan .entry)) (now (work .exit)) (now (plan .exit)) r ⌝ }
 {
-    let verdict = check_search(
+    let checked = check_search(
         n,
         start,
         k,
@@ -145,16 +185,11 @@ pub fn search(
         work.len(),
         plan.len(),
     );
+    let verdict = checked.verdict;
+    let model = checked.model;
     match verdict {
         Verdict::Yes => {
-            let task = Task {
-                modes: n as usize,
-                start: start as usize,
-                colours: k as usize,
-                credit: c as u16,
-                bound: b as u16,
-            };
-            let searched = decide(sources, targets, weights, colours, task, work, plan);
+            let searched = decide_model(model, c as u16, b as u16, work, plan);
             clear(work);
             searched
         }

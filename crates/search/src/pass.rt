@@ -4,24 +4,29 @@ ghost use Prim.Native.Nat.{_+_, _*_, _≤_, _<_};
 ghost use lib.Dec.{eqb};
 ghost use lib.ListN.{length, getD, set, replicate};
 ghost use Rattle.limits.specs.Ceilings.{modesMost, coloursMost, boundMost, workWords};
-ghost use Rattle.model.specs.Lists.{lists};
+ghost use Rattle.groups.specs.Grouped.{PlaceOf};
 ghost use Rattle.passes.specs.Pass.{node, levelAfter, closesAt, Ready};
 ghost use Rattle.passes.specs.Queue.{wordCount, nodeAt, chargeAt, Queue, Pushed, Arrives, Arrived, Tried, Visited, Passed};
 ghost use Rattle.search.specs.Tasks.{passOf, placeAt};
 use crate::entries::charge_of;
 use crate::entries::node_of;
 use crate::entries::push;
+use crate::plans::Task;
+use crate::table::arc_at;
+use crate::table::colours_of;
+use crate::table::draw_of;
+use crate::table::first_of;
+use crate::table::gain_of;
+use crate::table::target_of;
+use groups::PLACES;
+use groups::WORDS;
 use walks::Step;
 use walks::bounded_move;
-use walks::draw;
-use walks::gain;
 
-// The numbers of a pass over the levels 0 to last (its arcs stay in the lent lists). An arc that comes to the node goal with the charge least
-// or more closes the cycle, and ends the pass.
-pub struct PassNumbers {
-    pub modes: usize,
+// What a pass is for: it goes over the levels 0 to last, and an arc that comes to the node goal with the charge least or more closes the cycle,
+// and ends the pass.
+pub struct Aim {
     pub last: usize,
-    pub bound: u16,
     pub goal: usize,
     pub least: u16,
 }
@@ -30,7 +35,7 @@ pub struct PassNumbers {
 pub struct Place {
     pub index: usize,
     pub level: usize,
-    pub mode: u8,
+    pub mode: usize,
     pub charge: u16,
 }
 
@@ -60,19 +65,19 @@ fn begin(best: &mut [u16], work: &mut [u16], node: usize, charge: u16)
 }
 
 // Whether an arc that comes to a node with a charge closes the cycle.
-fn closes(numbers: PassNumbers, node: usize, charge: u16) -> bool
-    ensures { λ r. ⌜ r ≡ closesAt (numbers .goal) (numbers .least) node charge ⌝ }
+fn closes(aim: Aim, node: usize, charge: u16) -> bool
+    ensures { λ r. ⌜ r ≡ closesAt (aim .goal) (aim .least) node charge ⌝ }
 {
-    if node != numbers.goal {
+    if node != aim.goal {
         return false;
     }
-    charge >= numbers.least
+    charge >= aim.least
 }
 
 // Arc `arc` comes from the entry `parent` to a node with a charge: it closes the cycle, or where the table has less, the table rises and an
 // entry is added.
 fn arrive(
-    numbers: PassNumbers,
+    aim: Aim,
     node: usize,
     charge: u16,
     parent: usize,
@@ -82,10 +87,10 @@ fn arrive(
     tail: usize,
 ) -> Trial
     requires { ⌜ Arrives (now best) (now work) tail node charge parent arc ⌝ }
-    ensures does { λ r. ⌜ Arrived (numbers .goal) (numbers .least) (now (best .entry)) (now (work .entry)) tail node charge parent arc (now (best .exit)) (now (work .exit)) (r .closes) (r .tail) ⌝ }
+    ensures does { λ r. ⌜ Arrived (aim .goal) (aim .least) (now (best .entry)) (now (work .entry)) tail node charge parent arc (now (best .exit)) (now (work .exit)) (r .closes) (r .tail) ⌝ }
     ensures by { λ r. ⌜ r .arc ≡ arc ⌝ }
 {
-    if closes(numbers, node, charge) {
+    if closes(aim, node, charge) {
         return Trial {
             closes: true,
             arc,
@@ -109,7 +114,7 @@ fn arrive(
 }
 
 // The level after an arc with this colour byte, of the levels 0 to last.
-fn next_level(colours: u8, level: usize, last: usize) -> usize
+fn next_level(colours: u16, level: usize, last: usize) -> usize
     requires { ⌜ (level ≤ last) × (last ≤ coloursMost) ⌝ }
     ensures { λ r. ⌜ r ≡ levelAfter last colours level ⌝ }
 {
@@ -122,47 +127,44 @@ fn next_level(colours: u8, level: usize, last: usize) -> usize
     level
 }
 
-// The node that an arc enters from a level.
-fn entered(numbers: PassNumbers, level: usize, target: u8, colours: u8) -> usize
-    requires { ⌜ (level ≤ numbers .last) × (numbers .last ≤ coloursMost) × (numbers .modes ≤ modesMost) ⌝ }
-    ensures { λ r. ⌜ r ≡ node (numbers .modes) (levelAfter (numbers .last) colours level) target ⌝ }
+// The node that an arc enters from a level, of the levels 0 to last.
+fn entered(modes: usize, last: usize, level: usize, target: usize, colours: u16) -> usize
+    requires { ⌜ (level ≤ last) × (last ≤ coloursMost) × (modes ≤ modesMost) × (target < modes) ⌝ }
+    ensures { λ r. ⌜ r ≡ node modes (levelAfter last colours level) target ⌝ }
 {
-    let level = next_level(colours, level, numbers.last);
-    level * numbers.modes + (target as usize)
+    let level = next_level(colours, level, last);
+    level * modes + target
 }
 
-// Tries arc a at an entry.
+// Tries the arc at place i, one of its mode's, at an entry.
 fn relax(
-    sources: &[u8],
-    targets: &[u8],
-    weights: &[i16],
-    colours: &[u8],
-    numbers: PassNumbers,
+    rows: &[u16; WORDS],
+    places: &[u8; PLACES],
+    task: Task,
+    aim: Aim,
     place: Place,
-    a: usize,
+    i: usize,
     best: &mut [u16],
     work: &mut [u16],
     tail: usize,
 ) -> Trial
-    requires { ⌜ Ready (passOf (lists (now sources) (now targets) (now weights) (now colours)) numbers) (length (now best)) (length (now work)) ⌝ }
-    requires { ⌜ Queue (passOf (lists (now sources) (now targets) (now weights) (now colours)) numbers) (now best) (now work) tail ⌝ }
-    requires { ⌜ (place ≡ placeAt (numbers .modes) (now work) (place .index)) × (place .index < tail) × (a < length (now sources)) ⌝ }
-    ensures { λ r. ⌜ Tried (passOf (lists (now (sources .entry)) (now (targets .entry)) (now (weights .entry)) (now (colours .entry))) numbers) (now (best .entry)) (now (work .entry)) tail a (a + 1) (nodeAt (now (work .entry)) (place .index)) (chargeAt (now (work .entry)) (place .index)) (now (best .exit)) (now (work .exit)) (r .closes) (r .arc) (r .tail) ⌝ }
+    requires { ⌜ Ready (passOf (now rows) (now places) task aim) (length (now best)) (length (now work)) ⌝ }
+    requires { ⌜ Queue (passOf (now rows) (now places) task aim) (now best) (now work) tail ⌝ }
+    requires { ⌜ (place ≡ placeAt (task .modes) (now work) (place .index)) × (place .index < tail) × PlaceOf (now places) (place .mode) i ⌝ }
+    ensures { λ r. ⌜ Tried (passOf (now (rows .entry)) (now (places .entry)) task aim) (now (best .entry)) (now (work .entry)) tail i (i + 1) (nodeAt (now (work .entry)) (place .index)) (chargeAt (now (work .entry)) (place .index)) (now (best .exit)) (now (work .exit)) (r .closes) (r .arc) (r .tail) ⌝ }
 {
-    if sources[a] != place.mode {
-        return Trial {
-            closes: false,
-            arc: a,
-            tail,
-        };
-    }
-    // By the weight's move: with bounded_step the compiler splits the loop over the arcs, which can make a pass slower.
-    let weight = weights[a];
-    let step = bounded_move(place.charge, draw(weight), gain(weight), numbers.bound);
+    let a = arc_at(places, i);
+    let step = bounded_move(place.charge, draw_of(rows, a), gain_of(rows, a), task.bound);
     match step {
         Step::To(charge) => {
-            let node = entered(numbers, place.level, targets[a], colours[a]);
-            arrive(numbers, node, charge, place.index, a, best, work, tail)
+            let node = entered(
+                task.modes,
+                aim.last,
+                place.level,
+                target_of(rows, a),
+                colours_of(rows, a),
+            );
+            arrive(aim, node, charge, place.index, a, best, work, tail)
         }
         Step::Impossible => Trial {
             closes: false,
@@ -181,53 +183,42 @@ fn place_of(modes: usize, work: &[u16], i: usize) -> Place
     Place {
         index: i,
         level: node / modes,
-        mode: (node % modes) as u8,
+        mode: node % modes,
         charge: charge_of(work, i),
     }
 }
 
-// Tries every arc at an entry.
+// Tries every arc that leaves the mode of an entry.
 fn expand(
-    sources: &[u8],
-    targets: &[u8],
-    weights: &[i16],
-    colours: &[u8],
-    numbers: PassNumbers,
+    rows: &[u16; WORDS],
+    places: &[u8; PLACES],
+    task: Task,
+    aim: Aim,
     head: usize,
     best: &mut [u16],
     work: &mut [u16],
     tail: usize,
 ) -> Trial
-    requires { ⌜ Ready (passOf (lists (now sources) (now targets) (now weights) (now colours)) numbers) (length (now best)) (length (now work)) ⌝ }
-    requires { ⌜ Queue (passOf (lists (now sources) (now targets) (now weights) (now colours)) numbers) (now best) (now work) tail ⌝ }
+    requires { ⌜ Ready (passOf (now rows) (now places) task aim) (length (now best)) (length (now work)) ⌝ }
+    requires { ⌜ Queue (passOf (now rows) (now places) task aim) (now best) (now work) tail ⌝ }
     requires { ⌜ head < tail ⌝ }
-    ensures { λ r. ⌜ Tried (passOf (lists (now (sources .entry)) (now (targets .entry)) (now (weights .entry)) (now (colours .entry))) numbers) (now (best .entry)) (now (work .entry)) tail 0 (length (now (sources .entry))) (nodeAt (now (work .entry)) head) (chargeAt (now (work .entry)) head) (now (best .exit)) (now (work .exit)) (r .closes) (r .arc) (r .tail) ⌝ }
+    ensures { λ r. ⌜ Visited (passOf (now (rows .entry)) (now (places .entry)) task aim) (now (best .entry)) (now (work .entry)) tail head (now (best .exit)) (now (work .exit)) (r .closes) (r .arc) (r .tail) ⌝ }
 {
-    let place = place_of(numbers.modes, work, head);
+    let place = place_of(task.modes, work, head);
+    let last = first_of(places, place.mode + 1);
     let mut end = tail;
-    let mut a = 0;
-    while a < sources.len() {
-        let trial = relax(
-            sources,
-            targets,
-            weights,
-            colours,
-            numbers,
-            place,
-            a,
-            best,
-            work,
-            end,
-        );
+    let mut i = first_of(places, place.mode);
+    while i < last {
+        let trial = relax(rows, places, task, aim, place, i, best, work, end);
         if trial.closes {
             return trial;
         }
         end = trial.tail;
-        a += 1;
+        i += 1;
     }
     Trial {
         closes: false,
-        arc: a,
+        arc: 0,
         tail: end,
     }
 }
@@ -244,33 +235,22 @@ fn is_greatest(best: &[u16], work: &[u16], i: usize) -> bool
 
 // Tries every arc at an entry, unless a greater charge is known for its node.
 fn visit(
-    sources: &[u8],
-    targets: &[u8],
-    weights: &[i16],
-    colours: &[u8],
-    numbers: PassNumbers,
+    rows: &[u16; WORDS],
+    places: &[u8; PLACES],
+    task: Task,
+    aim: Aim,
     head: usize,
     best: &mut [u16],
     work: &mut [u16],
     tail: usize,
 ) -> Trial
-    requires { ⌜ Ready (passOf (lists (now sources) (now targets) (now weights) (now colours)) numbers) (length (now best)) (length (now work)) ⌝ }
-    requires { ⌜ Queue (passOf (lists (now sources) (now targets) (now weights) (now colours)) numbers) (now best) (now work) tail ⌝ }
+    requires { ⌜ Ready (passOf (now rows) (now places) task aim) (length (now best)) (length (now work)) ⌝ }
+    requires { ⌜ Queue (passOf (now rows) (now places) task aim) (now best) (now work) tail ⌝ }
     requires { ⌜ head < tail ⌝ }
-    ensures { λ r. ⌜ Visited (passOf (lists (now (sources .entry)) (now (targets .entry)) (now (weights .entry)) (now (colours .entry))) numbers) (now (best .entry)) (now (work .entry)) tail head (now (best .exit)) (now (work .exit)) (r .closes) (r .arc) (r .tail) ⌝ }
+    ensures { λ r. ⌜ Visited (passOf (now (rows .entry)) (now (places .entry)) task aim) (now (best .entry)) (now (work .entry)) tail head (now (best .exit)) (now (work .exit)) (r .closes) (r .arc) (r .tail) ⌝ }
 {
     if is_greatest(best, work, head) {
-        return expand(
-            sources,
-            targets,
-            weights,
-            colours,
-            numbers,
-            head,
-            best,
-            work,
-            tail,
-        );
+        return expand(rows, places, task, aim, head, best, work, tail);
     }
     Trial {
         closes: false,
@@ -282,35 +262,24 @@ fn visit(
 // A pass from a node with a charge, with a table of zeros. Where no arc closes the cycle, the table has the greatest charge of each node plus
 // 1, 0 for none. The entries that reach them are in the working space.
 pub fn run(
-    sources: &[u8],
-    targets: &[u8],
-    weights: &[i16],
-    colours: &[u8],
-    numbers: PassNumbers,
+    rows: &[u16; WORDS],
+    places: &[u8; PLACES],
+    task: Task,
+    aim: Aim,
     node: usize,
     charge: u16,
     best: &mut [u16],
     work: &mut [u16],
 ) -> Outcome
-    requires { ⌜ Ready (passOf (lists (now sources) (now targets) (now weights) (now colours)) numbers) (length (now best)) (length (now work)) ⌝ }
-    requires { ⌜ (node < length (now best)) × (charge ≤ numbers .bound) × (now best ≡ replicate (length (now best)) 0) ⌝ }
-    ensures { λ r. ⌜ Passed (passOf (lists (now (sources .entry)) (now (targets .entry)) (now (weights .entry)) (now (colours .entry))) numbers) node charge (now (best .exit)) (now (work .exit)) (r .found) (r .head) (r .arc) (r .tail) ⌝ }
+    requires { ⌜ Ready (passOf (now rows) (now places) task aim) (length (now best)) (length (now work)) ⌝ }
+    requires { ⌜ (node < length (now best)) × (charge ≤ task .bound) × (now best ≡ replicate (length (now best)) 0) ⌝ }
+    ensures { λ r. ⌜ Passed (passOf (now (rows .entry)) (now (places .entry)) task aim) node charge (now (best .exit)) (now (work .exit)) (r .found) (r .head) (r .arc) (r .tail) ⌝ }
 {
     begin(best, work, node, charge);
     let mut head = 0;
     let mut tail = 1;
     while head < tail {
-        let trial = visit(
-            sources,
-            targets,
-            weights,
-            colours,
-            numbers,
-            head,
-            best,
-            work,
-            tail,
-        );
+        let trial = visit(rows, places, task, aim, head, best, work, tail);
         tail = trial.tail;
         if trial.closes {
             return Outcome {

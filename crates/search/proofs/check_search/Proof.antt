@@ -1,5 +1,5 @@
 -- `search::check_search` meets its contract: the refusal of fitness, else what 6 to 9 say. Assumes nothing.
-use mathlib.Core.Path.{_≡_, _∙_}
+use mathlib.Core.Path.{_≡_, ap, _∙_}
 use Prim.Native.Nat.{ℕ, _≤_}
 use borrow.Author.Needs.{needs}
 use Rattle.limits.specs.Ceilings.{modesMost, coloursMost}
@@ -8,6 +8,7 @@ use Rattle.refusals.specs.declared.Verdict.{Verdict}
 use Rattle.refusals.specs.declared.Verdict.the-variants.{Yes, Refused}
 use Rattle.refusals.proofs.Verdicts.{and-then-on, and-then-stop}
 use Rattle.model.specs.declared.Fitted.{Fitted}
+use Rattle.model.specs.declared.Model.{Model}
 use Rattle.model.specs.Lists.{Lists, lists}
 use Rattle.model.specs.Fitness.{fitness, fittedOf}
 use Rattle.model.proofs.Fitness.{fitness-yes}
@@ -42,7 +43,7 @@ enum-told c = search needs
 
 check-levels-and-spaces-requires : tie.Need-check-levels-and-spaces-requires
 check-levels-and-spaces-requires c κs =
-    let r = c .before .before in
+    let r = c .before .before .before in
     let a = r .before .before .before .before .args in
     let l = lists (a .sources .now) (a .targets .now) (a .weights .now) (a .colours .now) in
     few (a .n) (a .start) (a .k) l _ (r .check-model .ensures) (c .enum-told .given .1)
@@ -52,18 +53,22 @@ enum-known-verdict c = search needs
 
 returns : tie.Need-returns
 returns c =
-    let r = c .before .before .before in
+    let r = c .before .before .before .before in
     let a = r .before .before .before .before .args in
-    let l = lists (a .sources .now) (a .targets .now) (a .weights .now) (a .colours .now) in
-    fits (a .n) (a .start) (a .k) l _ (r .check-model .ensures) (c .before .enum-told .given .1) (a .b) (a .c) (a .words) (a .bytes) _
-    (c .check-levels-and-spaces .ensures)
+    let l = lists (a .sources .now) (a .targets .now) (a .weights .now) (a .colours .now) in (
+      fits (a .n) (a .start) (a .k) l _ (r .check-model .ensures) (c .before .enum-told .given .1) (a .b) (a .c) (a .words) (a .bytes) _
+          (c .check-levels-and-spaces .ensures),
+      ap {B = Model} (λ (f : Fitted). f .model) (r .check-model .ensures),
+    )
 
 returns-2 : tie.Need-returns-2
 returns-2 c =
-    let r = c .before .before .before in
+    let r = c .before .before .before .before in
     let a = r .before .before .before .before .args in
-    let l = lists (a .sources .now) (a .targets .now) (a .weights .now) (a .colours .now) in
-    stopped (a .n) (a .start) (a .k) l _ (r .check-model .ensures) _ (c .before .verdict .given .1) (a .b) (a .c) (a .words) (a .bytes)
+    let l = lists (a .sources .now) (a .targets .now) (a .weights .now) (a .colours .now) in (
+      stopped (a .n) (a .start) (a .k) l _ (r .check-model .ensures) _ (c .before .verdict .given .1) (a .b) (a .c) (a .words) (a .bytes),
+      ap {B = Model} (λ (f : Fitted). f .model) (r .check-model .ensures),
+    )
 
 pub check-search-spec : {M : Type 1} → statement M
 check-search-spec =

@@ -22,21 +22,19 @@ next-level-requires c κs = search needs
 
 mul-result : tie.Need-mul-result
 mul-result c =
-    let a = c .before .before .args in
-    let h = c .before .before .pre in
-    let t = a .numbers in
-    omega (arith, after-small (t .modes) (t .last) (a .colours) (a .level) (h .0) (h .1) (h .2) _ (c .before .next-level .ensures))
+    let a = c .before .args in
+    let h = c .before .pre in
+    omega (arith, after-small (a .modes) (a .last) (a .colours) (a .level) (h .0) (h .1) (h .2) _ (c .next-level .ensures))
 
 add-result : tie.Need-add-result
 add-result c =
-    let a = c .before .before .args in
-    let h = c .before .before .pre in
-    let t = a .numbers in
-    omega (arith, after-small (t .modes) (t .last) (a .colours) (a .level) (h .0) (h .1) (h .2) _ (c .before .next-level .ensures))
+    let a = c .before .args in
+    let h = c .before .pre in
+    omega (arith, after-small (a .modes) (a .last) (a .colours) (a .level) (h .0) (h .1) (h .2) _ (c .next-level .ensures))
 
 returns : tie.Need-returns
 unfolding node
-returns c = let a = c .before .before .args in ap (λ l. l * a .numbers .modes + a .target) (c .before .next-level .ensures)
+returns c = let a = c .before .args in ap (λ l. l * a .modes + a .target) (c .next-level .ensures)
 
 pub entered-spec : {M : Type 1} → statement M
 entered-spec = tie.close (tie.spec next-level-requires mul-result add-result returns)

@@ -1,7 +1,5 @@
 -- `pass::place_of` meets its contract: the level and the mode are the parts of the entry's node. Assumes nothing.
 use mathlib.Core.Path.{refl}
-use native.Mathlib.Nat.{mod-lt}
-use native.Mathlib.Omega.{arith}
 use borrow.Author.Needs.{needs}
 use Rattle.search.proofs.pass.place_of.Statement.{statement}
 use Rattle.search.proofs.pass.place_of.Tie as tie
@@ -14,9 +12,6 @@ div-t5 c = search needs
 
 rem-t6 : tie.Need-rem-t6
 rem-t6 c = search needs
-
-cast-t7 : tie.Need-cast-t7
-cast-t7 c = let s = c .before .before in omega (arith, mod-lt (c .node-of .result) (s .pre .0))
 
 charge-of-requires : tie.Need-charge-of-requires
 charge-of-requires c κs = search needs
@@ -31,6 +26,5 @@ place-of-spec =
     node-of-requires
     div-t5
     rem-t6
-    cast-t7
     charge-of-requires
     returns)

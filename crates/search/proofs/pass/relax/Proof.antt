@@ -1,42 +1,29 @@
 -- `pass::relax` meets its contract. Assumes nothing.
-use mathlib.Core.Path.{_≡_, _∙_}
-use lib.IntN.{pos}
-use lib.ListN.{getD}
-use mir.Facts.{toZ-ofZ}
-use mir.Syntax.{w16}
-use mir.Val.{SFits}
-use borrow.Author.Needs.{needs, sfits-of}
-use Rattle.walks.specs.BoundedStep.{stepped}
-use Rattle.walks.proofs.Weights.{stepped-moved}
-use Rattle.model.specs.Lists.{Lists, lists}
+use mathlib.Core.Path.{_≡_, sym, _∙_}
+use Rattle.groups.specs.Grouped.{arcPlaced}
 use Rattle.passes.specs.Pass.{Along}
 use Rattle.passes.specs.Queue.{nodeAt, chargeAt}
 use Rattle.search.specs.Tasks.{passOf}
-use Rattle.search.proofs.Trying.{Trying, relax-other, relax-impossible, relax-along, relax-levels, relax-arrives, relax-arrived}
+use Rattle.search.proofs.Trying.{Trying, Reads, relax-place, relax-arc, relax-target, relax-impossible, relax-along, relax-levels, relax-arrives, relax-arrived}
+use borrow.Author.Needs.{needs}
 use Rattle.search.proofs.pass.relax.Statement.{statement}
 use Rattle.search.proofs.pass.relax.Tie as tie
 
-abbrev lists-of : tie.Start → Lists
-lists-of s = lists (s .args .sources .now) (s .args .targets .now) (s .args .weights .now) (s .args .colours .now)
-
 trying : (s : tie.Start)
-    → Trying (lists-of s) (s .args .numbers) (s .args .place) (s .args .best .now) (s .args .work .now) (s .args .tail) (s .args .a)
-trying s =
-    record { ready = s .pre .0; queue = s .pre .1 .0; place = s .pre .1 .1 .0; before = s .pre .1 .1 .1; known = s .pre .1 .1 .2 }
+    → Trying (s .args .rows .now) (s .args .places .now) (s .args .task) (s .args .aim) (s .args .place) (s .args .best .now) (s .args .work .now)
+    (s .args .tail) (s .args .i)
+trying s = record { ready = s .pre .0; queue = s .pre .1 .0; place = s .pre .1 .1 .0; before = s .pre .1 .1 .1; group = s .pre .1 .1 .2 }
 
-abbrev start : tie.After-bounded-move → tie.Start
-start c = c .before .before .before .before .before .before .before .before .before .before .before .before
+abbrev start : tie.After-arc-at → tie.Start
+start d = d .before .before .before
 
--- the move of the arc's weight is the bounded step with it
-steps : (c : tie.After-bounded-move)
-    → stepped (start c .args .numbers .bound) (getD (start c .args .weights .now) (start c .args .a) (pos 0)) (start c .args .place .charge)
-    ≡ c .bounded-move .result
-steps c =
-    let weight = getD (start c .args .weights .now) (start c .args .a) (pos 0) in
-    let fits : SFits w16 weight = sfits-of (c .before .before .before .weight .given) in
-    let draw = simp (toZ-ofZ fits) at (c .before .before .draw .ensures) in
-    let gain = simp (toZ-ofZ fits) at (c .before .gain .ensures) in
-    cc (stepped-moved (start c .args .numbers .bound) weight (start c .args .place .charge))
+abbrev arc-of : tie.After-bounded-move → tie.After-arc-at
+arc-of c = c .before .before .before
+
+reads : (c : tie.After-bounded-move)
+    → Reads (start (arc-of c) .args .rows .now) (start (arc-of c) .args .places .now) (start (arc-of c) .args .i) (arc-of c .arc-at .result)
+    (c .before .before .draw-of .result) (c .before .gain-of .result)
+reads c = record { arc = arc-of c .arc-at .ensures; draw = c .before .before .draw-of .ensures; gain = c .before .gain-of .ensures }
 
 -- the step before the node
 abbrev step-of : tie.After-entered → tie.After-bounded-move
@@ -44,31 +31,25 @@ step-of d = d .before .before .before .before .before .before
 
 -- the step that the arc takes
 along : (d : tie.After-entered)
-    → let s = start (step-of d) in
-    Along (passOf (lists-of s) (s .args .numbers)) (s .args .a) (nodeAt (s .args .work .now) (s .args .place .index))
-    (chargeAt (s .args .work .now) (s .args .place .index)) (d .entered .result) (d .before .before .before .before .step .given .0 .0)
+    → let s = start (arc-of (step-of d)) in
+    Along (passOf (s .args .rows .now) (s .args .places .now) (s .args .task) (s .args .aim)) (arcPlaced (s .args .places .now) (s .args .i))
+    (nodeAt (s .args .work .now) (s .args .place .index)) (chargeAt (s .args .work .now) (s .args .place .index))
+    (d .entered .result) (d .before .before .before .before .step .given .0 .0)
 along d =
     let b = step-of d in
-    relax-along (trying (start b)) (b .before .before .before .before .if1 .left) (steps b ∙ d .before .before .before .before .step .given .1)
-    (d .entered .ensures)
+    let colours = d .before .colours-of .ensures in
+    let target = d .before .before .target-of .ensures in
+    relax-along (trying (start (arc-of b))) (reads b) (sym (b .bounded-move .ensures) ∙ d .before .before .before .before .step .given .1)
+    colours target (d .entered .ensures)
 
-shared-slice-read-if1 : tie.Need-shared-slice-read-if1
-shared-slice-read-if1 c = search needs
+arc-at-requires : tie.Need-arc-at-requires
+arc-at-requires c κs = relax-place (trying (c .before .before))
 
-returns : tie.Need-returns
-returns c = relax-other (trying (c .before .before .before .before .before .before .before .before)) (c .if1 .taken)
+draw-of-requires : tie.Need-draw-of-requires
+draw-of-requires c κs = relax-arc (trying (start c)) (c .arc-at .ensures)
 
-mul-weight : tie.Need-mul-weight
-mul-weight c = search needs
-
-shared-slice-copy-out-weight : tie.Need-shared-slice-copy-out-weight
-shared-slice-copy-out-weight c = search needs
-
-draw-requires : tie.Need-draw-requires
-draw-requires c κs = search needs
-
-gain-requires : tie.Need-gain-requires
-gain-requires c κs = search needs
+gain-of-requires : tie.Need-gain-of-requires
+gain-of-requires c κs = relax-arc (trying (start (c .before))) (c .before .arc-at .ensures)
 
 bounded-move-requires : tie.Need-bounded-move-requires
 bounded-move-requires c κs = search needs
@@ -76,17 +57,24 @@ bounded-move-requires c κs = search needs
 enum-known-step : tie.Need-enum-known-step
 enum-known-step c = search needs
 
-shared-slice-read-entered : tie.Need-shared-slice-read-entered
-shared-slice-read-entered c = search needs
+target-of-requires : tie.Need-target-of-requires
+target-of-requires c κs = let b = arc-of (c .before .before .before) in relax-arc (trying (start b)) (b .arc-at .ensures)
 
-shared-slice-read-entered-2 : tie.Need-shared-slice-read-entered-2
-shared-slice-read-entered-2 c = search needs
+colours-of-requires : tie.Need-colours-of-requires
+colours-of-requires c κs = let b = arc-of (c .before .before .before .before) in relax-arc (trying (start b)) (b .arc-at .ensures)
 
 entered-requires : tie.Need-entered-requires
-entered-requires c κs = relax-levels (trying (start (c .before .before .before .before .before)))
+entered-requires c κs =
+    let b = arc-of (c .before .before .before .before .before) in
+    let f = trying (start b) in
+    let low = relax-levels f in
+    (low .0, low .1, low .2, relax-target f (b .arc-at .ensures) (c .before .target-of .ensures))
 
 arrive-requires : tie.Need-arrive-requires
-arrive-requires c κs = let d = c .before .before in relax-arrives (trying (start (step-of d))) (along d)
+arrive-requires c κs =
+    let d = c .before .before in
+    let b = arc-of (step-of d) in
+    relax-arrives (trying (start b)) (b .arc-at .ensures) (along d)
 
 enum-told : tie.Need-enum-told
 enum-told c = search needs
@@ -97,33 +85,33 @@ same-length c = search needs
 same-length-2 : tie.Need-same-length-2
 same-length-2 c = search needs
 
-returns-2 : tie.Need-returns-2
-returns-2 c =
+returns : tie.Need-returns
+returns c =
     let r = c .before .before .before .before .arrive in
     let d = c .before .before .before .before .before .before .before in
-    relax-arrived (trying (start (step-of d))) (along d) (r .ensures .0) (r .ensures .1)
+    let b = arc-of (step-of d) in
+    relax-arrived (trying (start b)) (b .arc-at .ensures) (along d) (r .ensures .0) (r .ensures .1)
 
-returns-3 : tie.Need-returns-3
-returns-3 c = let d = c .before .before in relax-impossible (trying (start d)) (steps d ∙ c .enum-told .given .1)
+returns-2 : tie.Need-returns-2
+returns-2 c =
+    let b = c .before .before in
+    relax-impossible (trying (start (arc-of b))) (reads b) (sym (b .bounded-move .ensures) ∙ c .enum-told .given .1)
 
 pub relax-spec : {M : Type 1} → statement M
 relax-spec =
     tie.close
     (tie.spec
-    shared-slice-read-if1
-    returns
-    mul-weight
-    shared-slice-copy-out-weight
-    draw-requires
-    gain-requires
+    arc-at-requires
+    draw-of-requires
+    gain-of-requires
     bounded-move-requires
     enum-known-step
-    shared-slice-read-entered
-    shared-slice-read-entered-2
+    target-of-requires
+    colours-of-requires
     entered-requires
     arrive-requires
     enum-told
     same-length
     same-length-2
-    returns-2
-    returns-3)
+    returns
+    returns-2)

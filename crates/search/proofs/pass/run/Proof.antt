@@ -3,7 +3,6 @@ use mathlib.Core.Path.{_≡_, refl, ap, _∙_}
 use Prim.Native.Nat.{_-_}
 use native.Mathlib.Omega.{arith}
 use lib.ListN.{length}
-use Rattle.model.specs.Lists.{lists}
 use Rattle.passes.specs.Pass.{Pass, Ready, room}
 use Rattle.passes.specs.Queue.{Treated}
 use Rattle.search.specs.Tasks.{passOf}
@@ -13,19 +12,19 @@ use Rattle.search.proofs.pass.run.Statement.{statement}
 use Rattle.search.proofs.pass.run.Tie as tie
 
 abbrev Inv-loop : tie.InvT-loop
-Inv-loop sources targets weights colours numbers node charge best₀ work₀ head₀ tail₀ best work head tail =
+Inv-loop rows places task aim node charge best₀ work₀ head₀ tail₀ best work head tail =
     (length best ≡ length best₀) × (length work ≡ length work₀)
-    × Treated (passOf (lists sources targets weights colours) numbers) node charge best work head tail
+    × Treated (passOf rows places task aim) node charge best work head tail
 
 abbrev μ-loop : tie.MeasureT-loop
-μ-loop sources targets weights colours numbers node charge best₀ work₀ head₀ tail₀ best work head tail =
-    room (length best₀) (numbers .bound) - head
+μ-loop rows places task aim node charge best₀ work₀ head₀ tail₀ best work head tail =
+    room (length best₀) (task .bound) - head
 
 abbrev pass-of : tie.Start Inv-loop μ-loop → Pass
-pass-of s = passOf (lists (s .args .sources .now) (s .args .targets .now) (s .args .weights .now) (s .args .colours .now)) (s .args .numbers)
+pass-of s = passOf (s .args .rows .now) (s .args .places .now) (s .args .task) (s .args .aim)
 
 abbrev start : tie.At-loop Inv-loop μ-loop → tie.Start Inv-loop μ-loop
-start l = l .before .before .before .before .before .before .before .before .before .before .before .before .before
+start l = l .before .before .before .before .before .before .before .before .before .before
 
 best-size : (l : tie.At-loop Inv-loop μ-loop) → length (l .loop .best) ≡ length (start l .args .best .now)
 best-size l = l .loop .inv .0 ∙ l .before .before .before .before .before .begin .kept .0
@@ -38,13 +37,13 @@ ready l = ready-kept (start l .pre .0) (best-size l) (work-size l)
 
 begin-requires : tie.Need-begin-requires Inv-loop μ-loop
 begin-requires c κs =
-    let s = c .before .before .before .before .before .before .before in
+    let s = c .before .before .before .before in
     let some = ready-some (s .pre .0) in
     (s .pre .1 .0, some .1, omega (arith, s .pre .1 .1, s .pre .0 .low), some .2)
 
 loop-holds : tie.Need-loop-holds Inv-loop μ-loop
 loop-holds c =
-    let s = c .before .before .before .before .before .before .before .before .before .before .before .before in
+    let s = c .before .before .before .before .before .before .before .before .before in
     let g = c .before .before .before .before .begin in
     let p = s .pre .1 in
     (refl, refl, treated-first (pass-of s) (s .args .node) (s .args .charge) (p .2) (p .0) (p .1) (g .ensures .0) (g .ensures .1))
@@ -80,7 +79,7 @@ loop-less : tie.Need-loop-less Inv-loop μ-loop
 loop-less c =
     let i = c .before .before .before .before .before .before .before .before in
     let l = i .before in
-    let same = ap (λ n. room n (start l .args .numbers .bound)) (l .loop .inv .0) in
+    let same = ap (λ n. room n (start l .args .task .bound)) (l .loop .inv .0) in
     omega (arith, queue-room (l .loop .inv .2 .from .queue), i .loop-test .taken, same)
 
 loop-again : tie.Need-loop-again Inv-loop μ-loop

@@ -14,23 +14,23 @@ add-nodes c = search needs
 mul-nodes : tie.Need-mul-nodes
 mul-nodes c = search needs
 
-mul-t12 : tie.Need-mul-t12
-mul-t12 c = search needs
+mul-t10 : tie.Need-mul-t10
+mul-t10 c = search needs
 
-add-t13 : tie.Need-add-t13
-add-t13 c = search needs
+add-t11 : tie.Need-add-t11
+add-t11 c = search needs
 
 array-borrow-prefix-best : tie.Need-array-borrow-prefix-best
-array-borrow-prefix-best c = nodes-few (c .before .before .before .before .before .before .before .pre .0)
+array-borrow-prefix-best c = nodes-few (c .before .before .before .before .pre .0)
 
 slice-aggregate-run : tie.Need-slice-aggregate-run
 slice-aggregate-run c =
-    let s = c .before .before .before .before .before .before .before .before in
+    let s = c .before .before .before .before .before in
     simp length-take (omega (arith, nodes-few (s .pre .0)))
 
 run-requires : tie.Need-run-requires
 run-requires c κs =
-    let s = c .before .before .before .before .before .before .before .before .before in
+    let s = c .before .before .before .before .before .before in
     pass-asked (s .pre .0) (omega arith) refl (table-blank (s .pre .0)) (s .pre .1 .0) (s .pre .1 .1)
 
 same-length : tie.Need-same-length
@@ -39,9 +39,9 @@ same-length c = search needs
 returns : tie.Need-returns
 unfolding node
 returns c =
-    let s = c .before .before .before .before .before .before .before .before .before .before .before .before .before in
+    let s = c .before .before .before .before .before .before .before .before .before .before in
     let k = c .before .before .before .run in
-    let q = k .kept .1 .1 .1 .1 .1 .1 .1 in
+    let q = k .kept .1 .1 .1 .1 .1 .1 in
     cycle-left (s .pre .0) (s .pre .1 .0) (table-blank (s .pre .0)) (q .0) (q .1 .0) (k .ensures)
 
 pub find-cycle-spec : {M : Type 1} → statement M
@@ -50,8 +50,8 @@ find-cycle-spec =
     (tie.spec
     add-nodes
     mul-nodes
-    mul-t12
-    add-t13
+    mul-t10
+    add-t11
     array-borrow-prefix-best
     slice-aggregate-run
     run-requires

@@ -7,14 +7,14 @@ use Rattle.search.proofs.Tasks.{pass-asked, peaks-left}
 use Rattle.search.proofs.plans.find_peaks.Statement.{statement}
 use Rattle.search.proofs.plans.find_peaks.Tie as tie
 
-add-t10 : tie.Need-add-t10
-add-t10 c = search needs
+add-t8 : tie.Need-add-t8
+add-t8 c = search needs
 
 run-requires : tie.Need-run-requires
 run-requires c κs =
-    let s = c .before .before .before .before .before .before .before .before in
+    let s = c .before .before .before .before .before in
     let able = s .pre .0 in
-    pass-asked able (omega arith) (sym (one-mul _)) (s .pre .1) (able .fit .starts) (able .credit)
+    pass-asked able (omega arith) (sym (one-mul _)) (s .pre .1) (able .fits .starts) (able .credit)
 
 same-length : tie.Need-same-length
 same-length c = search needs
@@ -25,9 +25,9 @@ same-length-2 c = search needs
 returns : tie.Need-returns
 returns c =
     let k = c .before .before .before .before .run in
-    let s = c .before .before .before .before .before .before .before .before .before .before .before .before .before in
-    let q = k .kept .1 .1 .1 .1 .1 .1 .1 in
+    let s = c .before .before .before .before .before .before .before .before .before .before in
+    let q = k .kept .1 .1 .1 .1 .1 .1 in
     peaks-left (s .pre .0) (s .pre .1) (q .0) (q .1 .0) (k .ensures)
 
 pub find-peaks-spec : {M : Type 1} → statement M
-find-peaks-spec = tie.close (tie.spec add-t10 run-requires same-length same-length-2 returns)
+find-peaks-spec = tie.close (tie.spec add-t8 run-requires same-length same-length-2 returns)

@@ -4,19 +4,18 @@ use Prim.Native.Nat.{_-_}
 use native.Mathlib.Omega.{arith}
 use lib.ListN.{length}
 use borrow.Author.Needs.{needs}
-use Rattle.model.specs.Lists.{lists}
-use Rattle.search.specs.Tasks.{taskModel}
+use Rattle.search.specs.Tasks.{taskNet}
 use Rattle.search.proofs.Tasks.{searchable-kept}
 use Rattle.search.proofs.Kept.{NoneKept, first-none, first-more, first-found, first-end}
 use Rattle.search.proofs.plans.first_kept.Statement.{statement}
 use Rattle.search.proofs.plans.first_kept.Tie as tie
 
 abbrev Inv-loop : tie.InvT-loop
-Inv-loop sources targets weights colours task peaks work₀ mode₀ work mode =
-    NoneKept (taskModel (lists sources targets weights colours) task) (task .bound) peaks mode × (length work ≡ length work₀)
+Inv-loop rows places task peaks work₀ mode₀ work mode =
+    NoneKept (taskNet rows task) (task .bound) peaks mode × (length work ≡ length work₀)
 
 abbrev μ-loop : tie.MeasureT-loop
-μ-loop sources targets weights colours task peaks work₀ mode₀ work mode = task .modes - mode
+μ-loop rows places task peaks work₀ mode₀ work mode = task .modes - mode
 
 loop-holds : tie.Need-loop-holds Inv-loop μ-loop
 loop-holds c = (first-none, refl)
@@ -30,7 +29,7 @@ shared-slice-read-is-kept c = search needs
 is-kept-requires : tie.Need-is-kept-requires Inv-loop μ-loop
 is-kept-requires c κs =
     let d = c .before .before .before .before in
-    let s = d .before .before .before .before .before .before in
+    let s = d .before .before .before in
     (searchable-kept (s .pre .0) (d .loop .inv .1), (omega arith, s .pre .1 .1 (d .loop .mode)))
 
 same-length : tie.Need-same-length Inv-loop μ-loop
@@ -52,7 +51,7 @@ loop-again : tie.Need-loop-again Inv-loop μ-loop
 loop-again c =
     let k = c .before .before .before .is-kept in
     let d = c .before .before .before .before .before .before .before .before .loop in
-    (first-more (d .inv .0) (omega arith) (k .ensures .1 (c .if2 .left)), k .kept .1 .1 .1 .1 .1 .1 .1 .0 ∙ d .inv .1)
+    (first-more (d .inv .0) (omega arith) (k .ensures .1 (c .if2 .left)), k .kept .1 .1 .1 .1 .1 .0 ∙ d .inv .1)
 
 same-length-2 : tie.Need-same-length-2 Inv-loop μ-loop
 same-length-2 c = search needs

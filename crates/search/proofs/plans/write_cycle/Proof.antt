@@ -13,7 +13,7 @@ trace-requires : tie.Need-trace-requires
 trace-requires c κs =
     let d = c .before .before .before .before in
     let f = d .find-cycle in
-    let s = d .before .before .before .before .before .before .before in
+    let s = d .before .before .before .before in
     let found = cycle-found (f .ensures) (s .pre .1 .0 .2) in
     (f .ensures .linked found, omega (arith, f .ensures .few found, s .pre .1 .1))
 
@@ -21,20 +21,20 @@ cast-part : tie.Need-cast-part
 cast-part c =
     let d = c .before .before .before .before .before .before .before .before in
     let f = d .find-cycle in
-    omega (arith, f .ensures .byte (cycle-found (f .ensures) (d .before .before .before .before .before .before .before .pre .1 .0 .2)))
+    omega (arith, f .ensures .byte (cycle-found (f .ensures) (d .before .before .before .before .pre .1 .0 .2)))
 
 slice-write-part : tie.Need-slice-write-part
 slice-write-part c =
     let d = c .before .before .before .before .before .before .before .before in
     let f = d .find-cycle in
-    let s = d .before .before .before .before .before .before .before in
+    let s = d .before .before .before .before in
     let t = c .before .before .before .trace in
     omega (arith, f .ensures .few (cycle-found (f .ensures) (s .pre .1 .0 .2)), t .ensures .few, t .kept .1 .1 .0, s .pre .1 .1)
 
 add-result : tie.Need-add-result
 add-result c =
-    let s = c .before .before .before .before .before .before .before .before .before .before .before .before .before .before .before in
-    omega (arith, slice-write-part c, c .before .before .before .trace .kept .1 .1 .0, s .good .1 .1 .1 .1 .1 .1 .1 .1 .0)
+    let s = c .before .before .before .before .before .before .before .before .before .before .before .before in
+    omega (arith, slice-write-part c, c .before .before .before .trace .kept .1 .1 .0, s .good .1 .1 .1 .1 .1 .1 .0)
 
 same-length : tie.Need-same-length
 same-length c = search needs
@@ -45,7 +45,7 @@ same-length-2 c = search needs
 returns : tie.Need-returns
 returns c =
     let d = c .before .before .before .before .before .before .before .before in
-    let s = d .before .before .before .before .before .before .before in
+    let s = d .before .before .before .before in
     cycle-written (d .find-cycle .ensures) (s .pre .1 .0 .2) (c .before .before .before .trace .ensures) (slice-write-part c)
 
 pub write-cycle-spec : {M : Type 1} → statement M

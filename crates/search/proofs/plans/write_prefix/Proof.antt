@@ -12,18 +12,18 @@ array-borrow-prefix-peaks : tie.Need-array-borrow-prefix-peaks
 array-borrow-prefix-peaks c = search needs
 
 slice-aggregate-find-peaks : tie.Need-slice-aggregate-find-peaks
-slice-aggregate-find-peaks c = lent-words (c .before .before .before .before .before .before .pre .0)
+slice-aggregate-find-peaks c = lent-words (c .before .before .before .pre .0)
 
 find-peaks-requires : tie.Need-find-peaks-requires
-find-peaks-requires c κs = let s = c .before .before .before .before .before .before .before in (s .pre .0, lent-zeros (s .pre .0))
+find-peaks-requires c κs = let s = c .before .before .before .before in (s .pre .0, lent-zeros (s .pre .0))
 
 entry-of-requires : tie.Need-entry-of-requires
 entry-of-requires c κs =
     let d = c .before .before .before .before in
     let f = d .find-peaks in
-    let s = d .before .before .before .before .before .before .before .before in
+    let s = d .before .before .before .before .before in
     let t = s .args .task in
-    let size = f .kept .1 .1 .1 .1 .1 .1 .0 in (
+    let size = f .kept .1 .1 .1 .1 .0 in (
       peak-entry (f .ensures) (s .pre .1 .0),
       queue-held (t .colours) (t .modes) (t .bound) (f .result) _ (f .ensures .few) (omega (arith, size, s .pre .0 .space)),
     )
@@ -32,7 +32,7 @@ trace-requires : tie.Need-trace-requires
 trace-requires c κs =
     let d = c .before .before .before .before .before .before in
     let f = d .find-peaks in
-    let s = d .before .before .before .before .before .before .before .before in
+    let s = d .before .before .before .before .before in
     let e = c .before .entry-of in
     (f .ensures .linked (e .result) (e .ensures .0), omega (arith, e .ensures .0, f .ensures .few, s .pre .1 .1))
 

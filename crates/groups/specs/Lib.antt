@@ -1,0 +1,6 @@
+-- What a reader must believe of the order of arcs by source. Making has what the inner functions leave; no public promise rests on it.
+pub mod Order
+pub mod Groups
+pub mod Making
+pub mod Rows
+pub mod Grouped

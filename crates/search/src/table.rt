@@ -1,0 +1,73 @@
+// Reading the groups and the rows of the arcs.
+ghost use mathlib.Core.Path.{_≡_};
+ghost use Prim.Native.Nat.{_<_};
+ghost use Rattle.limits.specs.Ceilings.{arcsMost};
+ghost use Rattle.groups.specs.Groups.{orderFrom};
+ghost use Rattle.groups.specs.Grouped.{firstPlace, arcPlaced};
+ghost use Rattle.groups.specs.Rows.{targetAt, drawAt, gainAt, coloursAt};
+use groups::ORDER;
+use groups::PLACES;
+use groups::ROW;
+use groups::WORDS;
+
+// A byte as an index.
+fn index(x: u8) -> usize
+    ensures { λ r. ⌜ r ≡ x ⌝ }
+{
+    x as usize
+}
+
+// The first place of a mode.
+pub fn first_of(places: &[u8; PLACES], mode: usize) -> usize
+    requires { ⌜ mode < orderFrom ⌝ }
+    ensures { λ r. ⌜ r ≡ firstPlace (now (places .entry)) mode ⌝ }
+{
+    index(places[mode])
+}
+
+// The arc at a place.
+pub fn arc_at(places: &[u8; PLACES], i: usize) -> usize
+    requires { ⌜ i < arcsMost ⌝ }
+    ensures { λ r. ⌜ r ≡ arcPlaced (now (places .entry)) i ⌝ }
+{
+    index(places[ORDER + i])
+}
+
+// A word as an index.
+fn wide(x: u16) -> usize
+    ensures { λ r. ⌜ r ≡ x ⌝ }
+{
+    x as usize
+}
+
+// The mode that an arc enters.
+pub fn target_of(rows: &[u16; WORDS], a: usize) -> usize
+    requires { ⌜ a < arcsMost ⌝ }
+    ensures { λ r. ⌜ r ≡ targetAt (now (rows .entry)) a ⌝ }
+{
+    wide(rows[ROW * a + 1])
+}
+
+// What an arc draws.
+pub fn draw_of(rows: &[u16; WORDS], a: usize) -> u16
+    requires { ⌜ a < arcsMost ⌝ }
+    ensures { λ r. ⌜ r ≡ drawAt (now (rows .entry)) a ⌝ }
+{
+    rows[ROW * a + 2]
+}
+
+// What an arc gains.
+pub fn gain_of(rows: &[u16; WORDS], a: usize) -> u16
+    requires { ⌜ a < arcsMost ⌝ }
+    ensures { λ r. ⌜ r ≡ gainAt (now (rows .entry)) a ⌝ }
+{
+    rows[ROW * a + 3]
+}
+
+// The colours of an arc.
+pub fn colours_of(rows: &[u16; WORDS], a: usize) -> u16
+    requires { ⌜ a < arcsMost ⌝ }
+    ensures { λ r. ⌜ r ≡ coloursAt (now (rows .entry)) a ⌝ }
+{
+    rows[ROW * a + 4]
+}
