@@ -272,14 +272,15 @@ passed-covered {P} {s} {c} {head} {tail} {best} {w} a t h =
         subst₂ (λ v e. Covers P best i v e) (n .node) (omega arith)
         (t .treated (n .index) (omega arith) (ap (λ k. getD best k 0) (n .node) ∙ sym (n .charge)) i)
 
--- an arc closes the cycle
-pub passed-closed : {P : Pass} {s c head tail a tail′ : ℕ} {best w best′ w′ : List ℕ} {closes : Bool} → closes ≡ true
+-- an arc closes the cycle at entry i, the one that is visited
+pub passed-closed : {P : Pass} {s c i head tail a tail′ : ℕ} {best w best′ w′ : List ℕ} {closes : Bool} → closes ≡ true → i ≡ head
     → Treated P s c best w head tail → head < tail → Visited P best w tail head best′ w′ closes a tail′
-    → Passed P s c best′ w′ true head a tail′
-passed-closed {P} {head = head} {a = a} on t h r =
-    record {
+    → Passed P s c best′ w′ closes i a tail′
+passed-closed {P} {head = head} {a = a} on here t h r =
+    rw here
+    (record {
       from = begun-grown (t .from) (r .queue) (r .grown);
-      covers = λ off. absurd (true≢false off);
+      covers = λ off. absurd (true≢false (sym on ∙ off));
       before = λ e. omega (arith, r .grown .more);
       closing = λ e. let (n, c) = entry-same head (r .grown) h in subst₂ (λ v e. Closes P a v e) (sym n) (sym c) (r .closing on);
-    }
+    })

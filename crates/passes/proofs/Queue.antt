@@ -12,10 +12,9 @@ use lib.ListN.{length, getD, set, length-set, List·getD-eq-default}
 use lib.Seq.{getD-set-same, getD-set-other}
 use borrow.Author.Tests.{ltb-true}
 use Rattle.limits.specs.Ceilings.{workWords}
-use Rattle.model.specs.Automaton.{bit}
 use Rattle.nets.specs.Table.{raisedIf, next}
 use Rattle.nets.proofs.Pigeonhole.{paired-bound}
-use Rattle.passes.specs.Pass.{Pass, Along, Ready, node, room, levelAfter}
+use Rattle.passes.specs.Pass.{Pass, Along, Ready, node, room}
 use Rattle.passes.specs.Queue.{wordCount, nodeAt, chargeAt, parentAt, sum, Made, Entry, Queue, Pushed, Arrives, Grown}
 
 -- a step leads no higher than the bound
@@ -45,17 +44,13 @@ node-levels {P} {m} {size} {v} r h =
     (omega arith, mod-lt v (r .some-mode))
 
 -- no arc leads above the last level
-raised-low : (last l : ℕ) (t : Bool) → l ≤ last → raisedIf (ltb l last && t) l ≤ last
+pub raised-low : (last l : ℕ) (t : Bool) → l ≤ last → raisedIf (ltb l last && t) l ≤ last
 raised-low last l t h = go (ltb l last) t refl
   where
     go : (s t : Bool) → ltb l last ≡ s → raisedIf (s && t) l ≤ last
     go true true p = omega (arith, ltb-true l last p)
     go true false p = h
     go false t p = h
-
-pub level-after-low : (last colours l : ℕ) → l ≤ last → levelAfter last colours l ≤ last
-unfolding levelAfter
-level-after-low last colours l h = raised-low last l (bit colours l) h
 
 -- from a node of the pass an arc leads to a node of it
 pub along-inside : {P : Pass} {m size a v e u x : ℕ} → Ready P m size → v < m → Along P a v e u x → u < m

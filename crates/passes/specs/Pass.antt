@@ -1,15 +1,14 @@
--- A pass over the nodes of a model, a node being a level and a mode: which arcs it follows, and which arc closes a cycle. Document 001,
+-- A pass over the nodes of a net, a node being a level and a mode: which arcs it follows, and which arc closes a cycle. Document 001,
 -- section 2, degeneralisation: "we split the states of A into levels"; section 4, FindMaxE.
 use Prim.Native.Nat.{ℕ, suc, _+_, _*_, _/_, _%_, _≤_, _<_}
 use mathlib.Core.Path.{_≡_}
 use mathlib.Core.Bool.{Bool, true, _&&_}
 use mathlib.Core.List.{List}
-use lib.Dec.{leb, ltb, eqb}
+use lib.Dec.{leb, eqb}
 use Rattle.limits.specs.Ceilings.{modesMost, arcsMost, coloursMost, boundMost, productMost, workWords}
 use Rattle.walks.specs.Moves.{after}
-use Rattle.model.specs.Automaton.{bit}
 use Rattle.nets.specs.Net.{Net}
-use Rattle.nets.specs.Table.{raisedIf, next}
+use Rattle.nets.specs.Table.{next}
 use Rattle.groups.specs.Grouped.{Grouped}
 
 -- the node of level l and mode t, of n modes
@@ -23,10 +22,6 @@ nodes n last = node n (suc last) 0
 -- the pairs of a node, of m, and a charge up to b
 unfoldable pub room : ℕ → ℕ → ℕ
 room m b = m * (b + 1)
-
--- the level after an arc with this colour byte, of the levels 0 to last
-unfoldable pub levelAfter : ℕ → ℕ → ℕ → ℕ
-levelAfter last colours l = raisedIf (ltb l last && bit colours l) l
 
 -- A pass: the net, the groups by which it finds the arcs that leave a mode, which arcs it may use, the last level, the bound; an arc that
 -- comes to the node goal with the charge least or more closes the cycle, and ends the pass.

@@ -7,7 +7,7 @@ use Prim.Native.Nat.{ℕ, _+_, _*_, _≤_, _<_}
 use lib.ListN.{length, getD, set}
 use Rattle.limits.specs.Ceilings.{workWords}
 use Rattle.groups.specs.Grouped.{arcPlaced}
-use Rattle.passes.specs.Pass.{Pass, Along, closesAt}
+use Rattle.passes.specs.Pass.{Pass, Along, Ready, closesAt}
 
 -- the numbers that a word holds, and a byte
 abbrev pub wordCount : ℕ
@@ -56,6 +56,11 @@ pub record Queue (P : Pass) (best w : List ℕ) (tail : ℕ) : Type 0 where
   pub known : (i : ℕ) → i < tail → chargeAt w i + 1 ≤ getD best (nodeAt w i) 0
   pub low : (v : ℕ) → getD best v 0 ≤ P .bound + 1
   pub counted : tail ≤ sum best
+
+-- the pass is under way, with tail entries in its queue
+pub record Running (P : Pass) (best w : List ℕ) (tail : ℕ) : Type 0 where
+  pub ready : Ready P (length best) (length w)
+  pub queue : Queue P best w tail
 
 -- w′ is w with the entry (v, x, h, a) at tail; what stands before tail is kept
 pub record Pushed (w : List ℕ) (tail v x h a : ℕ) (w′ : List ℕ) : Type 0 where

@@ -50,7 +50,7 @@ module _ {rows places : List ℕ} {t : Task} {words : ℕ} (able : Searchable ro
 
 -- once the pass has filled it
 module _ {rows places : List ℕ} {t : Task} {words r : ℕ} {best w : List ℕ} (able : Searchable rows places t words)
-    (peaked : Peaked (taskNet rows t) (t .bound) (t .credit) best w r) (kept : length best ≡ length (take (t .modes) blankTable)) where
+    (peaked : Peaked (taskNet rows places t) (t .bound) (t .credit) best w r) (kept : length best ≡ length (take (t .modes) blankTable)) where
   best-size : length best ≡ t .modes
   best-size = omega (arith, lent-words able)
 
@@ -70,16 +70,16 @@ module _ {rows places : List ℕ} {t : Task} {words r : ℕ} {best w : List ℕ}
   filled-low s = rw best-front (peaked-low (able .credit) best-size peaked s)
 
   -- where mode m is answered as the first whose peak is kept
-  module _ {m : ℕ} (lent : FirstKept (taskNet rows t) (t .bound) (take (t .modes) (filled (t .modes) best)) m) where
-    first : FirstKept (taskNet rows t) (t .bound) best m
+  module _ {m : ℕ} (lent : FirstKept (taskNet rows places t) (t .bound) (take (t .modes) (filled (t .modes) best)) m) where
+    first : FirstKept (taskNet rows places t) (t .bound) best m
     first = rw best-front at lent
 
     -- if it is none, there is no lasso
-    pub no-plan : m ≡ t .modes → AcceptedLasso (taskNet rows t) (t .bound) (t .credit) → ⊥
+    pub no-plan : m ≡ t .modes → AcceptedLasso (taskNet rows places t) (t .bound) (t .credit) → ⊥
     no-plan all plan =
         let n = t .modes in
         let high : ℕ → ℕ → ℕ = λ l t. getD best (node n l t) 0 in
-        let peak = criterion (taskNet rows t) (t .bound) (t .credit) high (able .fits) (able .credit) (peaked .table) .0 plan in
+        let peak = criterion (taskNet rows places t) (t .bound) (t .credit) high (able .fits) (able .credit) (peaked .table) .0 plan in
         first .none (peak .mode) (omega (arith, peak .bounded))
         (record { peak = peak .peak; listed = rw (node-first n (peak .mode)) at (peak .listed); cycle = peak .cycle })
 
@@ -100,7 +100,7 @@ module _ {rows places : List ℕ} {t : Task} {words r : ℕ} {best w : List ℕ}
       first-low = omega (arith, first-word, peaked-low (able .credit) best-size peaked m)
 
       -- of the mode's peak,
-      pub first-peak : Peak (taskNet rows t) (t .bound) (t .credit) m (getD (filled (t .modes) best) m 0 - 1)
+      pub first-peak : Peak (taskNet rows places t) (t .bound) (t .credit) m (getD (filled (t .modes) best) m 0 - 1)
       first-peak =
           record {
             high = λ l s. getD best (node (t .modes) l s) 0;
@@ -110,7 +110,7 @@ module _ {rows places : List ℕ} {t : Task} {words r : ℕ} {best w : List ℕ}
           }
 
       -- and of one that a cycle keeps
-      pub first-cycle : KeptCycle (taskNet rows t) (t .bound) m (getD (filled (t .modes) best) m 0 - 1)
+      pub first-cycle : KeptCycle (taskNet rows places t) (t .bound) m (getD (filled (t .modes) best) m 0 - 1)
       first-cycle =
           let k = first .kept first-mode in
-          subst (λ (x : ℕ). KeptCycle (taskNet rows t) (t .bound) m x) (omega (arith, first-word, k .listed)) (k .cycle)
+          subst (λ (x : ℕ). KeptCycle (taskNet rows places t) (t .bound) m x) (omega (arith, first-word, k .listed)) (k .cycle)

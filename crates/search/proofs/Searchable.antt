@@ -15,6 +15,7 @@ use Rattle.refusals.proofs.Verdicts.{clash, refuse-yes, and-then-yes}
 use Rattle.refusals.proofs.Tests.{lt-no}
 use Rattle.model.specs.Automaton.{Automaton}
 use Rattle.model.specs.declared.Fitted.{Fitted}
+use Rattle.model.specs.declared.Model.{Model}
 use Rattle.model.specs.Lists.{Lists, automatonOf, held}
 use Rattle.model.specs.Fitness.{fitness, levelsOf, fittedOf, Holds}
 use Rattle.model.specs.Plans.{SomePlan}
@@ -22,7 +23,7 @@ use Rattle.model.proofs.Fitness.{fitness-yes, levels-yes, fitted-held, fitted-h
 use Rattle.search.specs.declared.Searched.{Searched}
 use Rattle.search.specs.declared.Searched.the-variants as outcome
 use Rattle.search.specs.Search.{noPlan, spaces, levelsAndSpaces, searchable, Answered, Search}
-use Rattle.search.specs.Tasks.{Callable, Solvable}
+use Rattle.search.specs.Tasks.{Callable, Solvable, checkedOf}
 
 -- none of 7 to 9 applies
 pub spaces-yes : (n k b words bytes : ℕ) → (spaces n k b words bytes ≡ Yes)
@@ -76,33 +77,33 @@ searchable-on n s k l b c words bytes fit room =
     (f, and-then-yes (levelsOf b c) (spaces n k b words bytes) .1 (v, room))
 
 -- the model that the code is told is fit, and none of 6 to 9 applies
-module _ (n s k : ℕ) (l : Lists) (b c words bytes : ℕ) {y : Fitted} (told : y .verdict ≡ searchable n s k l b c words bytes)
-    (same : y .model ≡ fittedOf n s k l .model) (yes : y .verdict ≡ Yes) where
+module _ (n s k : ℕ) (l : Lists) (b c words bytes : ℕ) {y : Fitted} (told : y ≡ checkedOf n s k l b c words bytes) (yes : y .verdict ≡ Yes) where
+  pub told-yes : searchable n s k l b c words bytes ≡ Yes
+  told-yes = sym (ap {B = Verdict} (λ (f : Fitted). f .verdict) told) ∙ yes
+
   fitness-told : fitness n s k l ≡ Yes
   unfolding searchable
-  fitness-told = and-then-yes (fitness n s k l) (levelsAndSpaces n k b c words bytes) .0 (sym told ∙ yes) .0
+  fitness-told = and-then-yes (fitness n s k l) (levelsAndSpaces n k b c words bytes) .0 told-yes .0
+
+  model-told : y .model ≡ fittedOf n s k l .model
+  model-told = ap {B = Model} (λ (f : Fitted). f .model) told
 
   pub told-held : held (y .model) ≡ automatonOf n s k l
-  told-held = ap {B = Automaton} held same ∙ fitted-held n s k l fitness-told
+  told-held = ap {B = Automaton} held model-told ∙ fitted-held n s k l fitness-told
 
   pub told-solvable : Solvable (y .model) b c words bytes
   told-solvable =
-      let (a, buffer) = searchable-yes n s k l b c words bytes .0 (sym told ∙ yes) in
+      let (a, buffer) = searchable-yes n s k l b c words bytes .0 told-yes in
       let modes : y .model .modes ≡ n = ap {B = ℕ} (λ (g : Automaton). g .modes) told-held in
       let colours : y .model .colours ≡ k = ap {B = ℕ} (λ (g : Automaton). g .colours) told-held in
       record {
-        holds = subst Holds (sym same) (fitted-holds n s k l fitness-told);
+        holds = subst Holds (sym model-told) (fitted-holds n s k l fitness-told);
         credit = a .credit;
         low = a .low;
         product = subst (λ (x : ℕ). x * (b + 1) ≤ productMost) (sym modes) (a .product);
         space = subst₂ (λ (x z : ℕ). workSpace x z b ≤ words) (sym colours) (sym modes) (a .space);
         buffer = subst₂ (λ (x z : ℕ). planBuffer x z b ≤ bytes) (sym colours) (sym modes) buffer;
       }
-
--- the same of the verdict that the code is told
-pub told-searchable : (n s k : ℕ) (l : Lists) (b c words bytes : ℕ) {v : Verdict} → v ≡ searchable n s k l b c words bytes → v ≡ Yes
-    → Callable l n s k b c words × (planBuffer k n b ≤ bytes)
-told-searchable n s k l b c words bytes told e = searchable-yes n s k l b c words bytes .0 (sym told ∙ e)
 
 module _ {v : Verdict} {g : Automaton} {b c : ℕ} {work plan : List ℕ} where
   -- where the verdict is a refusal, that is answered and both buffers are left as they were

@@ -24,7 +24,8 @@ use Rattle.groups.specs.declared.Rows.{Rows}
 use Rattle.groups.specs.Groups.{groupsOf}
 use Rattle.groups.specs.Rows.{rowWords, rowOf, rowsOf, arcIn, sourceAt, targetAt, drawAt, gainAt, coloursAt}
 use Rattle.groups.proofs.Tables.{row-at, row-none}
-use Rattle.groups.proofs.Grouping.{holds-grouped, grouped-same}
+use Rattle.groups.specs.Grouped.{firstPlace, Grouped}
+use Rattle.groups.proofs.Grouping.{holds-grouped, holds-end, grouped-same}
 use Rattle.search.specs.declared.Searched.{Searched}
 use Rattle.search.specs.declared.plans.Task.{Task}
 use Rattle.search.specs.Search.{noPlan, Answered}
@@ -66,7 +67,7 @@ module _ (g : Model) (h : Holds g) where
       ap {B = ℕ} (λ k. getD (rowsOf g .words) k 0) (sym e) ∙ row-word a 0 (omega arith)
 
   -- the net read from the rows is the model's
-  net-same : rowsNet (rowsOf g .words) (g .modes) (g .start) (g .colours) (g .count) ≡ whole (held g)
+  net-same : rowsNet (rowsOf g .words) (g .modes) (g .start) (g .colours) (firstPlace (groupsOf g .places) (g .modes)) ≡ whole (held g)
   net-same =
       let w = rowsOf g .words in
       let arc : (ℕ → Arc) = λ a. arcAt (held g) a in
@@ -78,24 +79,23 @@ module _ (g : Model) (h : Holds g) where
       let n = g .modes in
       let s = g .start in
       let k = g .colours in
-      let m = g .count in
+      let m = firstPlace (groupsOf g .places) (g .modes) in
       ap {B = Net} (λ (f : ℕ → ℕ). fieldsNet f (targetAt w) (drawAt w) (gainAt w) (coloursAt w) n s k m) (fun-ext row-source)
       ∙ ap {B = Net} (λ (f : ℕ → ℕ). fieldsNet source f (drawAt w) (gainAt w) (coloursAt w) n s k m) (fun-ext (λ a. row-word a 1 (omega arith)))
       ∙ ap {B = Net} (λ (f : ℕ → ℕ). fieldsNet source target f (gainAt w) (coloursAt w) n s k m) (fun-ext (λ a. row-word a 2 (omega arith)))
       ∙ ap {B = Net} (λ (f : ℕ → ℕ). fieldsNet source target draw f (coloursAt w) n s k m) (fun-ext (λ a. row-word a 3 (omega arith)))
       ∙ ap {B = Net} (λ (f : ℕ → ℕ). fieldsNet source target draw gain f n s k m) (fun-ext (λ a. row-word a 4 (omega arith)))
-      ∙ ap {B = Net} (λ (x : ℕ). fieldsNet source target draw gain colours n s k x) (sym (h .count))
+      ∙ ap {B = Net} (λ (x : ℕ). fieldsNet source target draw gain colours n s k x) (holds-end g h ∙ sym (h .count))
 
 -- the task of a model
 abbrev pub modelTask : Model → ℕ → ℕ → Task
 modelTask g b c =
-    record { modes = g .modes; start = g .start; colours = g .colours; count = g .count; credit = c; bound = b }
+    record { modes = g .modes; start = g .start; colours = g .colours; credit = c; bound = b }
 
 module _ {g : Model} {b c words bytes : ℕ} {rows : Rows} {groups : Groups} (able : Solvable g b c words bytes) (er : rows ≡ rowsOf g)
     (eg : groups ≡ groupsOf g) where
-  task-net : taskNet (rows .words) (modelTask g b c) ≡ whole (held g)
-  task-net =
-      ap {B = Net} (λ (x : Rows). rowsNet (x .words) (g .modes) (g .start) (g .colours) (g .count)) er ∙ net-same g (able .holds)
+  task-net : taskNet (rows .words) (groups .places) (modelTask g b c) ≡ whole (held g)
+  task-net = rw (er, eg) (net-same g (able .holds))
 
   -- what the search over rows and groups asks
   pub solvable-searchable : Searchable (rows .words) (groups .places) (modelTask g b c) words × (planBuffer (g .colours) (g .modes) b ≤ bytes)
@@ -106,13 +106,15 @@ module _ {g : Model} {b c words bytes : ℕ} {rows : Rows} {groups : Groups} (ab
         record {
           some-mode = fit .some-mode;
           few-modes = fit .few-modes;
-          few-arcs = omega (arith, fit .few-arcs, able .holds .count);
+          few-arcs = rw eg (omega (arith, fit .few-arcs, able .holds .count, holds-end g (able .holds)));
           few-colours = fit .few-colours;
           fits = subst Fits (sym task-net) (whole-fits (held g) fit);
           grouped =
               rw (er, eg)
+              (subst (λ (m : ℕ). Grouped (λ a. sourceAt (rowsOf g .words) a) (g .modes) m (groupsOf g .places))
+              (sym (holds-end g (able .holds)))
               (grouped-same (λ a. arcIn g a .source) (λ a. sourceAt (rowsOf g .words) a) (g .modes) (g .count) (groupsOf g .places) source
-              (holds-grouped g (able .holds)));
+              (holds-grouped g (able .holds))));
           credit = able .credit;
           low = able .low;
           product = able .product;
@@ -122,7 +124,7 @@ module _ {g : Model} {b c words bytes : ℕ} {rows : Rows} {groups : Groups} (ab
       )
 
   -- what it answers, in the words of the model
-  pub solved-none : {r : Searched} → ((r ≡ noPlan) ↔ (AcceptedLasso (taskNet (rows .words) (modelTask g b c)) b c → ⊥))
+  pub solved-none : {r : Searched} → ((r ≡ noPlan) ↔ (AcceptedLasso (taskNet (rows .words) (groups .places) (modelTask g b c)) b c → ⊥))
       → (r ≡ noPlan) ↔ (SomePlan (held g) b c → ⊥)
   solved-none {r} d =
       let e : (r ≡ noPlan) ↔ (AcceptedLasso (whole (held g)) b c → ⊥) =
@@ -130,6 +132,6 @@ module _ {g : Model} {b c words bytes : ℕ} {rows : Rows} {groups : Groups} (ab
       let w = whole-lasso (held g) b c in
       (λ q p. e .0 q (w .0 p), λ n. e .1 (λ l. n (w .1 l)))
 
-  pub solved-answered : {plan plan′ : List ℕ} {r : Searched} → Written (taskNet (rows .words) (modelTask g b c)) b c plan plan′ r
+  pub solved-answered : {plan plan′ : List ℕ} {r : Searched} → Written (taskNet (rows .words) (groups .places) (modelTask g b c)) b c plan plan′ r
       → Answered (held g) b c plan plan′ r
   solved-answered {plan} {plan′} {r} d = written-answered (held g) (subst (λ (x : Net). Written x b c plan plan′ r) task-net d)

@@ -67,19 +67,19 @@ module _ {rows places : List ℕ} {t : Task} {words : ℕ} (able : Searchable ro
 
   -- what the pass for the peaks leaves
   pub peaks-left : {peaks best w : List ℕ} {found : Bool} {head a tail : ℕ} → peaks ≡ replicate (t .modes) 0 → length best ≡ length peaks
-      → length w ≡ words → Passed (peaksPass (taskNet rows t) places (t .bound)) (t .start) (t .credit) best w found head a tail
-      → Peaked (taskNet rows t) (t .bound) (t .credit) best w tail
+      → length w ≡ words → Passed (peaksPass (taskNet rows places t) places (t .bound)) (t .start) (t .credit) best w found head a tail
+      → Peaked (taskNet rows places t) (t .bound) (t .credit) best w tail
   peaks-left e hb hw p =
-      passed-peaked (taskNet rows t) places (t .bound) (able .fits) (t .credit)
+      passed-peaked (taskNet rows places t) places (t .bound) (able .fits) (t .credit)
       (pass-ready (omega arith) (sym (one-mul (t .modes))) e hb hw) p
 
   -- what the pass from mode m with charge e leaves
   pub cycle-left : {m e : ℕ} {table best w : List ℕ} {found : Bool} {head a tail : ℕ} → m < t .modes
       → table ≡ replicate ((t .colours + 1) * t .modes) 0 → length best ≡ length table → length w ≡ words
-      → Passed (cyclePass (taskNet rows t) places (t .bound) m e) m e best w found head a tail
-      → CyclePassed (taskNet rows t) (t .bound) m e w found head a
+      → Passed (cyclePass (taskNet rows places t) places (t .bound) m e) m e best w found head a tail
+      → CyclePassed (taskNet rows places t) (t .bound) m e w found head a
   cycle-left {m} {e} hm q hb hw p =
-      passed-cycle (taskNet rows t) places (t .bound) (able .fits) m e hm (pass-ready (omega arith) refl q hb hw) p
+      passed-cycle (taskNet rows places t) places (t .bound) (able .fits) m e hm (pass-ready (omega arith) refl q hb hw) p
 
   -- the nodes of the pass from a mode fit the table of the code
   pub nodes-few : (t .colours + 1) * t .modes ≤ nodesMost

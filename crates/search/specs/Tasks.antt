@@ -1,28 +1,32 @@
 -- What the inner functions of search are given: the rows and groups of a model, the task, once none of 1 to 9 applies, and a pass of it; and
--- what they write. No public promise rests on these words.
+-- what they answer and write. No public promise rests on these words.
 use Prim.Native.Nat.{ℕ, _+_, _*_, _/_, _%_, _≤_, _<_}
 use mathlib.Core.Path.{_≡_}
-use mathlib.Core.Bool.{true}
+use mathlib.Core.Bool.{true, _&&_}
 use mathlib.Core.List.{List}
+use lib.Dec.{ltb}
 use lib.ListN.{length, take, drop}
 use Rattle.limits.specs.Ceilings.{modesMost, arcsMost, coloursMost, boundMost, productMost, planMost, workSpace, planBuffer}
+use Rattle.model.specs.declared.Fitted.{Fitted}
 use Rattle.model.specs.declared.Model.{Model}
 use Rattle.model.specs.Automaton.{bit}
 use Rattle.model.specs.Lists.{Lists, automatonOf}
-use Rattle.model.specs.Fitness.{EqualLists, Fit, Holds}
+use Rattle.model.specs.Fitness.{EqualLists, Fit, Holds, fittedOf}
 use Rattle.judge.specs.Shape.{planOf}
 use Rattle.nets.specs.Net.{Net, Fits, AcceptedLasso}
+use Rattle.nets.specs.Table.{raisedIf}
 use Rattle.nets.specs.Whole.{lassoPlan}
 use Rattle.groups.specs.Rows.{sourceAt, targetAt, drawAt, gainAt, coloursAt}
-use Rattle.groups.specs.Grouped.{Grouped}
+use Rattle.groups.specs.Grouped.{firstPlace, PlaceOf, Grouped}
 use Rattle.passes.specs.Pass.{Pass}
-use Rattle.passes.specs.Queue.{nodeAt, chargeAt}
+use Rattle.passes.specs.Queue.{nodeAt, chargeAt, Running, Tried, Visited}
 use Rattle.search.specs.declared.Searched.{Searched}
 use Rattle.search.specs.declared.Searched.the-variants as outcome
 use Rattle.search.specs.declared.plans.Task.{Task}
 use Rattle.search.specs.declared.pass.Aim.{Aim}
-use Rattle.search.specs.declared.pass.Place.{Place}
-use Rattle.search.specs.Search.{noPlan}
+use Rattle.search.specs.declared.pass.Entry.{Entry}
+use Rattle.search.specs.declared.pass.Outcome.{Outcome}
+use Rattle.search.specs.Search.{noPlan, searchable}
 
 -- the net of n modes and m arcs that stand in rows, with the start mode s and k duties
 abbrev pub rowsNet : List ℕ → ℕ → ℕ → ℕ → ℕ → Net
@@ -43,18 +47,51 @@ rowsNet rows n s k m =
       meets = λ j a. bit (coloursAt rows a) j;
     }
 
--- the net of a task over its rows
-abbrev pub taskNet : List ℕ → Task → Net
-taskNet rows t = rowsNet rows (t .modes) (t .start) (t .colours) (t .count)
+-- the net of a task over its rows and groups; the last mode's group ends with the last arc
+abbrev pub taskNet : List ℕ → List ℕ → Task → Net
+taskNet rows places t = rowsNet rows (t .modes) (t .start) (t .colours) (firstPlace places (t .modes))
 
 -- a pass of a task over its rows and groups
 abbrev pub passOf : List ℕ → List ℕ → Task → Aim → Pass
 passOf rows places t i =
-    record { net = taskNet rows t; places = places; ok = λ a. true; last = i .last; bound = t .bound; goal = i .goal; least = i .least }
+    record {
+      net = taskNet rows places t;
+      places = places;
+      ok = λ a. true;
+      last = i .last;
+      bound = t .bound;
+      goal = i .goal;
+      least = i .least;
+    }
 
--- the place of entry i of the queue in w, of n modes
-abbrev pub placeAt : ℕ → List ℕ → ℕ → Place
-placeAt n w i = record { index = i; level = nodeAt w i / n; mode = nodeAt w i % n; charge = chargeAt w i }
+-- the level after an arc with this colour byte, of the levels 0 to last
+unfoldable pub levelAfter : ℕ → ℕ → ℕ → ℕ
+levelAfter last colours l = raisedIf (ltb l last && bit colours l) l
+
+-- entry i of the queue in w, of n modes
+abbrev pub entryAt : ℕ → List ℕ → ℕ → Entry
+entryAt n w i = record { index = i; level = nodeAt w i / n; mode = nodeAt w i % n; charge = chargeAt w i }
+
+-- place i, one of those of the mode of entry h, is tried in a pass that is under way
+pub record Trying (rows places : List ℕ) (t : Task) (m : Aim) (h : Entry) (i : ℕ) (best w : List ℕ) (tail : ℕ) : Type 0 where
+  pub running : Running (passOf rows places t m) best w tail
+  pub entry : h ≡ entryAt (t .modes) w (h .index)
+  pub before : h .index < tail
+  pub group : PlaceOf places (h .mode) i
+
+-- what that answers
+pub record Relaxed (P : Pass) (h : Entry) (i : ℕ) (best w : List ℕ) (tail : ℕ) (best′ w′ : List ℕ) (r : Outcome) : Type 0 where
+  pub tried : Tried P best w tail i (i + 1) (nodeAt w (h .index)) (chargeAt w (h .index)) best′ w′ (r .found) (r .arc) (r .tail)
+  pub entry : r .head ≡ h .index
+
+-- what visiting entry head answers
+pub record VisitedAt (P : Pass) (best w : List ℕ) (tail head : ℕ) (best′ w′ : List ℕ) (r : Outcome) : Type 0 where
+  pub visited : Visited P best w tail head best′ w′ (r .found) (r .arc) (r .tail)
+  pub entry : r .head ≡ head
+
+-- 1 to 9, and the model beside the verdict
+abbrev pub checkedOf : ℕ → ℕ → ℕ → Lists → ℕ → ℕ → ℕ → ℕ → Fitted
+checkedOf n s k l b c words bytes = record { verdict = searchable n s k l b c words bytes; model = fittedOf n s k l .model }
 
 -- none of 1 to 8 applies to a call, where the working space has this many words
 pub record Callable (l : Lists) (n s k b c words : ℕ) : Type 0 where
@@ -78,10 +115,10 @@ pub record Solvable (g : Model) (b c words bytes : ℕ) : Type 0 where
 pub record Searchable (rows places : List ℕ) (t : Task) (words : ℕ) : Type 0 where
   pub some-mode : 0 < t .modes
   pub few-modes : t .modes ≤ modesMost
-  pub few-arcs : t .count ≤ arcsMost
+  pub few-arcs : firstPlace places (t .modes) ≤ arcsMost
   pub few-colours : t .colours ≤ coloursMost
-  pub fits : Fits (taskNet rows t)
-  pub grouped : Grouped (λ a. sourceAt rows a) (t .modes) (t .count) places
+  pub fits : Fits (taskNet rows places t)
+  pub grouped : Grouped (λ a. sourceAt rows a) (t .modes) (firstPlace places (t .modes)) places
   pub credit : t .credit ≤ t .bound
   pub low : t .bound ≤ boundMost
   pub product : t .modes * (t .bound + 1) ≤ productMost

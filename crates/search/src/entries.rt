@@ -11,7 +11,7 @@ ghost use Rattle.passes.specs.Trace.{Linked, Chain, Wrote};
 use limits::Limits;
 
 // A word as an index.
-fn index(x: u16) -> usize
+pub fn index(x: u16) -> usize
     ensures { λ r. ⌜ r ≡ x ⌝ }
 {
     x as usize

@@ -6,14 +6,12 @@
 ghost use mathlib.Core.Path.{_≡_};
 ghost use Prim.Native.Nat.{_≤_};
 ghost use Rattle.limits.specs.Ceilings.{modesMost, coloursMost, boundMost};
-ghost use Rattle.model.specs.Lists.{lists};
-ghost use Rattle.model.specs.Lists.{held};
-ghost use Rattle.model.specs.Fitness.{fittedOf};
+ghost use Rattle.model.specs.Lists.{lists, held};
 ghost use Rattle.model.specs.Plans.{SomePlan};
 ghost use mathlib.Core.Logic.{_↔_};
 ghost use lib.ListN.{length};
-ghost use Rattle.search.specs.Search.{noPlan, Answered, spaces, levelsAndSpaces, searchable, searchAnswer, SearchOf};
-ghost use Rattle.search.specs.Tasks.{Solvable};
+ghost use Rattle.search.specs.Search.{noPlan, Answered, spaces, levelsAndSpaces, searchAnswer, SearchOf};
+ghost use Rattle.search.specs.Tasks.{Solvable, checkedOf};
 
 mod entries;
 mod pass;
@@ -113,8 +111,7 @@ fn check_search(
     words: usize,
     bytes: usize,
 ) -> Fitted
-    ensures { λ r. ⌜ r .verdict ≡ searchable n start k (lists (now (sources .entry)) (now (targets .entry)) (now (weights .entry)) (now (colours .entry))) b c words bytes ⌝ }
-    ensures { λ r. ⌜ r .model ≡ fittedOf n start k (lists (now (sources .entry)) (now (targets .entry)) (now (weights .entry)) (now (colours .entry))) .model ⌝ }
+    ensures { λ r. ⌜ r ≡ checkedOf n start k (lists (now (sources .entry)) (now (targets .entry)) (now (weights .entry)) (now (colours .entry))) b c words bytes ⌝ }
 {
     let fitted = check_model(n, start, k, sources, targets, weights, colours);
     let verdict = fitted.verdict;
@@ -139,17 +136,17 @@ fn decide_model(model: Model, c: u16, b: u16, work: &mut [u16], plan: &mut [u8])
 {
     let groups = group(model);
     let rows = tabulate(model);
-    let places = groups.places;
-    let words = rows.words;
+    let modes = model.modes as usize;
+    let start = model.start as usize;
+    let colours = model.colours as usize;
     let task = Task {
-        modes: model.modes as usize,
-        start: model.start as usize,
-        colours: model.colours as usize,
-        count: model.count as usize,
+        modes,
+        start,
+        colours,
         credit: c,
         bound: b,
     };
-    decide(&words, &places, task, work, plan)
+    decide(&rows.words, &groups.places, task, work, plan)
 }
 
 // Search: p and q of a plan in the plan buffer, or 10 where there is none, or the first of 1 to 9 that applies. For all numbers, lists and

@@ -4,10 +4,9 @@ ghost use Prim.Native.Nat.{_+_, _*_, _≤_, _<_};
 ghost use lib.Dec.{eqb};
 ghost use lib.ListN.{length, getD, set, replicate};
 ghost use Rattle.limits.specs.Ceilings.{modesMost, coloursMost, boundMost, workWords};
-ghost use Rattle.groups.specs.Grouped.{PlaceOf};
-ghost use Rattle.passes.specs.Pass.{node, levelAfter, closesAt, Ready};
-ghost use Rattle.passes.specs.Queue.{wordCount, nodeAt, chargeAt, Queue, Pushed, Arrives, Arrived, Tried, Visited, Passed};
-ghost use Rattle.search.specs.Tasks.{passOf, placeAt};
+ghost use Rattle.passes.specs.Pass.{node, closesAt, Ready};
+ghost use Rattle.passes.specs.Queue.{wordCount, nodeAt, chargeAt, Pushed, Arrives, Arrived, Running, Passed};
+ghost use Rattle.search.specs.Tasks.{levelAfter, passOf, entryAt, Trying, Relaxed, VisitedAt};
 use crate::entries::charge_of;
 use crate::entries::node_of;
 use crate::entries::push;
@@ -32,22 +31,15 @@ pub struct Aim {
 }
 
 // An entry of the queue, with the level and the mode of its node.
-pub struct Place {
+pub struct Entry {
     pub index: usize,
     pub level: usize,
     pub mode: usize,
     pub charge: u16,
 }
 
-// What trying arcs at an entry gives: whether an arc closes the cycle, which, and the number of entries of the queue.
-pub struct Trial {
-    pub closes: bool,
-    pub arc: usize,
-    pub tail: usize,
-}
-
-// How a pass ends: whether it found an arc that closes the cycle, and then that arc and the entry head that it was tried at; and the number of
-// entries of the queue.
+// What trying arcs gives, at one entry or at all: whether an arc closes the cycle, and then the entry that it was tried at and its number; and
+// the number of entries of the queue.
 pub struct Outcome {
     pub found: bool,
     pub head: usize,
@@ -74,42 +66,46 @@ fn closes(aim: Aim, node: usize, charge: u16) -> bool
     charge >= aim.least
 }
 
-// Arc `arc` comes from the entry `parent` to a node with a charge: it closes the cycle, or where the table has less, the table rises and an
+// Arc `arc` comes from the entry `head` to a node with a charge: it closes the cycle, or where the table has less, the table rises and an
 // entry is added.
 fn arrive(
     aim: Aim,
     node: usize,
     charge: u16,
-    parent: usize,
+    head: usize,
     arc: usize,
     best: &mut [u16],
     work: &mut [u16],
     tail: usize,
-) -> Trial
-    requires { ⌜ Arrives (now best) (now work) tail node charge parent arc ⌝ }
-    ensures does { λ r. ⌜ Arrived (aim .goal) (aim .least) (now (best .entry)) (now (work .entry)) tail node charge parent arc (now (best .exit)) (now (work .exit)) (r .closes) (r .tail) ⌝ }
-    ensures by { λ r. ⌜ r .arc ≡ arc ⌝ }
+) -> Outcome
+    requires { ⌜ Arrives (now best) (now work) tail node charge head arc ⌝ }
+    ensures does { λ r. ⌜ Arrived (aim .goal) (aim .least) (now (best .entry)) (now (work .entry)) tail node charge head arc (now (best .exit)) (now (work .exit)) (r .found) (r .tail) ⌝ }
+    ensures by { λ r. ⌜ (r .head ≡ head) × (r .arc ≡ arc) ⌝ }
 {
     if closes(aim, node, charge) {
-        return Trial {
-            closes: true,
+        return Outcome {
+            found: true,
+            head,
             arc,
             tail,
         };
     }
     if charge < best[node] {
-        return Trial {
-            closes: false,
+        return Outcome {
+            found: false,
+            head,
             arc,
             tail,
         };
     }
     best[node] = charge + 1;
-    push(work, tail, node as u16, charge, parent as u16, arc as u16);
-    Trial {
-        closes: false,
+    push(work, tail, node as u16, charge, head as u16, arc as u16);
+    let tail = tail + 1;
+    Outcome {
+        found: false,
+        head,
         arc,
-        tail: tail + 1,
+        tail,
     }
 }
 
@@ -142,84 +138,56 @@ fn relax(
     places: &[u8; PLACES],
     task: Task,
     aim: Aim,
-    place: Place,
+    entry: Entry,
     i: usize,
     best: &mut [u16],
     work: &mut [u16],
     tail: usize,
-) -> Trial
-    requires { ⌜ Ready (passOf (now rows) (now places) task aim) (length (now best)) (length (now work)) ⌝ }
-    requires { ⌜ Queue (passOf (now rows) (now places) task aim) (now best) (now work) tail ⌝ }
-    requires { ⌜ (place ≡ placeAt (task .modes) (now work) (place .index)) × (place .index < tail) × PlaceOf (now places) (place .mode) i ⌝ }
-    ensures { λ r. ⌜ Tried (passOf (now (rows .entry)) (now (places .entry)) task aim) (now (best .entry)) (now (work .entry)) tail i (i + 1) (nodeAt (now (work .entry)) (place .index)) (chargeAt (now (work .entry)) (place .index)) (now (best .exit)) (now (work .exit)) (r .closes) (r .arc) (r .tail) ⌝ }
+) -> Outcome
+    requires { ⌜ Trying (now rows) (now places) task aim entry i (now best) (now work) tail ⌝ }
+    ensures { λ r. ⌜ Relaxed (passOf (now (rows .entry)) (now (places .entry)) task aim) entry i (now (best .entry)) (now (work .entry)) tail (now (best .exit)) (now (work .exit)) r ⌝ }
 {
-    let a = arc_at(places, i);
-    let step = bounded_move(place.charge, draw_of(rows, a), gain_of(rows, a), task.bound);
+    let arc = arc_at(places, i);
+    let step = bounded_move(
+        entry.charge,
+        draw_of(rows, arc),
+        gain_of(rows, arc),
+        task.bound,
+    );
     match step {
         Step::To(charge) => {
             let node = entered(
                 task.modes,
                 aim.last,
-                place.level,
-                target_of(rows, a),
-                colours_of(rows, a),
+                entry.level,
+                target_of(rows, arc),
+                colours_of(rows, arc),
             );
-            arrive(aim, node, charge, place.index, a, best, work, tail)
+            arrive(aim, node, charge, entry.index, arc, best, work, tail)
         }
-        Step::Impossible => Trial {
-            closes: false,
-            arc: a,
+        Step::Impossible => Outcome {
+            found: false,
+            head: entry.index,
+            arc,
             tail,
         },
     }
 }
 
-// The place of an entry.
-fn place_of(modes: usize, work: &[u16], i: usize) -> Place
+// Entry i of the queue.
+fn entry_at(modes: usize, work: &[u16], i: usize) -> Entry
     requires { ⌜ (0 < modes) × (modes ≤ modesMost) × (workWords * i + workWords ≤ length (now work)) ⌝ }
-    ensures { λ r. ⌜ r ≡ placeAt modes (now (work .entry)) i ⌝ }
+    ensures { λ r. ⌜ r ≡ entryAt modes (now (work .entry)) i ⌝ }
 {
     let node = node_of(work, i);
-    Place {
+    let level = node / modes;
+    let mode = node % modes;
+    let charge = charge_of(work, i);
+    Entry {
         index: i,
-        level: node / modes,
-        mode: node % modes,
-        charge: charge_of(work, i),
-    }
-}
-
-// Tries every arc that leaves the mode of an entry.
-fn expand(
-    rows: &[u16; WORDS],
-    places: &[u8; PLACES],
-    task: Task,
-    aim: Aim,
-    head: usize,
-    best: &mut [u16],
-    work: &mut [u16],
-    tail: usize,
-) -> Trial
-    requires { ⌜ Ready (passOf (now rows) (now places) task aim) (length (now best)) (length (now work)) ⌝ }
-    requires { ⌜ Queue (passOf (now rows) (now places) task aim) (now best) (now work) tail ⌝ }
-    requires { ⌜ head < tail ⌝ }
-    ensures { λ r. ⌜ Visited (passOf (now (rows .entry)) (now (places .entry)) task aim) (now (best .entry)) (now (work .entry)) tail head (now (best .exit)) (now (work .exit)) (r .closes) (r .arc) (r .tail) ⌝ }
-{
-    let place = place_of(task.modes, work, head);
-    let last = first_of(places, place.mode + 1);
-    let mut end = tail;
-    let mut i = first_of(places, place.mode);
-    while i < last {
-        let trial = relax(rows, places, task, aim, place, i, best, work, end);
-        if trial.closes {
-            return trial;
-        }
-        end = trial.tail;
-        i += 1;
-    }
-    Trial {
-        closes: false,
-        arc: 0,
-        tail: end,
+        level,
+        mode,
+        charge,
     }
 }
 
@@ -233,7 +201,8 @@ fn is_greatest(best: &[u16], work: &[u16], i: usize) -> bool
     best[node] == charge + 1
 }
 
-// Tries every arc at an entry, unless a greater charge is known for its node.
+// Tries every arc that leaves the mode of an entry, at the places from the mode's first up to the next mode's; none where a greater charge is
+// known for the entry's node.
 fn visit(
     rows: &[u16; WORDS],
     places: &[u8; PLACES],
@@ -243,19 +212,36 @@ fn visit(
     best: &mut [u16],
     work: &mut [u16],
     tail: usize,
-) -> Trial
-    requires { ⌜ Ready (passOf (now rows) (now places) task aim) (length (now best)) (length (now work)) ⌝ }
-    requires { ⌜ Queue (passOf (now rows) (now places) task aim) (now best) (now work) tail ⌝ }
+) -> Outcome
+    requires { ⌜ Running (passOf (now rows) (now places) task aim) (now best) (now work) tail ⌝ }
     requires { ⌜ head < tail ⌝ }
-    ensures { λ r. ⌜ Visited (passOf (now (rows .entry)) (now (places .entry)) task aim) (now (best .entry)) (now (work .entry)) tail head (now (best .exit)) (now (work .exit)) (r .closes) (r .arc) (r .tail) ⌝ }
+    ensures { λ r. ⌜ VisitedAt (passOf (now (rows .entry)) (now (places .entry)) task aim) (now (best .entry)) (now (work .entry)) tail head (now (best .exit)) (now (work .exit)) r ⌝ }
 {
-    if is_greatest(best, work, head) {
-        return expand(rows, places, task, aim, head, best, work, tail);
+    if !is_greatest(best, work, head) {
+        return Outcome {
+            found: false,
+            head,
+            arc: 0,
+            tail,
+        };
     }
-    Trial {
-        closes: false,
+    let entry = entry_at(task.modes, work, head);
+    let last = first_of(places, entry.mode + 1);
+    let mut end = tail;
+    let mut i = first_of(places, entry.mode);
+    while i < last {
+        let outcome = relax(rows, places, task, aim, entry, i, best, work, end);
+        if outcome.found {
+            return outcome;
+        }
+        end = outcome.tail;
+        i += 1;
+    }
+    Outcome {
+        found: false,
+        head,
         arc: 0,
-        tail,
+        tail: end,
     }
 }
 
@@ -279,16 +265,11 @@ pub fn run(
     let mut head = 0;
     let mut tail = 1;
     while head < tail {
-        let trial = visit(rows, places, task, aim, head, best, work, tail);
-        tail = trial.tail;
-        if trial.closes {
-            return Outcome {
-                found: true,
-                head,
-                arc: trial.arc,
-                tail,
-            };
+        let outcome = visit(rows, places, task, aim, head, best, work, tail);
+        if outcome.found {
+            return outcome;
         }
+        tail = outcome.tail;
         head += 1;
     }
     Outcome {

@@ -1,14 +1,13 @@
 // A plan or that there is none: the peaks, the first mode whose peak a cycle keeps, and the prefix and the cycle that are written.
 ghost use mathlib.Core.Path.{_≡_};
 ghost use mathlib.Core.Logic.{_↔_};
-ghost use mathlib.Core.Bool.{true, false};
 ghost use Prim.Native.Nat.{ℕ, _+_, _≤_, _<_};
 ghost use lib.ListN.{length, getD, replicate};
 ghost use Rattle.limits.specs.Ceilings.{planBuffer};
 ghost use Rattle.nets.specs.Table.{KeptCycle};
 ghost use Rattle.nets.specs.Net.{AcceptedLasso};
 ghost use Rattle.passes.specs.Pass.{nodes, room};
-ghost use Rattle.passes.specs.Outcome.{Peak, KeptPeak, Peaked, CyclePassed, FirstKept, PrefixWritten, CycleWritten};
+ghost use Rattle.passes.specs.Outcome.{Peak, Peaked, CyclePassed, FirstKept, PrefixWritten, CycleWritten};
 ghost use Rattle.search.specs.Search.{noPlan};
 ghost use Rattle.search.specs.Tasks.{taskNet, Searchable, Written};
 use crate::Searched;
@@ -27,12 +26,11 @@ const MODES: usize = Limits::MODES as usize;
 
 const NODES: usize = ((Limits::COLOURS as usize) + 1) * MODES;
 
-// What a search is for: the model's numbers (its arcs stay in the lent lists), the credit and the bound.
+// What a search is for: the model's numbers, the credit and the bound. The model's arcs are in the rows, and grouped in the places.
 pub struct Task {
     pub modes: usize,
     pub start: usize,
     pub colours: usize,
-    pub count: usize,
     pub credit: u16,
     pub bound: u16,
 }
@@ -48,12 +46,13 @@ fn find_peaks(
 ) -> usize
     requires { ⌜ Searchable (now rows) (now places) task (length (now work)) ⌝ }
     requires { ⌜ now peaks ≡ replicate (task .modes) 0 ⌝ }
-    ensures { λ r. ⌜ Peaked (taskNet (now (rows .entry)) task) (task .bound) (task .credit) (now (peaks .exit)) (now (work .exit)) r ⌝ }
+    ensures { λ r. ⌜ Peaked (taskNet (now (rows .entry)) (now (places .entry)) task) (task .bound) (task .credit) (now (peaks .exit)) (now (work .exit)) r ⌝ }
 {
+    let least = task.bound + 1;
     let aim = Aim {
         last: 0,
         goal: 0,
-        least: task.bound + 1,
+        least,
     };
     let outcome = pass::run(
         rows,
@@ -80,12 +79,13 @@ fn find_cycle(
 ) -> Outcome
     requires { ⌜ Searchable (now rows) (now places) task (length (now work)) ⌝ }
     requires { ⌜ (mode < task .modes) × (charge ≤ task .bound) ⌝ }
-    ensures { λ r. ⌜ CyclePassed (taskNet (now (rows .entry)) task) (task .bound) mode charge (now (work .exit)) (r .found) (r .head) (r .arc) ⌝ }
+    ensures { λ r. ⌜ CyclePassed (taskNet (now (rows .entry)) (now (places .entry)) task) (task .bound) mode charge (now (work .exit)) (r .found) (r .head) (r .arc) ⌝ }
 {
     let nodes = (task.colours + 1) * task.modes;
+    let goal = task.colours * task.modes + mode;
     let aim = Aim {
         last: task.colours,
-        goal: task.colours * task.modes + mode,
+        goal,
         least: charge,
     };
     let mut best = [0u16; NODES];
@@ -101,28 +101,7 @@ fn find_cycle(
     )
 }
 
-// Whether a mode has a peak, by its word of the table, that a cycle keeps.
-fn is_kept(
-    rows: &[u16; WORDS],
-    places: &[u8; PLACES],
-    task: Task,
-    mode: usize,
-    peak: u16,
-    work: &mut [u16],
-) -> bool
-    requires { ⌜ Searchable (now rows) (now places) task (length (now work)) ⌝ }
-    requires { ⌜ (mode < task .modes) × (peak ≤ task .bound + 1) ⌝ }
-    ensures kept { λ r. ⌜ (r ≡ true → KeptPeak (taskNet (now (rows .entry)) task) (task .bound) mode peak) ⌝ }
-    ensures none { λ r. ⌜ (r ≡ false → KeptPeak (taskNet (now (rows .entry)) task) (task .bound) mode peak → ⊥) ⌝ }
-{
-    if peak == 0 {
-        return false;
-    }
-    let outcome = find_cycle(rows, places, task, mode, peak - 1, work);
-    outcome.found
-}
-
-// The first mode whose peak a cycle keeps; the number of modes where there is none.
+// The first mode whose peak a cycle keeps; the number of modes where there is none. A mode that is not reached has 0 in the table of peaks.
 fn first_kept(
     rows: &[u16; WORDS],
     places: &[u8; PLACES],
@@ -132,12 +111,16 @@ fn first_kept(
 ) -> usize
     requires { ⌜ Searchable (now rows) (now places) task (length (now work)) ⌝ }
     requires { ⌜ (length (now peaks) ≡ task .modes) × ((s : ℕ) → getD (now peaks) s 0 ≤ task .bound + 1) ⌝ }
-    ensures { λ r. ⌜ FirstKept (taskNet (now (rows .entry)) task) (task .bound) (now (peaks .entry)) r ⌝ }
+    ensures { λ r. ⌜ FirstKept (taskNet (now (rows .entry)) (now (places .entry)) task) (task .bound) (now (peaks .entry)) r ⌝ }
 {
     let mut mode = 0;
     while mode < task.modes {
-        if is_kept(rows, places, task, mode, peaks[mode], work) {
-            return mode;
+        let peak = peaks[mode];
+        if peak > 0 {
+            let outcome = find_cycle(rows, places, task, mode, peak - 1, work);
+            if outcome.found {
+                return mode;
+            }
         }
         mode += 1;
     }
@@ -155,9 +138,9 @@ fn write_prefix(
     plan: &mut [u8],
 ) -> usize
     requires { ⌜ Searchable (now rows) (now places) task (length (now work)) ⌝ }
-    requires { ⌜ Peak (taskNet (now rows) task) (task .bound) (task .credit) mode peak ⌝ }
+    requires { ⌜ Peak (taskNet (now rows) (now places) task) (task .bound) (task .credit) mode peak ⌝ }
     requires { ⌜ room (task .modes) (task .bound) ≤ length (now plan) ⌝ }
-    ensures { λ r. ⌜ PrefixWritten (taskNet (now (rows .entry)) task) (task .bound) (task .credit) mode peak (now (plan .entry)) (now (plan .exit)) r ⌝ }
+    ensures { λ r. ⌜ PrefixWritten (taskNet (now (rows .entry)) (now (places .entry)) task) (task .bound) (task .credit) mode peak (now (plan .entry)) (now (plan .exit)) r ⌝ }
 {
     let modes = task.modes;
     let mut peaks = [0u16; MODES];
@@ -176,9 +159,9 @@ fn write_cycle(
     part: &mut [u8],
 ) -> usize
     requires { ⌜ Searchable (now rows) (now places) task (length (now work)) ⌝ }
-    requires { ⌜ (mode < task .modes) × (charge ≤ task .bound) × KeptCycle (taskNet (now rows) task) (task .bound) mode charge ⌝ }
+    requires { ⌜ (mode < task .modes) × (charge ≤ task .bound) × KeptCycle (taskNet (now rows) (now places) task) (task .bound) mode charge ⌝ }
     requires { ⌜ room (nodes (task .modes) (task .colours)) (task .bound) ≤ length (now part) ⌝ }
-    ensures { λ r. ⌜ CycleWritten (taskNet (now (rows .entry)) task) (task .bound) mode charge (now (part .entry)) (now (part .exit)) r ⌝ }
+    ensures { λ r. ⌜ CycleWritten (taskNet (now (rows .entry)) (now (places .entry)) task) (task .bound) mode charge (now (part .entry)) (now (part .exit)) r ⌝ }
 {
     let outcome = find_cycle(rows, places, task, mode, charge, work);
     let last = trace(work, outcome.head, part);
@@ -186,29 +169,8 @@ fn write_cycle(
     last + 1
 }
 
-// Writes a plan: a prefix to a mode with its peak, and straight after it a cycle that keeps the peak.
-fn write_plan(
-    rows: &[u16; WORDS],
-    places: &[u8; PLACES],
-    task: Task,
-    mode: usize,
-    peak: u16,
-    work: &mut [u16],
-    plan: &mut [u8],
-) -> Searched
-    requires { ⌜ Searchable (now rows) (now places) task (length (now work)) ⌝ }
-    requires { ⌜ Peak (taskNet (now rows) task) (task .bound) (task .credit) mode peak ⌝ }
-    requires { ⌜ (peak ≤ task .bound) × KeptCycle (taskNet (now rows) task) (task .bound) mode peak ⌝ }
-    requires { ⌜ planBuffer (task .colours) (task .modes) (task .bound) ≤ length (now plan) ⌝ }
-    ensures { λ r. ⌜ Written (taskNet (now (rows .entry)) task) (task .bound) (task .credit) (now (plan .entry)) (now (plan .exit)) r ⌝ }
-    ensures { λ r. ⌜ (r ≡ noPlan → ⊥) ⌝ }
-{
-    let p = write_prefix(rows, places, task, mode, peak, work, plan);
-    let q = write_cycle(rows, places, task, mode, peak, work, &mut plan[p..]);
-    Searched::Plan(p as u32, q as u32)
-}
-
-// A plan, or that there is none; the working space is left as the passes leave it.
+// A plan, or that there is none: a prefix to the first mode whose peak a cycle keeps, and straight after it that cycle. The working space is
+// left as the passes leave it.
 pub fn decide(
     rows: &[u16; WORDS],
     places: &[u8; PLACES],
@@ -218,8 +180,8 @@ pub fn decide(
 ) -> Searched
     requires { ⌜ Searchable (now rows) (now places) task (length (now work)) ⌝ }
     requires { ⌜ planBuffer (task .colours) (task .modes) (task .bound) ≤ length (now plan) ⌝ }
-    ensures no_plan { λ r. ⌜ (r ≡ noPlan) ↔ (AcceptedLasso (taskNet (now (rows .entry)) task) (task .bound) (task .credit) → ⊥) ⌝ }
-    ensures answered { λ r. ⌜ Written (taskNet (now (rows .entry)) task) (task .bound) (task .credit) (now (plan .entry)) (now (plan .exit)) r ⌝ }
+    ensures no_plan { λ r. ⌜ (r ≡ noPlan) ↔ (AcceptedLasso (taskNet (now (rows .entry)) (now (places .entry)) task) (task .bound) (task .credit) → ⊥) ⌝ }
+    ensures answered { λ r. ⌜ Written (taskNet (now (rows .entry)) (now (places .entry)) task) (task .bound) (task .credit) (now (plan .entry)) (now (plan .exit)) r ⌝ }
 {
     let modes = task.modes;
     let mut peaks = [0u16; MODES];
@@ -228,5 +190,10 @@ pub fn decide(
     if mode == modes {
         return Searched::Refused(Refusal::NoPlan);
     }
-    write_plan(rows, places, task, mode, peaks[mode] - 1, work, plan)
+    let peak = peaks[mode] - 1;
+    let p = write_prefix(rows, places, task, mode, peak, work, plan);
+    let q = write_cycle(rows, places, task, mode, peak, work, &mut plan[p..]);
+    let prefix = p as u32;
+    let cycle = q as u32;
+    Searched::Plan(prefix, cycle)
 }

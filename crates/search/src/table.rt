@@ -5,13 +5,14 @@ ghost use Rattle.limits.specs.Ceilings.{arcsMost};
 ghost use Rattle.groups.specs.Groups.{orderFrom};
 ghost use Rattle.groups.specs.Grouped.{firstPlace, arcPlaced};
 ghost use Rattle.groups.specs.Rows.{targetAt, drawAt, gainAt, coloursAt};
+use crate::entries::index;
 use groups::ORDER;
 use groups::PLACES;
 use groups::ROW;
 use groups::WORDS;
 
-// A byte as an index.
-fn index(x: u8) -> usize
+// A byte as a number.
+fn number(x: u8) -> usize
     ensures { λ r. ⌜ r ≡ x ⌝ }
 {
     x as usize
@@ -22,7 +23,7 @@ pub fn first_of(places: &[u8; PLACES], mode: usize) -> usize
     requires { ⌜ mode < orderFrom ⌝ }
     ensures { λ r. ⌜ r ≡ firstPlace (now (places .entry)) mode ⌝ }
 {
-    index(places[mode])
+    number(places[mode])
 }
 
 // The arc at a place.
@@ -30,14 +31,7 @@ pub fn arc_at(places: &[u8; PLACES], i: usize) -> usize
     requires { ⌜ i < arcsMost ⌝ }
     ensures { λ r. ⌜ r ≡ arcPlaced (now (places .entry)) i ⌝ }
 {
-    index(places[ORDER + i])
-}
-
-// A word as an index.
-fn wide(x: u16) -> usize
-    ensures { λ r. ⌜ r ≡ x ⌝ }
-{
-    x as usize
+    number(places[ORDER + i])
 }
 
 // The mode that an arc enters.
@@ -45,7 +39,7 @@ pub fn target_of(rows: &[u16; WORDS], a: usize) -> usize
     requires { ⌜ a < arcsMost ⌝ }
     ensures { λ r. ⌜ r ≡ targetAt (now (rows .entry)) a ⌝ }
 {
-    wide(rows[ROW * a + 1])
+    index(rows[ROW * a + 1])
 }
 
 // What an arc draws.

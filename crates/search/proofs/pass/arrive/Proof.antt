@@ -10,7 +10,7 @@ closes-requires : tie.Need-closes-requires
 closes-requires c κs = search needs
 
 returns : tie.Need-returns
-returns c = (closed (sym (c .before .closes .ensures) ∙ c .if1 .taken) refl refl refl refl, refl)
+returns c = (closed (sym (c .before .closes .ensures) ∙ c .if1 .taken) refl refl refl refl, (refl, refl))
 
 mul-if2 : tie.Need-mul-if2
 mul-if2 c = search needs
@@ -21,7 +21,7 @@ slice-read-if2 c = search needs
 returns-2 : tie.Need-returns-2
 returns-2 c =
     let k = c .before .before in
-    (knows (sym (k .before .closes .ensures) ∙ k .if1 .left) (search needs) refl refl refl refl, refl)
+    (knows (sym (k .before .closes .ensures) ∙ k .if1 .left) (search needs) refl refl refl refl, (refl, refl))
 
 add-best : tie.Need-add-best
 add-best c = search needs
@@ -44,8 +44,8 @@ cast-push-3 c = search needs
 push-requires : tie.Need-push-requires
 push-requires c κs = c .before .before .before .before .before .before .before .pre .room (search needs)
 
-add-t10 : tie.Need-add-t10
-add-t10 c = omega (arith, c .before .before .before .before .before .before .before .before .before .before .pre .room (search needs))
+add-tail : tie.Need-add-tail
+add-tail c = omega (arith, c .before .before .before .before .before .before .before .before .before .before .pre .room (search needs))
 
 same-length : tie.Need-same-length
 same-length c = search needs
@@ -58,7 +58,7 @@ returns-3 c =
     let k = c .before .before .before .before .before in
     let p = c .before .before in (
       rises (sym (k .before .before .closes .ensures) ∙ k .before .if1 .left) (search needs) refl (p .push .ensures) refl refl,
-      refl,
+      (refl, refl),
     )
 
 pub arrive-spec : {M : Type 1} → statement M
@@ -77,7 +77,7 @@ arrive-spec =
     cast-push-2
     cast-push-3
     push-requires
-    add-t10
+    add-tail
     same-length
     same-length-2
     returns-3)

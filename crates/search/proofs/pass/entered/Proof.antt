@@ -4,8 +4,9 @@ use Prim.Native.Nat.{ℕ, _+_, _*_, _≤_}
 use native.Mathlib.Nat.{mul-le-mul}
 use native.Mathlib.Omega.{arith}
 use Rattle.limits.specs.Ceilings.{modesMost, coloursMost}
-use Rattle.passes.specs.Pass.{node, levelAfter}
-use Rattle.passes.proofs.Queue.{level-after-low}
+use Rattle.passes.specs.Pass.{node}
+use Rattle.search.specs.Tasks.{levelAfter}
+use Rattle.search.proofs.Trying.{level-after-low}
 use borrow.Author.Needs.{needs}
 use Rattle.search.proofs.pass.entered.Statement.{statement}
 use Rattle.search.proofs.pass.entered.Tie as tie

@@ -1,7 +1,7 @@
 -- `pass::next_level` meets its contract: the last level stays, and below it the bit of the colour byte decides. Assumes nothing.
 use native.Mathlib.Omega.{arith}
 use borrow.Author.Tests.{lt-ltb, le-ltb, eq-eqb, ne-eqb}
-use Rattle.passes.specs.Pass.{levelAfter}
+use Rattle.search.specs.Tasks.{levelAfter}
 use borrow.Author.Needs.{needs}
 use Rattle.search.proofs.pass.next_level.Statement.{statement}
 use Rattle.search.proofs.pass.next_level.Tie as tie

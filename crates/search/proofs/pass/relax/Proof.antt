@@ -4,15 +4,10 @@ use Rattle.groups.specs.Grouped.{arcPlaced}
 use Rattle.passes.specs.Pass.{Along}
 use Rattle.passes.specs.Queue.{nodeAt, chargeAt}
 use Rattle.search.specs.Tasks.{passOf}
-use Rattle.search.proofs.Trying.{Trying, Reads, relax-place, relax-arc, relax-target, relax-impossible, relax-along, relax-levels, relax-arrives, relax-arrived}
+use Rattle.search.proofs.Trying.{Reads, relax-place, relax-arc, relax-target, relax-impossible, relax-along, relax-levels, relax-arrives, relax-arrived}
 use borrow.Author.Needs.{needs}
 use Rattle.search.proofs.pass.relax.Statement.{statement}
 use Rattle.search.proofs.pass.relax.Tie as tie
-
-trying : (s : tie.Start)
-    → Trying (s .args .rows .now) (s .args .places .now) (s .args .task) (s .args .aim) (s .args .place) (s .args .best .now) (s .args .work .now)
-    (s .args .tail) (s .args .i)
-trying s = record { ready = s .pre .0; queue = s .pre .1 .0; place = s .pre .1 .1 .0; before = s .pre .1 .1 .1; group = s .pre .1 .1 .2 }
 
 abbrev start : tie.After-arc-at → tie.Start
 start d = d .before .before .before
@@ -33,23 +28,23 @@ step-of d = d .before .before .before .before .before .before
 along : (d : tie.After-entered)
     → let s = start (arc-of (step-of d)) in
     Along (passOf (s .args .rows .now) (s .args .places .now) (s .args .task) (s .args .aim)) (arcPlaced (s .args .places .now) (s .args .i))
-    (nodeAt (s .args .work .now) (s .args .place .index)) (chargeAt (s .args .work .now) (s .args .place .index))
+    (nodeAt (s .args .work .now) (s .args .entry .index)) (chargeAt (s .args .work .now) (s .args .entry .index))
     (d .entered .result) (d .before .before .before .before .step .given .0 .0)
 along d =
     let b = step-of d in
     let colours = d .before .colours-of .ensures in
     let target = d .before .before .target-of .ensures in
-    relax-along (trying (start (arc-of b))) (reads b) (sym (b .bounded-move .ensures) ∙ d .before .before .before .before .step .given .1)
+    relax-along (start (arc-of b) .pre) (reads b) (sym (b .bounded-move .ensures) ∙ d .before .before .before .before .step .given .1)
     colours target (d .entered .ensures)
 
 arc-at-requires : tie.Need-arc-at-requires
-arc-at-requires c κs = relax-place (trying (c .before .before))
+arc-at-requires c κs = relax-place (c .before .before .pre)
 
 draw-of-requires : tie.Need-draw-of-requires
-draw-of-requires c κs = relax-arc (trying (start c)) (c .arc-at .ensures)
+draw-of-requires c κs = relax-arc (start c .pre) (c .arc-at .ensures)
 
 gain-of-requires : tie.Need-gain-of-requires
-gain-of-requires c κs = relax-arc (trying (start (c .before))) (c .before .arc-at .ensures)
+gain-of-requires c κs = relax-arc (start (c .before) .pre) (c .before .arc-at .ensures)
 
 bounded-move-requires : tie.Need-bounded-move-requires
 bounded-move-requires c κs = search needs
@@ -58,15 +53,15 @@ enum-known-step : tie.Need-enum-known-step
 enum-known-step c = search needs
 
 target-of-requires : tie.Need-target-of-requires
-target-of-requires c κs = let b = arc-of (c .before .before .before) in relax-arc (trying (start b)) (b .arc-at .ensures)
+target-of-requires c κs = let b = arc-of (c .before .before .before) in relax-arc (start b .pre) (b .arc-at .ensures)
 
 colours-of-requires : tie.Need-colours-of-requires
-colours-of-requires c κs = let b = arc-of (c .before .before .before .before) in relax-arc (trying (start b)) (b .arc-at .ensures)
+colours-of-requires c κs = let b = arc-of (c .before .before .before .before) in relax-arc (start b .pre) (b .arc-at .ensures)
 
 entered-requires : tie.Need-entered-requires
 entered-requires c κs =
     let b = arc-of (c .before .before .before .before .before) in
-    let f = trying (start b) in
+    let f = start b .pre in
     let low = relax-levels f in
     (low .0, low .1, low .2, relax-target f (b .arc-at .ensures) (c .before .target-of .ensures))
 
@@ -74,7 +69,7 @@ arrive-requires : tie.Need-arrive-requires
 arrive-requires c κs =
     let d = c .before .before in
     let b = arc-of (step-of d) in
-    relax-arrives (trying (start b)) (b .arc-at .ensures) (along d)
+    relax-arrives (start b .pre) (b .arc-at .ensures) (along d)
 
 enum-told : tie.Need-enum-told
 enum-told c = search needs
@@ -90,12 +85,12 @@ returns c =
     let r = c .before .before .before .before .arrive in
     let d = c .before .before .before .before .before .before .before in
     let b = arc-of (step-of d) in
-    relax-arrived (trying (start b)) (b .arc-at .ensures) (along d) (r .ensures .0) (r .ensures .1)
+    relax-arrived (start b .pre) (b .arc-at .ensures) (along d) (r .ensures .0) (r .ensures .1)
 
 returns-2 : tie.Need-returns-2
 returns-2 c =
     let b = c .before .before in
-    relax-impossible (trying (start (arc-of b))) (reads b) (sym (b .bounded-move .ensures) ∙ c .enum-told .given .1)
+    relax-impossible (start (arc-of b) .pre) (reads b) (sym (b .bounded-move .ensures) ∙ c .enum-told .given .1)
 
 pub relax-spec : {M : Type 1} → statement M
 relax-spec =

@@ -1,51 +1,219 @@
--- `pass::visit` meets its contract. Assumes nothing.
-use mathlib.Core.Path.{sym, _∙_}
+-- `pass::visit` meets its contract: at every turn the places of the entry's mode below i are tried; an entry whose charge is not the greatest
+-- of its node asks nothing. Assumes nothing.
+use mathlib.Core.Path.{_≡_, refl, sym, ap, _∙_}
+use mathlib.Core.Bool.{false}
+use Prim.Native.Nat.{ℕ, _+_, _-_, _%_, _≤_, _<_}
+use native.Mathlib.Nat.{mod-lt}
 use native.Mathlib.Omega.{arith}
+use Rattle.groups.specs.Grouped.{firstPlace, PlaceOf}
+use Rattle.passes.specs.Pass.{Pass}
+use Rattle.passes.specs.Queue.{nodeAt, chargeAt, Tried}
+use Rattle.search.specs.declared.pass.Entry.{Entry}
+use Rattle.search.specs.Tasks.{passOf}
+use Rattle.passes.proofs.Queue.{entry-low, entry-space, ready-kept}
+use Rattle.passes.proofs.Passes.{tried-none, tried-free, tried-closed, tried-less, visited-tried, visited-stale}
+use Rattle.search.proofs.Trying.{entry-later, tried-next}
 use borrow.Author.Needs.{needs}
-use borrow.Author.Tests.{eqb-false}
-use Rattle.passes.proofs.Queue.{entry-low, entry-space}
-use Rattle.passes.proofs.Passes.{visited-stale}
+use borrow.Author.Tests.{eqb-false, not-true}
 use Rattle.search.proofs.pass.visit.Statement.{statement}
 use Rattle.search.proofs.pass.visit.Tie as tie
 
-is-greatest-requires : tie.Need-is-greatest-requires
+abbrev Inv-loop : tie.InvT-loop
+Inv-loop rows places task aim head best₀ work₀ tail entry last end₀ i₀ best work end i =
+    (firstPlace places (nodeAt work₀ head % task .modes) ≤ i)
+    × Tried (passOf rows places task aim) best₀ work₀ tail (firstPlace places (nodeAt work₀ head % task .modes)) i (nodeAt work₀ head)
+    (chargeAt work₀ head) best work false 0 end
+
+abbrev μ-loop : tie.MeasureT-loop
+μ-loop rows places task aim head best₀ work₀ tail entry last end₀ i₀ best work end i = last - i
+
+abbrev pass-of : tie.Start Inv-loop μ-loop → Pass
+pass-of s = passOf (s .args .rows .now) (s .args .places .now) (s .args .task) (s .args .aim)
+
+-- the mode of the entry
+abbrev mode-of : tie.Start Inv-loop μ-loop → ℕ
+mode-of s = nodeAt (s .args .work .now) (s .args .head) % s .args .task .modes
+
+-- from the test of the entry, and from the entry, to the beginning; from the loop to the entry, and from an arc to the loop
+abbrev tested-start : tie.After-is-greatest Inv-loop μ-loop → tie.Start Inv-loop μ-loop
+tested-start d = d .before .before .before .before .before
+
+abbrev start : tie.After-entry-at Inv-loop μ-loop → tie.Start Inv-loop μ-loop
+start d = tested-start (d .before .before .before)
+
+abbrev at-entry : tie.At-loop Inv-loop μ-loop → tie.After-entry-at Inv-loop μ-loop
+at-entry l = l .before .before .before .before
+
+abbrev at-loop : tie.After-relax Inv-loop μ-loop → tie.At-loop Inv-loop μ-loop
+at-loop d = d .before .before .before .before
+
+abbrev closing : tie.Then2 Inv-loop μ-loop → tie.After-relax Inv-loop μ-loop
+closing c = c .before .before .before .before .before
+
+abbrev going-on : tie.Else2 Inv-loop μ-loop → tie.After-relax Inv-loop μ-loop
+going-on c = c .before .before .before .before .before
+
+mode-same : (d : tie.After-entry-at Inv-loop μ-loop) → d .entry-at .result .mode ≡ mode-of (start d)
+mode-same d = ap {B = ℕ} (λ (h : Entry). h .mode) (d .entry-at .ensures)
+
+mode-low : (d : tie.After-entry-at Inv-loop μ-loop) → d .entry-at .result .mode < start d .args .task .modes
+mode-low d =
+    omega (arith, mode-same d, mod-lt (nodeAt (start d .args .work .now) (start d .args .head)) (start d .pre .0 .ready .some-mode))
+
+-- what trying the arc gives, with those before it
+abbrev More : tie.After-relax Inv-loop μ-loop → Type 0
+More d =
+    let l = at-loop d in
+    let s = start (at-entry l) in
+    Tried (pass-of s) (s .args .best .now) (s .args .work .now) (s .args .tail) (firstPlace (s .args .places .now) (mode-of s)) (l .loop .i + 1)
+    (nodeAt (s .args .work .now) (s .args .head)) (chargeAt (s .args .work .now) (s .args .head))
+    (d .relax .last .1 .1 .1 .1 .1 .1 .0) (d .relax .last .1 .1 .1 .1 .1 .1 .1 .0)
+    (d .relax .result .found) (d .relax .result .arc) (d .relax .result .tail)
+
+index-same : (d : tie.After-entry-at Inv-loop μ-loop) → d .entry-at .result .index ≡ start d .args .head
+index-same d = ap {B = ℕ} (λ (h : Entry). h .index) (d .entry-at .ensures)
+
+more : (d : tie.After-relax Inv-loop μ-loop) → More d
+more d =
+    let l = at-loop d in
+    let q = at-entry l in
+    tried-next (q .entry-at .result .index) (start q .args .head) (l .loop .inv .1) (start q .pre .1) (index-same q) (d .relax .ensures .tried)
+
+is-greatest-requires : tie.Need-is-greatest-requires Inv-loop μ-loop
 is-greatest-requires c κs =
     let s = c .before .before .before .before in
-    let low = entry-low (s .args .head) (s .pre .1 .0) (s .pre .1 .1) in
-    (entry-space (s .args .head) (s .pre .0) (s .pre .1 .0) (s .pre .1 .1) .0, low .0, omega (arith, low .1, s .pre .0 .low))
+    let running = s .pre .0 in
+    let low = entry-low (s .args .head) (running .queue) (s .pre .1) in (
+      entry-space (s .args .head) (running .ready) (running .queue) (s .pre .1) .0,
+      low .0,
+      omega (arith, low .1, running .ready .low),
+    )
 
-expand-requires : tie.Need-expand-requires
-expand-requires c κs = search needs
-
-same-length : tie.Need-same-length
+same-length : tie.Need-same-length Inv-loop μ-loop
 same-length c = search needs
 
-same-length-2 : tie.Need-same-length-2
+same-length-2 : tie.Need-same-length-2 Inv-loop μ-loop
 same-length-2 c = search needs
 
-returns : tie.Need-returns
-returns c = c .before .before .before .before .expand .ensures
+returns : tie.Need-returns Inv-loop μ-loop
+returns c =
+    let d = c .before in
+    let s = tested-start d in
+    record {
+      visited = visited-stale 0 (s .pre .0 .queue) (eqb-false _ _ (sym (d .is-greatest .ensures) ∙ not-true _ (c .if1 .taken)));
+      entry = refl;
+    }
 
-same-length-3 : tie.Need-same-length-3
-same-length-3 c = search needs
+entry-at-requires : tie.Need-entry-at-requires Inv-loop μ-loop
+entry-at-requires c κs =
+    let s = tested-start (c .before .before) in
+    let running = s .pre .0 in (
+      running .ready .some-mode,
+      running .ready .few-modes,
+      entry-space (s .args .head) (running .ready) (running .queue) (s .pre .1) .0,
+    )
 
-same-length-4 : tie.Need-same-length-4
-same-length-4 c = search needs
+add-first-of : tie.Need-add-first-of Inv-loop μ-loop
+add-first-of c = let d = c .before in omega (arith, mode-low d, start d .pre .0 .ready .few-modes)
 
-returns-2 : tie.Need-returns-2
+first-of-requires : tie.Need-first-of-requires Inv-loop μ-loop
+first-of-requires c κs = let d = c .before in omega (arith, mode-low d, start d .pre .0 .ready .few-modes)
+
+first-of-requires-2 : tie.Need-first-of-requires-2 Inv-loop μ-loop
+first-of-requires-2 c κs = let d = c .before .before in omega (arith, mode-low d, start d .pre .0 .ready .few-modes)
+
+loop-holds : tie.Need-loop-holds Inv-loop μ-loop
+loop-holds c =
+    let d = c .before .before .before in
+    let s = start d in
+    let e : c .first-of2 .result ≡ firstPlace (s .args .places .now) (mode-of s) =
+    c .first-of2 .ensures ∙ ap {B = ℕ} (firstPlace (s .args .places .now)) (mode-same d) in
+    rw e (omega arith, tried-none (firstPlace (s .args .places .now) (mode-of s)) _ _ 0 (s .pre .0 .queue))
+
+relax-requires : tie.Need-relax-requires Inv-loop μ-loop
+relax-requires c κs =
+    let l = c .before .before .before in
+    let q = at-entry l in
+    let s = start q in
+    let g = l .loop .inv .1 .grown in
+    let from = ap {B = ℕ} (firstPlace (s .args .places .now)) (mode-same q) in
+    record {
+      running = record { ready = ready-kept (s .pre .0 .ready) (g .best-size) (g .size); queue = l .loop .inv .1 .queue };
+      entry = entry-later (s .args .task .modes) g (s .pre .1) (q .entry-at .ensures);
+      before = omega (arith, index-same q, g .more, s .pre .1);
+      group =
+          record {
+            from = omega (arith, from, l .loop .inv .0);
+            below = omega (arith, l .before .before .first-of .ensures, c .before .before .loop-test .taken);
+          };
+    }
+
+same-length-3 : tie.Need-same-length-3 Inv-loop μ-loop
+same-length-3 c = more (closing c) .grown .best-size
+
+same-length-4 : tie.Need-same-length-4 Inv-loop μ-loop
+same-length-4 c = more (closing c) .grown .size
+
+returns-2 : tie.Need-returns-2 Inv-loop μ-loop
 returns-2 c =
-    let s = c .before .before .before .before .before .before in
-    visited-stale 0 (s .pre .1 .0) (eqb-false _ _ (sym (c .before .is-greatest .ensures) ∙ c .if1 .left))
+    let d = closing c in
+    let q = at-entry (at-loop d) in
+    record {
+      visited = visited-tried (start q .pre .0 .ready) (tried-closed _ (c .if2 .taken) (more d));
+      entry = d .relax .ensures .entry ∙ index-same q;
+    }
+
+add-i : tie.Need-add-i Inv-loop μ-loop
+add-i c = search needs
+
+loop-less : tie.Need-loop-less Inv-loop μ-loop
+loop-less c = search needs
+
+loop-again : tie.Need-loop-again Inv-loop μ-loop
+loop-again c =
+    let d = going-on c in
+    (omega (arith, at-loop d .loop .inv .0), tried-free 0 (c .if2 .left) (more d))
+
+same-length-5 : tie.Need-same-length-5 Inv-loop μ-loop
+same-length-5 c = c .before .loop .inv .1 .grown .best-size
+
+same-length-6 : tie.Need-same-length-6 Inv-loop μ-loop
+same-length-6 c = c .before .loop .inv .1 .grown .size
+
+returns-3 : tie.Need-returns-3 Inv-loop μ-loop
+returns-3 c =
+    let l = c .before in
+    let q = at-entry l in
+    let s = start q in
+    let end : l .before .before .first-of .result ≡ firstPlace (s .args .places .now) (mode-of s + 1) =
+    l .before .before .first-of .ensures ∙ ap {B = ℕ} (λ m. firstPlace (s .args .places .now) (m + 1)) (mode-same q) in
+    record {
+      visited = visited-tried (s .pre .0 .ready) (tried-free _ refl (tried-less (omega (arith, end, c .loop-test .left)) (l .loop .inv .1)));
+      entry = refl;
+    }
 
 pub visit-spec : {M : Type 1} → statement M
 visit-spec =
     tie.close
     (tie.spec
+    Inv-loop
+    μ-loop
     is-greatest-requires
-    expand-requires
     same-length
     same-length-2
     returns
+    entry-at-requires
+    add-first-of
+    first-of-requires
+    first-of-requires-2
+    loop-holds
+    relax-requires
     same-length-3
     same-length-4
-    returns-2)
+    returns-2
+    add-i
+    loop-less
+    loop-again
+    same-length-5
+    same-length-6
+    returns-3)

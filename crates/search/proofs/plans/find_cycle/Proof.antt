@@ -14,11 +14,11 @@ add-nodes c = search needs
 mul-nodes : tie.Need-mul-nodes
 mul-nodes c = search needs
 
-mul-t10 : tie.Need-mul-t10
-mul-t10 c = search needs
+mul-goal : tie.Need-mul-goal
+mul-goal c = search needs
 
-add-t11 : tie.Need-add-t11
-add-t11 c = search needs
+add-goal : tie.Need-add-goal
+add-goal c = search needs
 
 array-borrow-prefix-best : tie.Need-array-borrow-prefix-best
 array-borrow-prefix-best c = nodes-few (c .before .before .before .before .pre .0)
@@ -50,8 +50,8 @@ find-cycle-spec =
     (tie.spec
     add-nodes
     mul-nodes
-    mul-t10
-    add-t11
+    mul-goal
+    add-goal
     array-borrow-prefix-best
     slice-aggregate-run
     run-requires

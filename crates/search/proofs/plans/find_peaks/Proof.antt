@@ -7,8 +7,8 @@ use Rattle.search.proofs.Tasks.{pass-asked, peaks-left}
 use Rattle.search.proofs.plans.find_peaks.Statement.{statement}
 use Rattle.search.proofs.plans.find_peaks.Tie as tie
 
-add-t8 : tie.Need-add-t8
-add-t8 c = search needs
+add-least : tie.Need-add-least
+add-least c = search needs
 
 run-requires : tie.Need-run-requires
 run-requires c κs =
@@ -30,4 +30,4 @@ returns c =
     peaks-left (s .pre .0) (s .pre .1) (q .0) (q .1 .0) (k .ensures)
 
 pub find-peaks-spec : {M : Type 1} → statement M
-find-peaks-spec = tie.close (tie.spec add-t8 run-requires same-length same-length-2 returns)
+find-peaks-spec = tie.close (tie.spec add-least run-requires same-length same-length-2 returns)
