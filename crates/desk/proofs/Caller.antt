@@ -5,6 +5,7 @@ use mathlib.Core.Logic.{_↔_, _⊎_, inl, inr}
 use Prim.Native.Nat.{ℕ, _+_}
 use native.Mathlib.Omega.{arith}
 use lib.ListN.{length, take, replicate}
+use Rattle.refusals.specs.declared.Answer.{Answer}
 use Rattle.refusals.specs.declared.Refusal.{Refusal}
 use Rattle.refusals.specs.declared.Verdict.{Verdict}
 use Rattle.refusals.specs.declared.Verdict.the-variants.{Yes, Refused}
@@ -18,6 +19,7 @@ use Rattle.search.specs.declared.Searched.{Searched}
 use Rattle.search.specs.declared.Searched.the-variants as outcome
 use Rattle.search.specs.Search.{searchAnswer, searchable, Found, Answered, none, found, SearchOf}
 use Rattle.search.proofs.Demand3.{answered-found, plan-searchable, search-judged, search-ten}
+use Rattle.search.proofs.Agreed.{search-agrees, agreed-answer}
 use Rattle.desk.specs.Packing.{judgeAnswer, numberIn, detailIn, prefixIn, cycleIn}
 use Rattle.desk.specs.Desk.{deskJudged, DeskSearched}
 use Rattle.desk.proofs.Details.{refusal-number}
@@ -104,3 +106,15 @@ module _ {n s k : ℕ} {l : Lists} {b c : ℕ} {work plan work′ plan′ : List
     -- after 10 the plan buffer is untouched
     pub desk-none : numberIn r ≡ 10 → plan′ ≡ plan
     desk-none ten = answered-kept (h .claim .decided through .answered) (sym (desk-search-parts .number) ∙ ten)
+
+-- two words for one call have the same number and detail, whatever stands in the buffers
+pub desk-agrees : {n s k : ℕ} {l : Lists} {b c : ℕ} {work plan work′ plan′ work₂ plan₂ work₂′ plan₂′ : List ℕ} {r r₂ : ℕ}
+    → length work₂ ≡ length work → length plan₂ ≡ length plan → DeskSearched n s k l b c work plan work′ plan′ r
+    → DeskSearched n s k l b c work₂ plan₂ work₂′ plan₂′ r₂ → (numberIn r ≡ numberIn r₂) × (detailIn r ≡ detailIn r₂)
+desk-agrees {n} {s} {k} {l} {b} {c} ew ep h h₂ =
+    let one = desk-search-parts h in
+    let two = desk-search-parts h₂ in
+    let same = agreed-answer (search-agrees n s k l b c ew ep (h .claim) (h₂ .claim)) in (
+      one .number ∙ ap {B = ℕ} (λ (x : Answer). x .number) same ∙ sym (two .number),
+      one .detail ∙ ap {B = ℕ} (λ (x : Answer). x .detail) same ∙ sym (two .detail),
+    )
