@@ -46,6 +46,13 @@ module _ (n s k : ℕ) (l : Lists) (y : Fitted) (told : y ≡ fittedOf n s k l) 
       told-checked b c words bytes (Refused x)
       (and-then-stop (fitness n s k l) (levelsAndSpaces n k b c words bytes) x (told-verdict n s k l y told (Refused x) e))
 
+-- from the model's check to the beginning, and the lists
+abbrev start : tie.After-check-model → tie.Start
+start r = r .before .before .before .before
+
+abbrev lists-of : tie.Start → Lists
+lists-of s = lists (s .args .sources .now) (s .args .targets .now) (s .args .weights .now) (s .args .colours .now)
+
 check-model-requires : tie.Need-check-model-requires
 check-model-requires c κs = search needs
 
@@ -55,9 +62,8 @@ enum-told c = search needs
 check-levels-and-spaces-requires : tie.Need-check-levels-and-spaces-requires
 check-levels-and-spaces-requires c κs =
     let r = c .before .before .before in
-    let a = r .before .before .before .before .args in
-    let l = lists (a .sources .now) (a .targets .now) (a .weights .now) (a .colours .now) in
-    few (a .n) (a .start) (a .k) l _ (r .check-model .ensures) (c .enum-told .given .1)
+    let a = start r .args in
+    few (a .n) (a .start) (a .k) (lists-of (start r)) _ (r .check-model .ensures) (c .enum-told .given .1)
 
 enum-known-verdict : tie.Need-enum-known-verdict
 enum-known-verdict c = search needs
@@ -65,16 +71,16 @@ enum-known-verdict c = search needs
 returns : tie.Need-returns
 returns c =
     let r = c .before .before .before .before in
-    let a = r .before .before .before .before .args in
-    let l = lists (a .sources .now) (a .targets .now) (a .weights .now) (a .colours .now) in
+    let a = start r .args in
+    let l = lists-of (start r) in
     fits (a .n) (a .start) (a .k) l _ (r .check-model .ensures) (c .before .enum-told .given .1) (a .b) (a .c) (a .words) (a .bytes) _
     (c .check-levels-and-spaces .ensures)
 
 returns-2 : tie.Need-returns-2
 returns-2 c =
     let r = c .before .before .before .before in
-    let a = r .before .before .before .before .args in
-    let l = lists (a .sources .now) (a .targets .now) (a .weights .now) (a .colours .now) in
+    let a = start r .args in
+    let l = lists-of (start r) in
     stopped (a .n) (a .start) (a .k) l _ (r .check-model .ensures) _ (c .before .verdict .given .1) (a .b) (a .c) (a .words) (a .bytes)
 
 pub check-search-spec : {M : Type 1} → statement M

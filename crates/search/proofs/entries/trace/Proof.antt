@@ -12,6 +12,10 @@ Inv-loop work i plan₀ steps j₀ at₀ plan j at = Tracing work i steps plan�
 abbrev μ-loop : tie.MeasureT-loop
 μ-loop work i plan₀ steps j₀ at₀ plan j at = j
 
+-- from the loop to the beginning
+abbrev start : tie.At-loop Inv-loop μ-loop → tie.Start Inv-loop μ-loop
+start l = l .before .before .before .before
+
 steps-fit : (c : tie.After-depth Inv-loop μ-loop) → c .depth .result ≤ length (c .before .before .before .args .plan .now)
 steps-fit c =
     let s = c .before .before .before in
@@ -28,7 +32,7 @@ sub-at c = tracing-some (c .before .loop .inv) (c .loop-test .taken)
 
 arc-of-requires : tie.Need-arc-of-requires Inv-loop μ-loop
 arc-of-requires c κs =
-    let s = c .before .before .before .before .before in
+    let s = start (c .before) in
     let l = c .before .loop in
     (omega (arith, s .pre .0 .space, l .inv .inside), s .pre .0 .byte (l .entry) (c .loop-test .taken) (l .inv .inside))
 
@@ -40,19 +44,19 @@ slice-write-plan c =
 
 parent-of-requires : tie.Need-parent-of-requires Inv-loop μ-loop
 parent-of-requires c κs =
-    let s = c .before .before .before .before .before .before in
-    omega (arith, s .pre .0 .space, c .before .before .loop .inv .inside)
+    let l = c .before .before in
+    omega (arith, start l .pre .0 .space, l .loop .inv .inside)
 
 loop-less : tie.Need-loop-less Inv-loop μ-loop
 loop-less c =
-    let s = c .before .before .before .before .before .before .before in
     let l = c .before .before .before .loop in
+    let s = start (c .before .before .before) in
     omega (arith, c .parent-of .ensures, s .pre .0 .back (l .entry) (c .before .before .loop-test .taken) (l .inv .inside))
 
 loop-again : tie.Need-loop-again Inv-loop μ-loop
 loop-again c =
-    let s = c .before .before .before .before .before .before .before in
-    tracing-more _ _ (s .pre .0) (steps-fit (c .before .before .before .before)) (c .before .before .before .loop .inv)
+    let l = c .before .before .before in
+    tracing-more _ _ (start l .pre .0) (steps-fit (l .before)) (l .loop .inv)
     (c .before .before .loop-test .taken) (c .before .arc-of .ensures) (c .parent-of .ensures)
 
 same-length : tie.Need-same-length Inv-loop μ-loop
@@ -60,8 +64,8 @@ same-length c = c .before .loop .inv .size
 
 returns : tie.Need-returns Inv-loop μ-loop
 returns c =
-    let s = c .before .before .before .before .before in
-    tracing-all (s .pre .0) (c .before .before .depth .ensures) (c .before .loop .inv) (c .loop-test .left)
+    let l = c .before in
+    tracing-all (start l .pre .0) (l .before .depth .ensures) (l .loop .inv) (c .loop-test .left)
 
 pub trace-spec : {M : Type 1} → statement M
 trace-spec =

@@ -6,6 +6,13 @@ use Rattle.passes.specs.Queue.{closed, knows, rises}
 use Rattle.search.proofs.pass.arrive.Statement.{statement}
 use Rattle.search.proofs.pass.arrive.Tie as tie
 
+-- from where the table is too low, and from where the entry is pushed, to the beginning
+abbrev start : tie.Else2 → tie.Start
+start e = e .before .before .before .before .before .before
+
+abbrev asked : tie.After-push-arg → tie.Start
+asked c = start (c .before)
+
 closes-requires : tie.Need-closes-requires
 closes-requires c κs = search needs
 
@@ -42,10 +49,10 @@ cast-push-3 : tie.Need-cast-push-3
 cast-push-3 c = search needs
 
 push-requires : tie.Need-push-requires
-push-requires c κs = c .before .before .before .before .before .before .before .pre .room (search needs)
+push-requires c κs = asked c .pre .room (search needs)
 
 add-tail : tie.Need-add-tail
-add-tail c = omega (arith, c .before .before .before .before .before .before .before .before .before .before .pre .room (search needs))
+add-tail c = omega (arith, asked (c .before .before .before) .pre .room (search needs))
 
 same-length : tie.Need-same-length
 same-length c = search needs

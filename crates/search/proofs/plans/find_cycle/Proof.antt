@@ -8,6 +8,13 @@ use Rattle.search.proofs.Tasks.{pass-asked, cycle-left, nodes-few, tabl
 use Rattle.search.proofs.plans.find_cycle.Statement.{statement}
 use Rattle.search.proofs.plans.find_cycle.Tie as tie
 
+-- from the lent part of the table, and from the pass, to the beginning
+abbrev lent : tie.After-best → tie.Start
+lent d = d .before .before .before .before .before
+
+abbrev start : tie.After-run → tie.Start
+start d = lent (d .before .before)
+
 add-nodes : tie.Need-add-nodes
 add-nodes c = search needs
 
@@ -25,12 +32,11 @@ array-borrow-prefix-best c = nodes-few (c .before .before .before .before .pre .
 
 slice-aggregate-run : tie.Need-slice-aggregate-run
 slice-aggregate-run c =
-    let s = c .before .before .before .before .before in
-    simp length-take (omega (arith, nodes-few (s .pre .0)))
+    simp length-take (omega (arith, nodes-few (lent c .pre .0)))
 
 run-requires : tie.Need-run-requires
 run-requires c κs =
-    let s = c .before .before .before .before .before .before in
+    let s = lent (c .before) in
     pass-asked (s .pre .0) (omega arith) refl (table-blank (s .pre .0)) (s .pre .1 .0) (s .pre .1 .1)
 
 same-length : tie.Need-same-length
@@ -39,10 +45,10 @@ same-length c = search needs
 returns : tie.Need-returns
 unfolding node
 returns c =
-    let s = c .before .before .before .before .before .before .before .before .before .before in
-    let k = c .before .before .before .run in
-    let q = k .kept .1 .1 .1 .1 .1 .1 in
-    cycle-left (s .pre .0) (s .pre .1 .0) (table-blank (s .pre .0)) (q .0) (q .1 .0) (k .ensures)
+    let d = c .before .before .before in
+    let s = start d in
+    let q = d .run .kept .1 .1 .1 .1 .1 .1 in
+    cycle-left (s .pre .0) (s .pre .1 .0) (table-blank (s .pre .0)) (q .0) (q .1 .0) (d .run .ensures)
 
 pub find-cycle-spec : {M : Type 1} → statement M
 find-cycle-spec =

@@ -8,6 +8,13 @@ use Rattle.search.proofs.Peaks.{lent-words, lent-zeros}
 use Rattle.search.proofs.plans.write_prefix.Statement.{statement}
 use Rattle.search.proofs.plans.write_prefix.Tie as tie
 
+-- from the pass to the beginning, and from the entry to the pass
+abbrev start : tie.After-find-peaks → tie.Start
+start f = f .before .before .before .before .before
+
+abbrev pass-of : tie.After-entry-of → tie.After-find-peaks
+pass-of e = e .before .before .before .before .before
+
 array-borrow-prefix-peaks : tie.Need-array-borrow-prefix-peaks
 array-borrow-prefix-peaks c = search needs
 
@@ -21,7 +28,7 @@ entry-of-requires : tie.Need-entry-of-requires
 entry-of-requires c κs =
     let d = c .before .before .before .before in
     let f = d .find-peaks in
-    let s = d .before .before .before .before .before in
+    let s = start d in
     let t = s .args .task in
     let size = f .kept .1 .1 .1 .1 .0 in (
       peak-entry (f .ensures) (s .pre .1 .0),
@@ -30,11 +37,11 @@ entry-of-requires c κs =
 
 trace-requires : tie.Need-trace-requires
 trace-requires c κs =
-    let d = c .before .before .before .before .before .before in
-    let f = d .find-peaks in
-    let s = d .before .before .before .before .before in
-    let e = c .before .entry-of in
-    (f .ensures .linked (e .result) (e .ensures .0), omega (arith, e .ensures .0, f .ensures .few, s .pre .1 .1))
+    let e = c .before in
+    let d = pass-of e in
+    let peaked = d .find-peaks .ensures in
+    let here = e .entry-of in
+    (peaked .linked (here .result) (here .ensures .0), omega (arith, here .ensures .0, peaked .few, start d .pre .1 .1))
 
 same-length : tie.Need-same-length
 same-length c = search needs
@@ -44,9 +51,10 @@ same-length-2 c = search needs
 
 returns : tie.Need-returns
 returns c =
-    let e = c .before .before .before .before .entry-of in
-    let f = c .before .before .before .before .before .before .before .before .before .find-peaks in
-    prefix-written (f .ensures) (e .ensures .0) (e .ensures .1) (e .ensures .2) (c .before .before .trace .ensures)
+    let t = c .before .before in
+    let e = t .before .before in
+    let here = e .entry-of .ensures in
+    prefix-written (pass-of e .find-peaks .ensures) (here .0) (here .1) (here .2) (t .trace .ensures)
 
 pub write-prefix-spec : {M : Type 1} → statement M
 write-prefix-spec =
