@@ -1,6 +1,6 @@
 /*
- * Search and judging in C, to compare the library with: the same checks, passes and scans in the same order, so that answers and plans
- * are equal. The entries are REFERENCE_search and REFERENCE_judge, where the build names REFERENCE.
+ * Search and judging in C, to compare the library with: the same checks, passes and scans in the same order, the arcs grouped by source, so
+ * that answers and plans are equal. The entries are REFERENCE_search and REFERENCE_judge, where the build names REFERENCE.
  */
 #include <stdbool.h>
 #include <stddef.h>
@@ -29,18 +29,33 @@ struct model {
     int32_t credit;
 };
 
+/* An arc as a pass reads it, with its number. */
+struct row {
+    int16_t weight;
+    uint8_t target;
+    uint8_t colours;
+    uint8_t arc;
+};
+
+/* The arcs sorted by source, equal sources in their given order: the rows of mode s stand from first[s] up to first[s + 1]. */
+struct groups {
+    uint8_t first[CHARGEPLAN_MODES_MOST + 1];
+    struct row rows[CHARGEPLAN_ARCS_MOST];
+};
+
 /* An entry of the queue in the working space: its words. */
 enum { NODE, CHARGE, PARENT, ARC, ENTRY_WORDS };
 
 /* A pass over the levels 0 to last; a node is a level and a mode. It stops at the node goal with the charge least or more. */
 struct pass {
+    struct groups groups;
     uint32_t last;
     uint32_t goal;
     int32_t least;
     uint16_t best[NODES_MOST]; /* the greatest charge of each node plus 1, 0 for none */
     uint16_t *queue;
     size_t head; /* the entry at which it stopped */
-    size_t arc;  /* the arc by which it stopped */
+    uint8_t arc; /* the arc by which it stopped */
     size_t tail; /* the number of entries */
 };
 
@@ -98,13 +113,27 @@ static uint64_t check_spaces(uint32_t n, uint32_t k, uint32_t b, size_t work_len
     return CHARGEPLAN_YES;
 }
 
-static void push(struct pass *pass, uint32_t node, int32_t charge, size_t parent, size_t arc)
+/* A counting sort by source. */
+static void group(const struct model *m, struct groups *groups)
+{
+    uint8_t next[CHARGEPLAN_MODES_MOST + 1] = {0}; /* the next place of each mode */
+
+    for (size_t a = 0; a < m->arcs; a++)
+        next[m->sources[a] + 1]++;
+    for (size_t s = 0; s < m->modes; s++)
+        next[s + 1] = (uint8_t)(next[s + 1] + next[s]);
+    memcpy(groups->first, next, sizeof next);
+    for (size_t a = 0; a < m->arcs; a++)
+        groups->rows[next[m->sources[a]]++] = (struct row){m->weights[a], m->targets[a], m->colours[a], (uint8_t)a};
+}
+
+static void push(struct pass *pass, uint32_t node, int32_t charge, size_t parent, uint8_t arc)
 {
     uint16_t *entry = pass->queue + ENTRY_WORDS * pass->tail;
     entry[NODE] = (uint16_t)node;
     entry[CHARGE] = (uint16_t)charge;
     entry[PARENT] = (uint16_t)parent;
-    entry[ARC] = (uint16_t)arc;
+    entry[ARC] = arc;
     pass->best[node] = (uint16_t)(charge + 1);
     pass->tail++;
 }
@@ -115,28 +144,28 @@ static uint32_t next_level(uint32_t level, uint32_t last, uint32_t colours)
     return level < last ? level + (colours >> level & 1) : level;
 }
 
-/* Tries every arc at an entry. Returns true where one stops the pass. */
+/* Tries every arc that leaves the mode of an entry. Returns true where one stops the pass. */
 static bool expand(const struct model *m, struct pass *pass, size_t head)
 {
     const uint16_t *entry = pass->queue + ENTRY_WORDS * head;
     uint32_t level = entry[NODE] / m->modes;
     uint32_t mode = entry[NODE] % m->modes;
     int32_t from = entry[CHARGE];
+    const struct row *row = pass->groups.rows + pass->groups.first[mode];
+    const struct row *end = pass->groups.rows + pass->groups.first[mode + 1];
 
-    for (size_t a = 0; a < m->arcs; a++) {
-        if (m->sources[a] != mode)
-            continue;
-        int32_t charge = step(from, m->weights[a], m->bound);
+    for (; row < end; row++) {
+        int32_t charge = step(from, row->weight, m->bound);
         if (charge < 0)
             continue;
-        uint32_t node = next_level(level, pass->last, m->colours[a]) * m->modes + m->targets[a];
+        uint32_t node = next_level(level, pass->last, row->colours) * m->modes + row->target;
         if (node == pass->goal && charge >= pass->least) {
             pass->head = head;
-            pass->arc = a;
+            pass->arc = row->arc;
             return true;
         }
         if (charge >= pass->best[node])
-            push(pass, node, charge, head, a);
+            push(pass, node, charge, head, row->arc);
     }
     return false;
 }
@@ -199,7 +228,7 @@ static size_t write_cycle(const struct model *m, struct pass *pass, uint32_t mod
 {
     find_cycle(m, pass, mode, charge);
     size_t length = trace(pass->queue, pass->head, part);
-    part[length] = (uint8_t)pass->arc;
+    part[length] = pass->arc;
     return length + 1;
 }
 
@@ -209,6 +238,7 @@ static uint64_t decide(const struct model *m, uint16_t *work, uint8_t *plan)
     uint16_t peaks[CHARGEPLAN_MODES_MOST];
     struct pass pass;
 
+    group(m, &pass.groups);
     pass.queue = work;
     find_peaks(m, &pass);
     memcpy(peaks, pass.best, m->modes * sizeof peaks[0]);
