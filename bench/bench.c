@@ -49,6 +49,8 @@ static const struct family families[] = {
     {"search, random, 64 modes, 255 arcs, b 127, with a plan", draw_64_modes, 16, 0, 0},
     {"search, random, 64 modes, 255 arcs, b 127, without", draw_64_modes, 16, 10, 0},
     {"search, chain of 64 modes with +1 loops, b 127, without", draw_chain, 1, 10, 0},
+    {"search, document 001's figure 6, b 60, with a plan", draw_figure_6, 1, 0, 0},
+    {"search, ring of 64 modes, 255 arcs, b 127, without", draw_ring, 1, 10, 0},
     {"search, random, 8 modes, 64 arcs, b 1,023, with a plan", draw_8_modes, 16, 0, 0},
     {"search, random, 8 modes, 64 arcs, b 1,023, without", draw_8_modes, 16, 10, 0},
     {"search, 1 mode, 255 arcs, b 8,191, k 0, with a plan", draw_one_mode, 16, 0, 0},

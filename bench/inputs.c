@@ -82,6 +82,38 @@ void draw_chain(struct input *in)
         add_arc(in, mode, mode + 1, -127, 1);
 }
 
+void draw_figure_6(struct input *in)
+{
+    enum { B = 60 };
+
+    set_numbers(in, B + 2, 1, 0, B);
+    add_arc(in, 0, 1, B, 0);
+    for (int16_t i = 2; i <= B; i++) {
+        uint32_t mode = (uint32_t)i;
+        add_arc(in, 1, mode, i < B ? (int16_t)(i - B - 2) : -1, 0);
+        add_arc(in, mode, mode, 1, 0);
+        add_arc(in, mode, B + 1, (int16_t)(1 - i), 0);
+    }
+    add_arc(in, B + 1, 1, 0, 1);
+}
+
+void draw_ring(struct input *in)
+{
+    set_numbers(in, 64, 4, 127, 127);
+    in->start = 1;
+    add_arc(in, 0, 1, -1, 0);
+    add_arc(in, 0, 1, -1, 8);
+    add_arc(in, 0, 0, 0, 7);
+    add_arc(in, 0, 0, 1, 0); /* the last of its mode, so that every charge of mode 0 is passed on before the next */
+    for (uint32_t mode = 1; mode < in->n; mode++) {
+        add_arc(in, mode, mode, -1, 0);
+        add_arc(in, mode, mode, -1, 0);
+        add_arc(in, mode, 0, -127, 0);
+        if (mode + 1 < in->n)
+            add_arc(in, mode, mode + 1, 0, 0);
+    }
+}
+
 void draw_one_mode(struct input *in)
 {
     set_numbers(in, 1, 0, 4095, 8191);
