@@ -37,23 +37,23 @@ void draw_8_modes(struct input *in);
 void draw_chain(struct input *in);
 
 /*
- * Figure 6 of document 001 (example 4.2) with b 60, where two iterations of its algorithm do not suffice, with a plan: 62 modes, numbered as
- * there, 179 arcs, k 1. Mode 0 leads to mode 1 with a gain of b. Mode 1 leads to each mode i from 2 to b, at a cost of b + 2 - i, but of 1 for
- * mode b; mode i has a +1 loop and leads to mode b + 1 at a cost of i - 1; mode b + 1 leads back to mode 1 with weight 0, and this back-edge
- * alone has the colour. From mode 1 with b the best way round, by mode 2, comes back with b - 1, too little for mode 2, and so on: only the
- * cycle by mode b is kept, and search tries the modes 0 to b. The weights follow from the example's text, except those of the loops, which it
- * calls positive, and the credit, which does not matter: the first arc fills the battery. They are 1 and 0 here.
+ * Figure 6 of document 001 (example 4.2) with b 60, where two iterations of its algorithm do not suffice; with a plan. 62 modes, numbered
+ * as there, 179 arcs, k 1. Mode 0 leads to mode 1 with a gain of b. Mode 1 leads to each mode i from 2 to b at a cost of b + 2 - i, to mode
+ * b at a cost of 1. Mode i has a +1 loop, and leads to mode b + 1 at a cost of i - 1. Mode b + 1 leads back to mode 1 with weight 0, and
+ * only this back-edge has the colour. From mode 1 with b the best way round goes by mode 2 and comes back with b - 1, too little for mode
+ * 2, and so on: only the cycle by mode b keeps its charge, and search tries the modes 0 to b. The text of the example gives all weights but
+ * those of the loops, which it calls positive: 1 here. It names no credit: 0 here, since the first arc fills the battery from any.
  */
 void draw_figure_6(struct input *in);
 
 /*
- * A ring of 64 modes in which every peak is lost, 255 arcs, k 4, b 127, without a plan. The start is mode 1 with 127. The arcs along the ring
- * are of weight 0 from mode 1 to mode 63, so that the modes from 1 on have the peak 127; every one of them has an arc to mode 0 of weight
- * -127. Mode 0 climbs by a +1 loop, has a loop with the first three colours, and leads to mode 1 with weight -1, with and without the fourth.
- * The pass from a mode from 1 on fails: the way back to it goes by mode 0, and ends with 126 at most. The pass from mode 0 fails: the fourth
- * colour is met only on the way to mode 1, and from 126 no arc leads back. Each pass but this one comes to mode 0 with 0, and then raises the
- * levels 1 to 4 of every mode, and level 0 of the modes before its own, from 0 to 126, one entry at a time, each with four arcs to try; two
- * of them are -1 loops, which raise nothing. In all 2.3 million entries, of 2.6 million for which 64 passes have room, and 9.2 million tries.
+ * A ring of 64 modes on which every peak is lost, 255 arcs, k 4, b 127, without a plan. The start is mode 1 with 127, and the arcs of the
+ * ring from mode 1 to mode 63 have weight 0, so that each of these modes has the peak 127. Each has an arc of weight -127 to mode 0. Mode 0
+ * has a +1 loop, a loop with the first three colours, and two arcs of weight -1 to mode 1, one with the fourth colour. The pass from a mode
+ * from 1 on fails: the way back goes by mode 0 and ends with 126 at most. The pass from mode 0 fails: the fourth colour is met only on the
+ * way to mode 1, and with 126 no arc leads back. Every other pass comes to mode 0 with 0 and then raises levels 1 to 4 of all modes, and
+ * level 0 of the modes before its own, one entry at a time; each entry has four arcs to try, two of them -1 loops, which raise nothing. In
+ * all these are 2.3 million entries, where 64 passes have room for 2.6 million, and 9.2 million tries.
  */
 void draw_ring(struct input *in);
 

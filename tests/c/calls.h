@@ -43,6 +43,18 @@ void both_refused(const char *what, const struct model *m, uint32_t c, uint32_t 
 struct model model(uint32_t n, uint32_t k, size_t arcs, const uint8_t *sources, const uint8_t *targets, const int16_t *weights,
     const uint8_t *colours);
 
+/* The four lists of a model. */
+struct lists {
+    uint8_t sources[CHARGEPLAN_ARCS_MOST], targets[CHARGEPLAN_ARCS_MOST], colours[CHARGEPLAN_ARCS_MOST];
+    int16_t weights[CHARGEPLAN_ARCS_MOST];
+};
+
+/* The model, which has lists of one length, with its arcs in another order: arc order[i] comes to place i. */
+struct model reordered(const struct model *m, const uint8_t *order, struct lists *to);
+
+/* Puts the numbers into a random order. */
+void shuffle(uint8_t *numbers, size_t count);
+
 /* The models of document 01's examples, and lists that they share. */
 extern const uint8_t zeros[256], g_sources[3], g_targets[3], g_colours[3];
 extern const int16_t flat[256];
@@ -64,6 +76,8 @@ void test_charges(void);
 void test_search(void);
 void test_long_plans(void);
 void test_ring(void);
+void test_groups(void);
 void test_random(unsigned long models);
+void test_random_large(unsigned long models);
 
 #endif

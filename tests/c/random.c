@@ -13,6 +13,17 @@ static uint32_t below(uint32_t n)
     return (uint32_t)((random_state >> 33) % n);
 }
 
+void shuffle(uint8_t *numbers, size_t count)
+{
+    for (; count > 1; count--) {
+        uint32_t i = below((uint32_t)count);
+        uint8_t last = numbers[count - 1];
+
+        numbers[count - 1] = numbers[i];
+        numbers[i] = last;
+    }
+}
+
 /* A small model in these lists; one in eight has something unfit. */
 static struct model random_model(uint8_t *sources, uint8_t *targets, int16_t *weights, uint8_t *colours)
 {
@@ -67,6 +78,29 @@ static void test_random_judging(const struct model *m, uint32_t c, uint32_t b)
     check_answer("random plan", judge("random plan", m, c, b, p, q, plan, length), v.number, v.detail);
 }
 
+/* With the arcs in another order search answers with the same number, and with the same detail unless that is an arc. */
+static void test_random_order(const struct model *m, uint32_t c, uint32_t b, uint64_t answer)
+{
+    struct lists lists;
+    struct model r;
+    uint8_t order[CHARGEPLAN_ARCS_MOST];
+    size_t arcs = m->sources_length, i;
+    uint64_t other;
+
+    if (m->targets_length != arcs)
+        return;
+    for (i = 0; i < arcs; i++)
+        order[i] = (uint8_t)i;
+    shuffle(order, arcs);
+    r = reordered(m, order, &lists);
+    other = search("random order", &r, c, b, chargeplan_work_words(m->n, m->k, b), chargeplan_plan_bytes(m->n, m->k, b), 0xc3c3u);
+    check(chargeplan_number(other) == chargeplan_number(answer), "random order");
+    if (chargeplan_number(answer) == CHARGEPLAN_UNFIT_ARC)
+        check(chargeplan_detail(other) == plain_fitness(&r, c, b).detail, "random order, unfit arc");
+    else
+        check(chargeplan_detail(other) == chargeplan_detail(answer), "random order");
+}
+
 void test_random(unsigned long models)
 {
     uint8_t sources[9], targets[9], colours[9];
@@ -84,9 +118,41 @@ void test_random(unsigned long models)
         uint64_t answer = search_exactly("random model", &m, c, b);
 
         test_random_judging(&m, c, b);
+        test_random_order(&m, c, b, answer);
         if (v.number != 0)
             check_answer("random unfit model", answer, v.number, v.detail);
         else
             check(chargeplan_number(answer) == (plain_has_plan(&m, c, b) ? CHARGEPLAN_YES : CHARGEPLAN_NO_PLAN), "random model");
+    }
+}
+
+/* A model with up to 64 modes and 255 arcs; some of the modes have no arcs. */
+static struct model random_large_model(struct lists *lists)
+{
+    uint32_t n = 1 + below(CHARGEPLAN_MODES_MOST), k = below(5), arcs = below(CHARGEPLAN_ARCS_MOST + 1), with_arcs = 1 + below(n), a;
+    struct model m = model(n, k, arcs, lists->sources, lists->targets, lists->weights, lists->colours);
+
+    m.start = below(n);
+    for (a = 0; a < arcs; a++) {
+        lists->sources[a] = (uint8_t)(below(with_arcs) * 7 % n);
+        lists->targets[a] = (uint8_t)below(n);
+        lists->weights[a] = (int16_t)((int)below(10) - 6);
+        lists->colours[a] = (uint8_t)(below(1u << k) & below(256) & below(256));
+    }
+    return m;
+}
+
+void test_random_large(unsigned long models)
+{
+    struct lists lists;
+    unsigned long i;
+
+    for (i = 0; i < models; i++) {
+        struct model m = random_large_model(&lists);
+        uint32_t b = below(PLAIN_PAIRS_MOST / m.n), c = below(b + 1);
+        uint64_t answer = search_exactly("random large model", &m, c, b);
+
+        check(chargeplan_number(answer) == (plain_has_plan(&m, c, b) ? CHARGEPLAN_YES : CHARGEPLAN_NO_PLAN), "random large model");
+        test_random_order(&m, c, b, answer);
     }
 }

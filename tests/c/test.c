@@ -17,6 +17,11 @@ static void test_random_models(void)
     test_random(random_models);
 }
 
+static void test_random_large_models(void)
+{
+    test_random_large(random_models / 200);
+}
+
 static const struct {
     const char *name;
     void (*run)(void);
@@ -33,7 +38,9 @@ static const struct {
     {"search", test_search},
     {"search, long plans", test_long_plans},
     {"search, a ring of 64 modes", test_ring},
+    {"search, arcs in any order", test_groups},
     {"random models and plans", test_random_models},
+    {"random models with many arcs", test_random_large_models},
 };
 
 int main(int argc, char **argv)
