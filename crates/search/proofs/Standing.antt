@@ -20,9 +20,8 @@ use Rattle.nets.specs.Net.{Net, Fits, AcceptedLasso}
 use Rattle.nets.specs.Whole.{whole}
 use Rattle.nets.proofs.Whole.{whole-fits, whole-lasso}
 use Rattle.groups.specs.declared.Groups.{Groups}
-use Rattle.groups.specs.declared.Rows.{Rows}
 use Rattle.groups.specs.Groups.{groupsOf}
-use Rattle.groups.specs.Rows.{rowWords, rowOf, rowsOf, arcIn, sourceAt, targetAt, drawAt, gainAt, coloursAt}
+use Rattle.groups.specs.Rows.{rowWords, rowOf, arcIn, sourceAt, targetAt, drawAt, gainAt, coloursAt}
 use Rattle.groups.proofs.Tables.{row-at, row-none}
 use Rattle.groups.specs.Grouped.{firstPlace, Grouped}
 use Rattle.groups.proofs.Grouping.{holds-grouped, holds-end, grouped-same}
@@ -48,28 +47,28 @@ fieldsNet source target draw gain colours n s k m =
 
 module _ (g : Model) (h : Holds g) where
   -- a word of the row of arc a is what is read of the model's arc, for every number a: past the last arc both are blank
-  row-word : (a j : ℕ) → j < rowWords → getD (rowsOf g .words) (rowWords * a + j) 0 ≡ getD (rowOf (arcAt (held g) a)) j 0
+  row-word : (a j : ℕ) → j < rowWords → getD (groupsOf g .rows) (rowWords * a + j) 0 ≡ getD (rowOf (arcAt (held g) a)) j 0
   row-word a j hj = go (decLt a (g .count))
     where
       blank : (j : ℕ) → j < rowWords → getD (rowOf noArc) j 0 ≡ 0
       blank j q = getD-replicate {A = ℕ} rowWords j 0 0 q
 
-      go : Dec (a < g .count) → getD (rowsOf g .words) (rowWords * a + j) 0 ≡ getD (rowOf (arcAt (held g) a)) j 0
+      go : Dec (a < g .count) → getD (groupsOf g .rows) (rowWords * a + j) 0 ≡ getD (rowOf (arcAt (held g) a)) j 0
       go (yes l) = row-at (arcIn g) (g .count) a j l hj ∙ ap {B = ℕ} (λ (x : Arc). getD (rowOf x) j 0) (sym (held-arc g a l))
       go (no l) =
           let none : arcAt (held g) a ≡ noArc = List·getD-eq-default (held g .arcs) noArc {n = a} (omega (arith, h .count)) in
           row-none (arcIn g) (g .count) (rowWords * a + j) (omega arith)
           ∙ sym (ap {B = ℕ} (λ (x : Arc). getD (rowOf x) j 0) none ∙ blank j hj)
 
-  row-source : (a : ℕ) → sourceAt (rowsOf g .words) a ≡ arcAt (held g) a .source
+  row-source : (a : ℕ) → sourceAt (groupsOf g .rows) a ≡ arcAt (held g) a .source
   row-source a =
       let e : rowWords * a + 0 ≡ rowWords * a = omega arith in
-      ap {B = ℕ} (λ k. getD (rowsOf g .words) k 0) (sym e) ∙ row-word a 0 (omega arith)
+      ap {B = ℕ} (λ k. getD (groupsOf g .rows) k 0) (sym e) ∙ row-word a 0 (omega arith)
 
   -- the net read from the rows is the model's
-  net-same : rowsNet (rowsOf g .words) (g .modes) (g .start) (g .colours) (firstPlace (groupsOf g .places) (g .modes)) ≡ whole (held g)
+  net-same : rowsNet (groupsOf g .rows) (g .modes) (g .start) (g .colours) (firstPlace (groupsOf g .places) (g .modes)) ≡ whole (held g)
   net-same =
-      let w = rowsOf g .words in
+      let w = groupsOf g .rows in
       let arc : (ℕ → Arc) = λ a. arcAt (held g) a in
       let source : (ℕ → ℕ) = λ a. arc a .source in
       let target : (ℕ → ℕ) = λ a. arc a .target in
@@ -92,28 +91,27 @@ abbrev pub modelTask : Model → ℕ → ℕ → Task
 modelTask g b c =
     record { modes = g .modes; start = g .start; colours = g .colours; credit = c; bound = b }
 
-module _ {g : Model} {b c words bytes : ℕ} {rows : Rows} {groups : Groups} (able : Solvable g b c words bytes) (er : rows ≡ rowsOf g)
-    (eg : groups ≡ groupsOf g) where
-  task-net : taskNet (rows .words) (groups .places) (modelTask g b c) ≡ whole (held g)
-  task-net = rw (er, eg) (net-same g (able .holds))
+module _ {g : Model} {b c words bytes : ℕ} {groups : Groups} (able : Solvable g b c words bytes) (same : groups ≡ groupsOf g) where
+  task-net : taskNet (groups .rows) (groups .places) (modelTask g b c) ≡ whole (held g)
+  task-net = rw same (net-same g (able .holds))
 
   -- what the search over rows and groups asks
-  pub solvable-searchable : Searchable (rows .words) (groups .places) (modelTask g b c) words × (planBuffer (g .colours) (g .modes) b ≤ bytes)
+  pub solvable-searchable : Searchable (groups .rows) (groups .places) (modelTask g b c) words × (planBuffer (g .colours) (g .modes) b ≤ bytes)
   solvable-searchable =
       let fit = able .holds .fit in
-      let source : (a : ℕ) → a < g .count → arcIn g a .source ≡ sourceAt (rowsOf g .words) a =
+      let source : (a : ℕ) → a < g .count → arcIn g a .source ≡ sourceAt (groupsOf g .rows) a =
       λ a h. sym (row-source g (able .holds) a ∙ ap {B = ℕ} (λ (x : Arc). x .source) (held-arc g a h)) in (
         record {
           some-mode = fit .some-mode;
           few-modes = fit .few-modes;
-          few-arcs = rw eg (omega (arith, fit .few-arcs, able .holds .count, holds-end g (able .holds)));
+          few-arcs = rw same (omega (arith, fit .few-arcs, able .holds .count, holds-end g (able .holds)));
           few-colours = fit .few-colours;
           fits = subst Fits (sym task-net) (whole-fits (held g) fit);
           grouped =
-              rw (er, eg)
-              (subst (λ (m : ℕ). Grouped (λ a. sourceAt (rowsOf g .words) a) (g .modes) m (groupsOf g .places))
+              rw same
+              (subst (λ (m : ℕ). Grouped (λ a. sourceAt (groupsOf g .rows) a) (g .modes) m (groupsOf g .places))
               (sym (holds-end g (able .holds)))
-              (grouped-same (λ a. arcIn g a .source) (λ a. sourceAt (rowsOf g .words) a) (g .modes) (g .count) (groupsOf g .places) source
+              (grouped-same (λ a. arcIn g a .source) (λ a. sourceAt (groupsOf g .rows) a) (g .modes) (g .count) (groupsOf g .places) source
               (holds-grouped g (able .holds))));
           credit = able .credit;
           low = able .low;
@@ -124,7 +122,7 @@ module _ {g : Model} {b c words bytes : ℕ} {rows : Rows} {groups : Groups} (ab
       )
 
   -- what it answers, in the words of the model
-  pub solved-none : {r : Searched} → ((r ≡ noPlan) ↔ (AcceptedLasso (taskNet (rows .words) (groups .places) (modelTask g b c)) b c → ⊥))
+  pub solved-none : {r : Searched} → ((r ≡ noPlan) ↔ (AcceptedLasso (taskNet (groups .rows) (groups .places) (modelTask g b c)) b c → ⊥))
       → (r ≡ noPlan) ↔ (SomePlan (held g) b c → ⊥)
   solved-none {r} d =
       let e : (r ≡ noPlan) ↔ (AcceptedLasso (whole (held g)) b c → ⊥) =
@@ -132,6 +130,6 @@ module _ {g : Model} {b c words bytes : ℕ} {rows : Rows} {groups : Groups} (ab
       let w = whole-lasso (held g) b c in
       (λ q p. e .0 q (w .0 p), λ n. e .1 (λ l. n (w .1 l)))
 
-  pub solved-answered : {plan plan′ : List ℕ} {r : Searched} → Written (taskNet (rows .words) (groups .places) (modelTask g b c)) b c plan plan′ r
+  pub solved-answered : {plan plan′ : List ℕ} {r : Searched} → Written (taskNet (groups .rows) (groups .places) (modelTask g b c)) b c plan plan′ r
       → Answered (held g) b c plan plan′ r
   solved-answered {plan} {plan′} {r} d = written-answered (held g) (subst (λ (x : Net). Written x b c plan plan′ r) task-net d)

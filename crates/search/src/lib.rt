@@ -20,7 +20,6 @@ mod table;
 
 use entries::clear;
 use groups::group;
-use groups::tabulate;
 use limits::Limits;
 use model::Fitted;
 use model::Model;
@@ -135,7 +134,6 @@ fn decide_model(model: Model, c: u16, b: u16, work: &mut [u16], plan: &mut [u8])
     ensures answered { λ r. ⌜ Answered (held model) b c (now (plan .entry)) (now (plan .exit)) r ⌝ }
 {
     let groups = group(model);
-    let rows = tabulate(model);
     let modes = model.modes as usize;
     let start = model.start as usize;
     let colours = model.colours as usize;
@@ -146,7 +144,7 @@ fn decide_model(model: Model, c: u16, b: u16, work: &mut [u16], plan: &mut [u8])
         credit: c,
         bound: b,
     };
-    decide(&rows.words, &groups.places, task, work, plan)
+    decide(&groups.rows, &groups.places, task, work, plan)
 }
 
 // Search: p and q of a plan in the plan buffer, or 10 where there is none, or the first of 1 to 9 that applies. For all numbers, lists and

@@ -171,9 +171,9 @@ fn write_cycle(
 
 // A plan, or that there is none: a prefix to the first mode whose peak a cycle keeps, and straight after it that cycle. The working space is
 // left as the passes leave it.
-pub fn decide(
-    rows: &[u16; WORDS],
-    places: &[u8; PLACES],
+pub fn decide<'a>(
+    rows: &'a [u16; WORDS],
+    places: &'a [u8; PLACES],
     task: Task,
     work: &mut [u16],
     plan: &mut [u8],
