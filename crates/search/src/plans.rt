@@ -170,7 +170,7 @@ fn write_cycle(
 }
 
 // A plan, or that there is none: a prefix to the first mode whose peak a cycle keeps, and straight after it that cycle. The working space is
-// left as the passes leave it.
+// left as the passes leave it. Rows and places are fields of one value, so they have one lifetime.
 pub fn decide<'a>(
     rows: &'a [u16; WORDS],
     places: &'a [u8; PLACES],

@@ -1,4 +1,5 @@
-// Reading the groups and the rows of the arcs.
+// Reading the groups and the rows of the arcs. The source of an arc, the first word of its row, is not read: the place of an arc tells it. It
+// is there for the contracts, which read the net off the rows.
 ghost use mathlib.Core.Path.{_≡_};
 ghost use Prim.Native.Nat.{_<_};
 ghost use Rattle.limits.specs.Ceilings.{arcsMost};
