@@ -5,7 +5,6 @@ ghost use Rattle.model.specs.Lists.{lists};
 ghost use Rattle.desk.specs.Packing.{packed, Fields};
 ghost use Rattle.desk.specs.Desk.{deskJudged, DeskSearched};
 use judge::judge;
-use refusals::Verdict;
 use search::SearchAnswer;
 use search::search;
 

@@ -3,8 +3,8 @@
 pub mod Tallies
 pub mod Orders
 pub mod Filled
-pub mod Words
+pub mod Bytes
 pub mod Making
 pub mod Placing
-pub mod Tables
+pub mod Rows
 pub mod Grouping

@@ -2,6 +2,7 @@
 pub mod Nodes
 pub mod Steps
 pub mod Queue
+pub mod Places
 pub mod Passes
 pub mod Traces
 pub mod Walks

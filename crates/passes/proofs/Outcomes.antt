@@ -1,4 +1,4 @@
--- What a pass leaves, in the words of nets: its table is the table of the greatest charges, and the arcs read back are walks of the model.
+-- What a pass leaves, in the words of nets: its table is the table of the greatest charges, and the arcs read back are walks of the net.
 -- So the pass for the peaks finds them, and the pass from a mode with a charge says whether a cycle keeps it. Assumes nothing.
 use mathlib.Core.Path.{_≡_, refl, sym, ap, subst, _∙_}
 use mathlib.Core.Bool.{Bool, true, false, _&&_, and-eq-true-iff}

@@ -9,9 +9,9 @@ use lib.ListN.{length, getD, set, replicate, getD-replicate, List·getD-eq-defau
 use lib.Seq.{getD-set-same, getD-set-other}
 use borrow.Author.Count.{below-more}
 use Rattle.limits.specs.Ceilings.{workWords}
-use Rattle.groups.specs.Grouped.{firstPlace, arcPlaced, PlaceOf}
+use Rattle.groups.specs.Grouped.{firstPlace, arcPlaced, InGroup}
 use Rattle.passes.specs.Pass.{Pass, Along, Ready, closesAt}
-use Rattle.passes.specs.Queue.{nodeAt, chargeAt, Entry, Queue, Pushed, Arrived, closed, knows, rises, Grown, Covers, Closes}
+use Rattle.passes.specs.Queue.{nodeAt, chargeAt, SomeEntry, Queue, Pushed, Arrived, closed, knows, rises, Grown, Covers, Closes}
 use Rattle.passes.specs.Queue.{Tried, Visited, Begun, Treated, Passed}
 use Rattle.passes.proofs.Queue.{along-unique, sum-set, set-low, push-queue, push-grown}
 
@@ -155,8 +155,8 @@ visited-tried {P} {w = w} {best′ = best′} {head = head} {closes = closes} re
     covered : closes ≡ false → (i : ℕ) → i < P .net .count → P .net .graph .source i ≡ nodeAt w head % P .net .modes
         → Covers P best′ i (nodeAt w head) (chargeAt w head)
     covered off i known leaves =
-        let (j, p, e) = ready .grouped .places i known in
-        let q : PlaceOf (P .places) (nodeAt w head % P .net .modes) j = rw leaves at p in
+        let (j, p, e) = ready .grouped .placed i known in
+        let q : InGroup (P .places) (nodeAt w head % P .net .modes) j = rw leaves at p in
         rw e at (t .covers off j (q .from) (q .below))
 
 -- an entry whose charge is no longer the greatest of its node asks nothing
@@ -209,7 +209,7 @@ treated-first P s c {best} {best′} {w} {w′} blank hs hc e p =
         subst (λ n. chargeAt w′ n + 1 ≤ getD (set best s (c + 1)) (nodeAt w′ n) 0) (sym z)
         (rw (p .node, p .charge) (omega (arith, same)))
 
-    held : (v : ℕ) → 0 < getD (set best s (c + 1)) v 0 → Dec (v ≡ s) → Entry w′ 0 1 v (getD (set best s (c + 1)) v 0)
+    held : (v : ℕ) → 0 < getD (set best s (c + 1)) v 0 → Dec (v ≡ s) → SomeEntry w′ 0 1 v (getD (set best s (c + 1)) v 0)
     held v h (yes z) =
         let k : getD (set best s (c + 1)) v 0 ≡ c + 1 = rw z same in
         let pc = p .charge in

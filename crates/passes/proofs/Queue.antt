@@ -15,7 +15,7 @@ use Rattle.limits.specs.Ceilings.{workWords}
 use Rattle.nets.specs.Table.{raisedIf, next}
 use Rattle.nets.proofs.Pigeonhole.{paired-bound}
 use Rattle.passes.specs.Pass.{Pass, Along, Ready, node, room}
-use Rattle.passes.specs.Queue.{wordCount, nodeAt, chargeAt, parentAt, sum, Made, Entry, Queue, Pushed, Arrives, Grown}
+use Rattle.passes.specs.Queue.{wordCount, nodeAt, chargeAt, parentAt, sum, Made, SomeEntry, Queue, Pushed, Arrives, Grown}
 
 -- a step leads no higher than the bound
 pub along-low : {P : Pass} {a v e u x : ℕ} → Along P a v e u x → x ≤ P .bound
@@ -192,7 +192,7 @@ made-kept {P} {w} {w′} {i} {tail} kept h m =
 
 -- .. and an entry for a node and its charge is still there
 entry-kept : {w w′ : List ℕ} {i tail tail′ v y : ℕ}
-    → ((j : ℕ) → j < workWords * tail → getD w′ j 0 ≡ getD w j 0) → tail ≤ tail′ → Entry w i tail v y → Entry w′ i tail′ v y
+    → ((j : ℕ) → j < workWords * tail → getD w′ j 0 ≡ getD w j 0) → tail ≤ tail′ → SomeEntry w i tail v y → SomeEntry w′ i tail′ v y
 entry-kept kept h m =
     let before = m .before in
     let charge = m .charge in
@@ -221,10 +221,10 @@ module _ (P : Pass) (best w w′ : List ℕ) (tail v x h a : ℕ) (q : Queue P b
       go (yes e) = subst (λ n. Made P w′ n) (sym e) push-made-new
       go (no ne) = made-kept (p .kept) (omega arith) (q .made i h0 (omega arith))
 
-  push-held : (u : ℕ) → 0 < getD (set best v (x + 1)) u 0 → Entry w′ 0 (tail + 1) u (getD (set best v (x + 1)) u 0)
+  push-held : (u : ℕ) → 0 < getD (set best v (x + 1)) u 0 → SomeEntry w′ 0 (tail + 1) u (getD (set best v (x + 1)) u 0)
   push-held u hu = go (ℕ-discrete u v)
     where
-      go : Dec (u ≡ v) → Entry w′ 0 (tail + 1) u (getD (set best v (x + 1)) u 0)
+      go : Dec (u ≡ v) → SomeEntry w′ 0 (tail + 1) u (getD (set best v (x + 1)) u 0)
       go (yes e) =
           let k : getD (set best v (x + 1)) u 0 ≡ x + 1 = rw e (getD-set-same best v (x + 1) 0 hv) in
           let c = p .charge in

@@ -12,7 +12,7 @@ use lib.Dec.{eqb}
 use lib.ListN.{length, set, take, drop, length-set}
 use lib.Seq.{getD-set-same, slice, slice-cons, slice-empty, drop-set-lt, take-set-lt}
 use Rattle.passes.specs.Pass.{Pass, Ready}
-use Rattle.passes.specs.Queue.{nodeAt, chargeAt, parentAt, numberAt, Entry, Queue}
+use Rattle.passes.specs.Queue.{nodeAt, chargeAt, parentAt, numberAt, SomeEntry, Queue}
 use Rattle.passes.specs.Trace.{Linked, Chain, root, link, Traced, here, there, Wrote}
 use Rattle.passes.proofs.Queue.{entry-space}
 
@@ -119,8 +119,8 @@ entry-here w i v x e same =
     (eqb-true (nodeAt w i) v (tests .0), eqb-true (chargeAt w i) x (tests .1))
 
 -- where it says no, an entry from i + 1 on has them
-pub entry-after : {r : Bool} {w : List ℕ} {i tail v : ℕ} (x : ℕ) → Entry w i tail v (x + 1)
-    → r ≡ (eqb (nodeAt w i) v && eqb (chargeAt w i) x) → r ≡ false → Entry w (i + 1) tail v (x + 1)
+pub entry-after : {r : Bool} {w : List ℕ} {i tail v : ℕ} (x : ℕ) → SomeEntry w i tail v (x + 1)
+    → r ≡ (eqb (nodeAt w i) v && eqb (chargeAt w i) x) → r ≡ false → SomeEntry w (i + 1) tail v (x + 1)
 entry-after {w = w} {i} {tail} {v} x n e differs = go (ℕ-discrete i (n .index))
   where
     same : i ≡ n .index → (eqb (nodeAt w i) v && eqb (chargeAt w i) x) ≡ true
@@ -130,7 +130,7 @@ entry-after {w = w} {i} {tail} {v} x n e differs = go (ℕ-discrete i (n .index)
           eq-eqb (chargeAt w i) x (omega (arith, subst (λ k. chargeAt w k + 1 ≡ x + 1) (sym q) (n .charge))),
         )
 
-    go : Dec (i ≡ n .index) → Entry w (i + 1) tail v (x + 1)
+    go : Dec (i ≡ n .index) → SomeEntry w (i + 1) tail v (x + 1)
     go (yes q) = absurd (true≢false (sym (e ∙ same q) ∙ differs))
     go (no ne) =
         let from = n .from in

@@ -16,7 +16,7 @@ wordCount = 65536
 abbrev pub byteCount : ℕ
 byteCount = 256
 
--- Entry i: a node, the charge with which it was reached, the entry that it was reached from, and the arc.
+-- SomeEntry i: a node, the charge with which it was reached, the entry that it was reached from, and the arc.
 abbrev pub nodeAt : List ℕ → ℕ → ℕ
 nodeAt w i = getD w (workWords * i) 0
 
@@ -40,7 +40,7 @@ pub record Made (P : Pass) (w : List ℕ) (i : ℕ) : Type 0 where
   pub step : Along P (numberAt w i) (nodeAt w (parentAt w i)) (chargeAt w (parentAt w i)) (nodeAt w i) (chargeAt w i)
 
 -- some entry from number i on and below tail has node v and the charge that is one less than y
-pub record Entry (w : List ℕ) (i tail v y : ℕ) : Type 0 where
+pub record SomeEntry (w : List ℕ) (i tail v y : ℕ) : Type 0 where
   pub index : ℕ
   pub from : i ≤ index
   pub before : index < tail
@@ -52,7 +52,7 @@ pub record Entry (w : List ℕ) (i tail v y : ℕ) : Type 0 where
 pub record Queue (P : Pass) (best w : List ℕ) (tail : ℕ) : Type 0 where
   pub some : 0 < tail
   pub made : (i : ℕ) → 0 < i → i < tail → Made P w i
-  pub held : (v : ℕ) → 0 < getD best v 0 → Entry w 0 tail v (getD best v 0)
+  pub held : (v : ℕ) → 0 < getD best v 0 → SomeEntry w 0 tail v (getD best v 0)
   pub known : (i : ℕ) → i < tail → chargeAt w i + 1 ≤ getD best (nodeAt w i) 0
   pub low : (v : ℕ) → getD best v 0 ≤ P .bound + 1
   pub counted : tail ≤ sum best

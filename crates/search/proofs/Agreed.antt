@@ -1,16 +1,19 @@
 -- Document 02, Ask 7, from what search promises of every call: any two answers to a call agree, and plans carry the given arc numbers. Assumes
 -- nothing.
-use mathlib.Core.Path.{_≡_, refl, sym, subst₂, _∙_}
-use mathlib.Core.List.{List}
-use Prim.Native.Nat.{ℕ, _+_, _<_}
+use mathlib.Core.Logic.{_⊎_, inl, inr}
+use mathlib.Core.Path.{_≡_, refl, sym, ap, subst₂, _∙_}
+use mathlib.Core.List.{List, [], _∷_}
+use Prim.Native.Nat.{ℕ, zero, suc, _+_, _<_}
 use native.Mathlib.Omega.{arith}
 use lib.ListN.{length, getD, take}
-use lib.Seq.{getD-take, length-take-le}
+use Rattle.refusals.specs.declared.Refusal.{Refusal}
 use Rattle.refusals.specs.declared.Verdict.{Verdict}
 use Rattle.refusals.specs.declared.Verdict.the-variants.{Yes, Refused}
 use Rattle.refusals.proofs.Verdicts.{clash}
 use Rattle.model.specs.Automaton.{Automaton, arcAt}
-use Rattle.model.specs.Lists.{Lists, arcOf, automatonOf}
+use Rattle.model.specs.declared.Arc.{Arc}
+use Rattle.model.specs.Lists.{Lists, automatonOf}
+use Rattle.model.specs.Plans.{Leads}
 use Rattle.model.proofs.Arcs.{arcs-length, arcs-here}
 use Rattle.model.proofs.Leads.{leads-cut}
 use Rattle.judge.proofs.Leads.{leads-chain}
@@ -20,6 +23,50 @@ use Rattle.search.specs.declared.Searched.the-variants as outcome
 use Rattle.search.specs.Search.{noPlan, searchAnswer, searchable, Answered, none, found, SearchOf}
 use Rattle.search.specs.Agreed.{Agreed, refusals, tens, plans}
 use Rattle.search.proofs.Demand3.{answered-found, plan-searchable, search-none}
+
+-- the numbers in w are those of arcs of the lists: the first leaves s, and each leaves the mode that the one before enters
+pub record GivenNumbers (l : Lists) (s : ℕ) (w : List ℕ) : Type 0 where
+  pub known : (i : ℕ) → i < length w → getD w i 0 < length (l .sources)
+  pub first : 0 < length w → getD (l .sources) (getD w 0 0) 0 ≡ s
+  pub chain : (i : ℕ) → suc i < length w → getD (l .sources) (getD w (suc i) 0) 0 ≡ getD (l .targets) (getD w i 0) 0
+
+module _ (g : Automaton) where
+  leads-first : (w : List ℕ) (s t : ℕ) → Leads g s w t → 0 < length w → arcAt g (getD w 0 0) .source ≡ s
+  leads-first [] s t h some = absurd (omega arith)
+  leads-first (a ∷ w) s t h some = h .1
+
+  leads-next : (w : List ℕ) (s t : ℕ) → Leads g s w t → (i : ℕ) → suc i < length w
+      → arcAt g (getD w (suc i) 0) .source ≡ arcAt g (getD w i 0) .target
+  leads-next [] s t h i low = absurd (omega arith)
+  leads-next (a ∷ w) s t h zero low = leads-first w (arcAt g a .target) t (h .2) (omega arith)
+  leads-next (a ∷ w) s t h (suc i) low = leads-next w (arcAt g a .target) t (h .2) i (omega arith)
+
+-- arcs that lead somewhere in the model of the lists are arcs of the lists
+leads-given : (n s k : ℕ) (l : Lists) (w : List ℕ) (t : ℕ) → Leads (automatonOf n s k l) s w t → GivenNumbers l s w
+leads-given n s k l w t h =
+    record {
+      known = known;
+      first = λ some. sym (source 0 some) ∙ leads-first g w s t h some;
+      chain = λ i low. sym (source (suc i) low) ∙ leads-next g w s t h i low ∙ target i (omega arith);
+    }
+  where
+    g : Automaton
+    g = automatonOf n s k l
+
+    known : (i : ℕ) → i < length w → getD w i 0 < length (l .sources)
+    known i low =
+        let few = numbers-yes (length (g .arcs)) w .0 (leads-chain g w s t 0 .0 h .0) i low in
+        omega (arith, few, arcs-length l (length (l .sources)) 0)
+
+    source : (i : ℕ) → i < length w → arcAt g (getD w i 0) .source ≡ getD (l .sources) (getD w i 0) 0
+    source i low = ap {B = ℕ} (λ (x : Arc). x .source) (arcs-here l (length (l .sources)) (getD w i 0) (known i low))
+
+    target : (i : ℕ) → i < length w → arcAt g (getD w i 0) .target ≡ getD (l .targets) (getD w i 0) 0
+    target i low = ap {B = ℕ} (λ (x : Arc). x .target) (arcs-here l (length (l .sources)) (getD w i 0) (known i low))
+
+-- an answer with a plan
+abbrev pub IsFound : Searched → Type 0
+IsFound r = (p : ℕ) × (q : ℕ) × (r ≡ outcome.Plan p q)
 
 -- two answers where none of 1 to 9 applies: both 10 or both a plan, where each is 10 just where the other is
 answered-agree : {v : Verdict} {g g′ : Automaton} {b c b′ c′ : ℕ} {plan plan′ plan₂ plan₂′ : List ℕ} {r r₂ : Searched} → v ≡ Yes
@@ -48,20 +95,25 @@ module _ (n s k : ℕ) (l : Lists) (b c : ℕ) {work plan work′ plan′ : List
           subst₂ (λ (y z : Searched). Agreed (searchable n s k l b c (length work) (length plan)) y z) (sym (h .refused x e .0))
           (sym (h₂ .refused x (same ∙ e) .0)) (refusals e)
 
-  -- "Plans still carry the given arc numbers": each byte of a plan is the number of an arc in the lists as they are given
-  pub search-numbers : {p q : ℕ} → SearchOf n s k l b c work plan work′ plan′ (outcome.Plan p q) → (i : ℕ) → i < p + q
-      → (getD plan′ i 0 < length (l .sources)) × (arcAt (automatonOf n s k l) (getD plan′ i 0) ≡ arcOf l (getD plan′ i 0))
-  search-numbers {p} {q} h i low =
-      let g = automatonOf n s k l in
+  -- "Plans still carry the given arc numbers": the bytes of a plan are numbers of the arcs in the lists as they are given
+  pub search-numbers : {p q : ℕ} → SearchOf n s k l b c work plan work′ plan′ (outcome.Plan p q) → GivenNumbers l s (take (p + q) plan′)
+  search-numbers {p} {q} h =
       let f = answered-found (h .decided (plan-searchable n s k l b c h) .answered) in
-      let w = take (p + q) plan′ in
       let path = f .serves .plan in
-      let m = path .mode in
-      let whole = leads-cut g p w s m .1 (m, path .leads-in, path .leads-cycle) in
-      let known = numbers-yes (length (g .arcs)) w .0 (leads-chain g w s m 0 .0 whole .0) i (omega (arith, length-take-le (p + q) plan′ (f .within))) in
-      let few : getD plan′ i 0 < length (l .sources) =
-      omega (arith, known, getD-take (p + q) plan′ i 0 low, arcs-length l (length (l .sources)) 0) in
-      (few, arcs-here l (length (l .sources)) (getD plan′ i 0) few)
+      leads-given n s k l (take (p + q) plan′) (path .mode)
+      (leads-cut (automatonOf n s k l) p (take (p + q) plan′) s (path .mode) .1 (path .mode, path .leads-in, path .leads-cycle))
+
+-- where one of 1 to 9 applies, both answers are that refusal
+pub agreed-refused : {x : Refusal} {r r₂ : Searched} → Agreed (Refused x) r r₂ → (r ≡ outcome.Refused x) × (r₂ ≡ outcome.Refused x)
+agreed-refused (refusals e) = (cc, cc)
+agreed-refused (tens e) = clash (cc)
+agreed-refused (plans e) = clash (cc)
+
+-- where none applies, both are 10 or both a plan
+pub agreed-decided : {r r₂ : Searched} → Agreed Yes r r₂ → ((r ≡ noPlan) × (r₂ ≡ noPlan)) ⊎ (IsFound r × IsFound r₂)
+agreed-decided (refusals e) = clash (cc)
+agreed-decided (tens e) = inl (refl, refl)
+agreed-decided (plans {p} {q} {p′} {q′} e) = inr ((p, q, refl), (p′, q′, refl))
 
 -- answers that agree have the same number and detail
 pub agreed-answer : {v : Verdict} {r r₂ : Searched} → Agreed v r r₂ → searchAnswer r .answer ≡ searchAnswer r₂ .answer

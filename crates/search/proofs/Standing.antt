@@ -1,12 +1,12 @@
 -- The rows and groups of a value stand for the model that it holds: the net read from the rows is the net of the model. Assumes nothing.
-use mathlib.Core.Path.{_≡_, refl, sym, ap, subst, fun-ext, _∙_}
+use mathlib.Core.Path.{_≡_, sym, ap, subst, fun-ext, _∙_}
 use mathlib.Core.Bool.{true}
 use mathlib.Core.List.{List}
 use mathlib.Core.Logic.{_↔_}
 use Prim.Native.Nat.{ℕ, _+_, _*_, _≤_, _<_}
 use native.Mathlib.Omega.{arith}
 use native.Mathlib.Decide.{decLt}
-use lib.ListN.{length, getD, getD-replicate, List·getD-eq-default}
+use lib.ListN.{getD, getD-replicate, List·getD-eq-default}
 use Rattle.limits.specs.Ceilings.{planBuffer}
 use Rattle.walks.specs.Moves.{drawOf, gainOf}
 use Rattle.model.specs.declared.Arc.{Arc}
@@ -22,7 +22,7 @@ use Rattle.nets.proofs.Whole.{whole-fits, whole-lasso}
 use Rattle.groups.specs.declared.Groups.{Groups}
 use Rattle.groups.specs.Groups.{groupsOf}
 use Rattle.groups.specs.Rows.{rowWords, rowOf, arcIn, sourceAt, targetAt, drawAt, gainAt, coloursAt}
-use Rattle.groups.proofs.Tables.{row-at, row-none}
+use Rattle.groups.proofs.Rows.{row-at, row-none}
 use Rattle.groups.specs.Grouped.{firstPlace, Grouped}
 use Rattle.groups.proofs.Grouping.{holds-grouped, holds-end, grouped-same}
 use Rattle.search.specs.declared.Searched.{Searched}

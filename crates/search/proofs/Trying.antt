@@ -1,12 +1,12 @@
 -- What relax meets at an arc: the step that it takes, or that there is none; and what visit has from place to place. Assumes nothing.
-use mathlib.Core.Path.{_≡_, refl, sym, ap, _∙_}
+use mathlib.Core.Path.{_≡_, refl, ap, _∙_}
 use mathlib.Core.Bool.{Bool, true, false}
 use mathlib.Core.List.{List}
 use Prim.Native.Nat.{ℕ, _+_, _%_, _≤_, _<_}
 use native.Mathlib.Nat.{mod-lt}
 use native.Mathlib.Omega.{arith}
 use lib.Dec.{leb}
-use lib.ListN.{length, getD}
+use lib.ListN.{length}
 use borrow.Author.Tests.{leb-true, le-leb}
 use Rattle.walks.specs.declared.Step.the-variants.{To, Impossible}
 use Rattle.walks.specs.Moves.{after, possibleIf, moved}
@@ -14,7 +14,7 @@ use Rattle.limits.specs.Ceilings.{modesMost, arcsMost, coloursMost}
 use Rattle.refusals.proofs.Verdicts.{clash}
 use Rattle.model.specs.Automaton.{bit}
 use Rattle.groups.specs.Rows.{sourceAt, targetAt, drawAt, gainAt, coloursAt}
-use Rattle.groups.specs.Grouped.{firstPlace, arcPlaced, PlaceOf}
+use Rattle.groups.specs.Grouped.{firstPlace, arcPlaced}
 use Rattle.passes.specs.Pass.{Pass, Along, node}
 use Rattle.passes.specs.Queue.{nodeAt, chargeAt, Arrives, Arrived, Grown, Tried}
 use Rattle.search.specs.declared.plans.Task.{Task}
@@ -22,6 +22,7 @@ use Rattle.search.specs.declared.pass.Aim.{Aim}
 use Rattle.search.specs.declared.pass.Entry.{Entry}
 use Rattle.search.specs.declared.pass.Outcome.{Outcome}
 use Rattle.search.specs.Tasks.{levelAfter, passOf, entryAt, Trying, Relaxed}
+use Rattle.passes.proofs.Places.{place-low, place-known, place-leaves}
 use Rattle.passes.proofs.Queue.{raised-low, along-inside, entry-low, node-levels, queue-arrives}
 use Rattle.passes.proofs.Passes.{entry-same, arrived-tried, tried-impossible, tried-more}
 
@@ -47,18 +48,17 @@ module _ {rows places : List ℕ} {t : Task} {m : Aim} {h : Entry} {i : ℕ} {be
 
   -- the place is one of the arcs'
   pub relax-place : i < arcsMost
-  relax-place =
-      omega (arith, f .group .below, f .running .ready .grouped .few (h .mode) mode-known, f .running .ready .few-arcs)
+  relax-place = place-low (f .running .ready) mode-known (f .group)
 
   -- the arc is one of the net's, and leaves the mode
   arc-known : arcPlaced places i < firstPlace places (t .modes)
-  arc-known = f .running .ready .grouped .known (h .mode) i mode-known (f .group)
+  arc-known = place-known (f .running .ready) mode-known (f .group)
 
   pub relax-arc : {a : ℕ} → a ≡ arcPlaced places i → a < arcsMost
   relax-arc e = omega (arith, arc-known, f .running .ready .few-arcs)
 
   arc-leaves : sourceAt rows (arcPlaced places i) ≡ nodeAt w (h .index) % t .modes
-  arc-leaves = f .running .ready .grouped .leaves (h .mode) i mode-known (f .group) ∙ mode-same
+  arc-leaves = place-leaves (f .running .ready) mode-known (f .group) ∙ mode-same
 
   -- its target is a mode
   pub relax-target : {a u : ℕ} → a ≡ arcPlaced places i → u ≡ targetAt rows a → u < t .modes

@@ -20,7 +20,7 @@ use Rattle.nets.proofs.Tables.{table-unique}
 use Rattle.nets.proofs.Whole.{lasso-serves}
 use Rattle.nets.proofs.Criterion.{reached-lasso}
 use Rattle.passes.specs.Pass.{node}
-use Rattle.passes.specs.Queue.{Entry, nodeAt, chargeAt}
+use Rattle.passes.specs.Queue.{SomeEntry, nodeAt, chargeAt}
 use Rattle.passes.specs.Trace.{Wrote}
 use Rattle.passes.specs.Outcome.{Peak, Peaked, CyclePassed, PrefixWritten, CycleWritten}
 use Rattle.search.specs.declared.Searched.{Searched}
@@ -42,9 +42,9 @@ module _ {g : Net} {b c r : ℕ} {best w : List ℕ} (peaked : Peaked g b c best
       omega (arith, rw (node-first (g .modes) s) at same, p .listed)
 
   -- and the queue an entry for it
-  pub peak-entry : {s e : ℕ} → Peak g b c s e → Entry w 0 r s (e + 1)
+  pub peak-entry : {s e : ℕ} → Peak g b c s e → SomeEntry w 0 r s (e + 1)
   peak-entry {s} {e} p =
-      let listed = peak-listed p in subst (λ (y : ℕ). Entry w 0 r s y) listed (peaked .held s (p .mode) (omega (arith, listed)))
+      let listed = peak-listed p in subst (λ (y : ℕ). SomeEntry w 0 r s y) listed (peaked .held s (p .mode) (omega (arith, listed)))
 
   -- the arcs that are read back from an entry are the prefix that leads to its mode with its charge
   pub prefix-written : {i s e x : ℕ} {plan plan′ : List ℕ} → i < r → nodeAt w i ≡ s → chargeAt w i ≡ e → Wrote w i plan plan′ x

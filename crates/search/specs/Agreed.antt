@@ -9,7 +9,7 @@ use Rattle.search.specs.declared.Searched.{Searched}
 use Rattle.search.specs.declared.Searched.the-variants as outcome
 use Rattle.search.specs.Search.{noPlan}
 
--- v: what 1 to 9 say of the call. The same refusal, or both 10, or both a plan.
+-- v: what 1 to 9 say of the call. The same refusal, or both 10, or both a plan (of which `SearchOf` says that it is feasible and accepted).
 pub data Agreed (v : Verdict) : Searched → Searched → Type 0 where
   refusals : {x : Refusal} → v ≡ Refused x → Agreed v (outcome.Refused x) (outcome.Refused x)
   tens : v ≡ Yes → Agreed v noPlan noPlan

@@ -17,7 +17,7 @@ use Rattle.nets.specs.Net.{Net, Fits, AcceptedLasso}
 use Rattle.nets.specs.Table.{raisedIf}
 use Rattle.nets.specs.Whole.{lassoPlan}
 use Rattle.groups.specs.Rows.{sourceAt, targetAt, drawAt, gainAt, coloursAt}
-use Rattle.groups.specs.Grouped.{firstPlace, PlaceOf, Grouped}
+use Rattle.groups.specs.Grouped.{firstPlace, InGroup, Grouped}
 use Rattle.passes.specs.Pass.{Pass}
 use Rattle.passes.specs.Queue.{nodeAt, chargeAt, Running, Tried, Visited}
 use Rattle.search.specs.declared.Searched.{Searched}
@@ -53,15 +53,15 @@ taskNet rows places t = rowsNet rows (t .modes) (t .start) (t .colours) (firstPl
 
 -- a pass of a task over its rows and groups
 abbrev pub passOf : List ℕ → List ℕ → Task → Aim → Pass
-passOf rows places t i =
+passOf rows places t m =
     record {
       net = taskNet rows places t;
       places = places;
       ok = λ a. true;
-      last = i .last;
+      last = m .last;
       bound = t .bound;
-      goal = i .goal;
-      least = i .least;
+      goal = m .goal;
+      least = m .least;
     }
 
 -- the level after an arc with this colour byte, of the levels 0 to last
@@ -72,12 +72,13 @@ levelAfter last colours l = raisedIf (ltb l last && bit colours l) l
 abbrev pub entryAt : ℕ → List ℕ → ℕ → Entry
 entryAt n w i = record { index = i; level = nodeAt w i / n; mode = nodeAt w i % n; charge = chargeAt w i }
 
--- place i, one of those of the mode of entry h, is tried in a pass that is under way
+-- Place i is tried at entry h, in a pass that is under way. Document 02, Ask 7: "For a mode's arcs search looks only at the places from its first
+-- up to the next mode's first".
 pub record Trying (rows places : List ℕ) (t : Task) (m : Aim) (h : Entry) (i : ℕ) (best w : List ℕ) (tail : ℕ) : Type 0 where
   pub running : Running (passOf rows places t m) best w tail
   pub entry : h ≡ entryAt (t .modes) w (h .index)
   pub before : h .index < tail
-  pub group : PlaceOf places (h .mode) i
+  pub group : InGroup places (h .mode) i
 
 -- what that answers
 pub record Relaxed (P : Pass) (h : Entry) (i : ℕ) (best w : List ℕ) (tail : ℕ) (best′ w′ : List ℕ) (r : Outcome) : Type 0 where

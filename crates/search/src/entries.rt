@@ -6,7 +6,7 @@ ghost use Prim.Native.Nat.{_+_, _*_, _≤_, _<_};
 ghost use lib.Dec.{eqb};
 ghost use lib.ListN.{length, replicate};
 ghost use Rattle.limits.specs.Ceilings.{workWords};
-ghost use Rattle.passes.specs.Queue.{byteCount, nodeAt, chargeAt, parentAt, numberAt, Entry, Pushed};
+ghost use Rattle.passes.specs.Queue.{byteCount, nodeAt, chargeAt, parentAt, numberAt, SomeEntry, Pushed};
 ghost use Rattle.passes.specs.Trace.{Linked, Chain, Wrote};
 use limits::Limits;
 
@@ -127,7 +127,7 @@ fn is_entry(work: &[u16], i: usize, node: usize, charge: u16) -> bool
 
 // The first entry with a node and a charge.
 pub fn entry_of(work: &[u16], tail: usize, node: usize, charge: u16) -> usize
-    requires { ⌜ Entry (now work) 0 tail node (charge + 1) × (workWords * tail ≤ length (now work)) ⌝ }
+    requires { ⌜ SomeEntry (now work) 0 tail node (charge + 1) × (workWords * tail ≤ length (now work)) ⌝ }
     ensures { λ r. ⌜ (r < tail) × (nodeAt (now (work .entry)) r ≡ node) × (chargeAt (now (work .entry)) r ≡ charge) ⌝ }
 {
     let mut i = 0;

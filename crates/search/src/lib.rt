@@ -13,10 +13,10 @@ ghost use lib.ListN.{length};
 ghost use Rattle.search.specs.Search.{noPlan, Answered, spaces, levelsAndSpaces, searchAnswer, SearchOf};
 ghost use Rattle.search.specs.Tasks.{Solvable, checkedOf};
 
+mod arcs;
 mod entries;
 mod pass;
 mod plans;
-mod table;
 
 use entries::clear;
 use groups::group;
@@ -127,7 +127,7 @@ fn check_search(
     }
 }
 
-// A plan for a fit model, or that there is none, by its groups and rows.
+// A plan for a fit model, or that there is none, by its groups and rows, "made inside the call, never lent" (document 02, Ask 7).
 fn decide_model(model: Model, c: u16, b: u16, work: &mut [u16], plan: &mut [u8]) -> Searched
     requires { ⌜ Solvable model b c (length (now work)) (length (now plan)) ⌝ }
     ensures no_plan { λ r. ⌜ (r ≡ noPlan) ↔ (SomePlan (held model) b c → ⊥) ⌝ }

@@ -7,16 +7,16 @@ ghost use Rattle.limits.specs.Ceilings.{modesMost, coloursMost, boundMost, work
 ghost use Rattle.passes.specs.Pass.{node, closesAt, Ready};
 ghost use Rattle.passes.specs.Queue.{wordCount, nodeAt, chargeAt, Pushed, Arrives, Arrived, Running, Passed};
 ghost use Rattle.search.specs.Tasks.{levelAfter, passOf, entryAt, Trying, Relaxed, VisitedAt};
+use crate::arcs::arc_placed;
+use crate::arcs::colours_of;
+use crate::arcs::draw_of;
+use crate::arcs::first_place;
+use crate::arcs::gain_of;
+use crate::arcs::target_of;
 use crate::entries::charge_of;
 use crate::entries::node_of;
 use crate::entries::push;
 use crate::plans::Task;
-use crate::table::arc_at;
-use crate::table::colours_of;
-use crate::table::draw_of;
-use crate::table::first_of;
-use crate::table::gain_of;
-use crate::table::target_of;
 use groups::PLACES;
 use groups::WORDS;
 use walks::Step;
@@ -38,8 +38,8 @@ pub struct Entry {
     pub charge: u16,
 }
 
-// What trying arcs gives, at one entry or at all: whether an arc closes the cycle, and then the entry that it was tried at and its number; and
-// the number of entries of the queue.
+// What trying an arc gives, or all arcs at an entry, or a whole pass: whether an arc closes the cycle, and then the entry that it was tried at
+// and the arc's number; and the number of entries of the queue.
 pub struct Outcome {
     pub found: bool,
     pub head: usize,
@@ -147,7 +147,7 @@ fn relax(
     requires { ⌜ Trying (now rows) (now places) task aim entry i (now best) (now work) tail ⌝ }
     ensures { λ r. ⌜ Relaxed (passOf (now (rows .entry)) (now (places .entry)) task aim) entry i (now (best .entry)) (now (work .entry)) tail (now (best .exit)) (now (work .exit)) r ⌝ }
 {
-    let arc = arc_at(places, i);
+    let arc = arc_placed(places, i);
     let step = bounded_move(
         entry.charge,
         draw_of(rows, arc),
@@ -175,7 +175,7 @@ fn relax(
 }
 
 // Entry i of the queue.
-fn entry_at(modes: usize, work: &[u16], i: usize) -> Entry
+fn read_entry(modes: usize, work: &[u16], i: usize) -> Entry
     requires { ⌜ (0 < modes) × (modes ≤ modesMost) × (workWords * i + workWords ≤ length (now work)) ⌝ }
     ensures { λ r. ⌜ r ≡ entryAt modes (now (work .entry)) i ⌝ }
 {
@@ -225,23 +225,23 @@ fn visit(
             tail,
         };
     }
-    let entry = entry_at(task.modes, work, head);
-    let last = first_of(places, entry.mode + 1);
-    let mut end = tail;
-    let mut i = first_of(places, entry.mode);
-    while i < last {
-        let outcome = relax(rows, places, task, aim, entry, i, best, work, end);
+    let entry = read_entry(task.modes, work, head);
+    let end = first_place(places, entry.mode + 1);
+    let mut entries = tail;
+    let mut i = first_place(places, entry.mode);
+    while i < end {
+        let outcome = relax(rows, places, task, aim, entry, i, best, work, entries);
         if outcome.found {
             return outcome;
         }
-        end = outcome.tail;
+        entries = outcome.tail;
         i += 1;
     }
     Outcome {
         found: false,
         head,
         arc: 0,
-        tail: end,
+        tail: entries,
     }
 }
 

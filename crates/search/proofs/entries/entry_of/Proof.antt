@@ -2,13 +2,13 @@
 use borrow.Author.Needs.{needs}
 use Prim.Native.Nat.{_+_, _-_}
 use native.Mathlib.Omega.{arith}
-use Rattle.passes.specs.Queue.{Entry}
+use Rattle.passes.specs.Queue.{SomeEntry}
 use Rattle.passes.proofs.Traces.{entry-here, entry-after}
 use Rattle.search.proofs.entries.entry_of.Statement.{statement}
 use Rattle.search.proofs.entries.entry_of.Tie as tie
 
 abbrev Inv-loop : tie.InvT-loop
-Inv-loop work tail node charge i₀ i = Entry work i tail node (charge + 1)
+Inv-loop work tail node charge i₀ i = SomeEntry work i tail node (charge + 1)
 
 abbrev μ-loop : tie.MeasureT-loop
 μ-loop work tail node charge i₀ i = tail - i

@@ -1,5 +1,5 @@
 -- `pass::relax` meets its contract. Assumes nothing.
-use mathlib.Core.Path.{_≡_, sym, _∙_}
+use mathlib.Core.Path.{sym, _∙_}
 use Rattle.groups.specs.Grouped.{arcPlaced}
 use Rattle.passes.specs.Pass.{Along}
 use Rattle.passes.specs.Queue.{nodeAt, chargeAt}
@@ -9,16 +9,16 @@ use borrow.Author.Needs.{needs}
 use Rattle.search.proofs.pass.relax.Statement.{statement}
 use Rattle.search.proofs.pass.relax.Tie as tie
 
-abbrev start : tie.After-arc-at → tie.Start
+abbrev start : tie.After-arc-placed → tie.Start
 start d = d .before .before .before
 
-abbrev arc-of : tie.After-bounded-move → tie.After-arc-at
+abbrev arc-of : tie.After-bounded-move → tie.After-arc-placed
 arc-of c = c .before .before .before
 
 reads : (c : tie.After-bounded-move)
-    → Reads (start (arc-of c) .args .rows .now) (start (arc-of c) .args .places .now) (start (arc-of c) .args .i) (arc-of c .arc-at .result)
+    → Reads (start (arc-of c) .args .rows .now) (start (arc-of c) .args .places .now) (start (arc-of c) .args .i) (arc-of c .arc-placed .result)
     (c .before .before .draw-of .result) (c .before .gain-of .result)
-reads c = record { arc = arc-of c .arc-at .ensures; draw = c .before .before .draw-of .ensures; gain = c .before .gain-of .ensures }
+reads c = record { arc = arc-of c .arc-placed .ensures; draw = c .before .before .draw-of .ensures; gain = c .before .gain-of .ensures }
 
 -- the step before the node
 abbrev step-of : tie.After-entered → tie.After-bounded-move
@@ -37,14 +37,14 @@ along d =
     relax-along (start (arc-of b) .pre) (reads b) (sym (b .bounded-move .ensures) ∙ d .before .before .before .before .step .given .1)
     colours target (d .entered .ensures)
 
-arc-at-requires : tie.Need-arc-at-requires
-arc-at-requires c κs = relax-place (c .before .before .pre)
+arc-placed-requires : tie.Need-arc-placed-requires
+arc-placed-requires c κs = relax-place (c .before .before .pre)
 
 draw-of-requires : tie.Need-draw-of-requires
-draw-of-requires c κs = relax-arc (start c .pre) (c .arc-at .ensures)
+draw-of-requires c κs = relax-arc (start c .pre) (c .arc-placed .ensures)
 
 gain-of-requires : tie.Need-gain-of-requires
-gain-of-requires c κs = relax-arc (start (c .before) .pre) (c .before .arc-at .ensures)
+gain-of-requires c κs = relax-arc (start (c .before) .pre) (c .before .arc-placed .ensures)
 
 bounded-move-requires : tie.Need-bounded-move-requires
 bounded-move-requires c κs = search needs
@@ -53,23 +53,23 @@ enum-known-step : tie.Need-enum-known-step
 enum-known-step c = search needs
 
 target-of-requires : tie.Need-target-of-requires
-target-of-requires c κs = let b = arc-of (c .before .before .before) in relax-arc (start b .pre) (b .arc-at .ensures)
+target-of-requires c κs = let b = arc-of (c .before .before .before) in relax-arc (start b .pre) (b .arc-placed .ensures)
 
 colours-of-requires : tie.Need-colours-of-requires
-colours-of-requires c κs = let b = arc-of (c .before .before .before .before) in relax-arc (start b .pre) (b .arc-at .ensures)
+colours-of-requires c κs = let b = arc-of (c .before .before .before .before) in relax-arc (start b .pre) (b .arc-placed .ensures)
 
 entered-requires : tie.Need-entered-requires
 entered-requires c κs =
     let b = arc-of (c .before .before .before .before .before) in
     let f = start b .pre in
     let low = relax-levels f in
-    (low .0, low .1, low .2, relax-target f (b .arc-at .ensures) (c .before .target-of .ensures))
+    (low .0, low .1, low .2, relax-target f (b .arc-placed .ensures) (c .before .target-of .ensures))
 
 arrive-requires : tie.Need-arrive-requires
 arrive-requires c κs =
     let d = c .before .before in
     let b = arc-of (step-of d) in
-    relax-arrives (start b .pre) (b .arc-at .ensures) (along d)
+    relax-arrives (start b .pre) (b .arc-placed .ensures) (along d)
 
 enum-told : tie.Need-enum-told
 enum-told c = search needs
@@ -85,7 +85,7 @@ returns c =
     let r = c .before .before .before .before .arrive in
     let d = c .before .before .before .before .before .before .before in
     let b = arc-of (step-of d) in
-    relax-arrived (start b .pre) (b .arc-at .ensures) (along d) (r .ensures .0) (r .ensures .1)
+    relax-arrived (start b .pre) (b .arc-placed .ensures) (along d) (r .ensures .0) (r .ensures .1)
 
 returns-2 : tie.Need-returns-2
 returns-2 c =
@@ -96,7 +96,7 @@ pub relax-spec : {M : Type 1} → statement M
 relax-spec =
     tie.close
     (tie.spec
-    arc-at-requires
+    arc-placed-requires
     draw-of-requires
     gain-of-requires
     bounded-move-requires

@@ -5,7 +5,7 @@ use mathlib.Core.Bool.{false}
 use Prim.Native.Nat.{ℕ, _+_, _-_, _%_, _≤_, _<_}
 use native.Mathlib.Nat.{mod-lt}
 use native.Mathlib.Omega.{arith}
-use Rattle.groups.specs.Grouped.{firstPlace, PlaceOf}
+use Rattle.groups.specs.Grouped.{firstPlace}
 use Rattle.passes.specs.Pass.{Pass}
 use Rattle.passes.specs.Queue.{nodeAt, chargeAt, Tried}
 use Rattle.search.specs.declared.pass.Entry.{Entry}
@@ -19,13 +19,13 @@ use Rattle.search.proofs.pass.visit.Statement.{statement}
 use Rattle.search.proofs.pass.visit.Tie as tie
 
 abbrev Inv-loop : tie.InvT-loop
-Inv-loop rows places task aim head best₀ work₀ tail entry last end₀ i₀ best work end i =
+Inv-loop rows places task aim head best₀ work₀ tail entry end entries₀ i₀ best work entries i =
     (firstPlace places (nodeAt work₀ head % task .modes) ≤ i)
     × Tried (passOf rows places task aim) best₀ work₀ tail (firstPlace places (nodeAt work₀ head % task .modes)) i (nodeAt work₀ head)
-    (chargeAt work₀ head) best work false 0 end
+    (chargeAt work₀ head) best work false 0 entries
 
 abbrev μ-loop : tie.MeasureT-loop
-μ-loop rows places task aim head best₀ work₀ tail entry last end₀ i₀ best work end i = last - i
+μ-loop rows places task aim head best₀ work₀ tail entry end entries₀ i₀ best work entries i = end - i
 
 abbrev pass-of : tie.Start Inv-loop μ-loop → Pass
 pass-of s = passOf (s .args .rows .now) (s .args .places .now) (s .args .task) (s .args .aim)
@@ -38,10 +38,10 @@ mode-of s = nodeAt (s .args .work .now) (s .args .head) % s .args .task .modes
 abbrev tested-start : tie.After-is-greatest Inv-loop μ-loop → tie.Start Inv-loop μ-loop
 tested-start d = d .before .before .before .before .before
 
-abbrev start : tie.After-entry-at Inv-loop μ-loop → tie.Start Inv-loop μ-loop
+abbrev start : tie.After-read-entry Inv-loop μ-loop → tie.Start Inv-loop μ-loop
 start d = tested-start (d .before .before .before)
 
-abbrev at-entry : tie.At-loop Inv-loop μ-loop → tie.After-entry-at Inv-loop μ-loop
+abbrev at-entry : tie.At-loop Inv-loop μ-loop → tie.After-read-entry Inv-loop μ-loop
 at-entry l = l .before .before .before .before
 
 abbrev at-loop : tie.After-relax Inv-loop μ-loop → tie.At-loop Inv-loop μ-loop
@@ -53,10 +53,10 @@ closing c = c .before .before .before .before .before
 abbrev going-on : tie.Else2 Inv-loop μ-loop → tie.After-relax Inv-loop μ-loop
 going-on c = c .before .before .before .before .before
 
-mode-same : (d : tie.After-entry-at Inv-loop μ-loop) → d .entry-at .result .mode ≡ mode-of (start d)
-mode-same d = ap {B = ℕ} (λ (h : Entry). h .mode) (d .entry-at .ensures)
+mode-same : (d : tie.After-read-entry Inv-loop μ-loop) → d .read-entry .result .mode ≡ mode-of (start d)
+mode-same d = ap {B = ℕ} (λ (h : Entry). h .mode) (d .read-entry .ensures)
 
-mode-low : (d : tie.After-entry-at Inv-loop μ-loop) → d .entry-at .result .mode < start d .args .task .modes
+mode-low : (d : tie.After-read-entry Inv-loop μ-loop) → d .read-entry .result .mode < start d .args .task .modes
 mode-low d =
     omega (arith, mode-same d, mod-lt (nodeAt (start d .args .work .now) (start d .args .head)) (start d .pre .0 .ready .some-mode))
 
@@ -70,14 +70,14 @@ More d =
     (d .relax .last .1 .1 .1 .1 .1 .1 .0) (d .relax .last .1 .1 .1 .1 .1 .1 .1 .0)
     (d .relax .result .found) (d .relax .result .arc) (d .relax .result .tail)
 
-index-same : (d : tie.After-entry-at Inv-loop μ-loop) → d .entry-at .result .index ≡ start d .args .head
-index-same d = ap {B = ℕ} (λ (h : Entry). h .index) (d .entry-at .ensures)
+index-same : (d : tie.After-read-entry Inv-loop μ-loop) → d .read-entry .result .index ≡ start d .args .head
+index-same d = ap {B = ℕ} (λ (h : Entry). h .index) (d .read-entry .ensures)
 
 more : (d : tie.After-relax Inv-loop μ-loop) → More d
 more d =
     let l = at-loop d in
     let q = at-entry l in
-    tried-next (q .entry-at .result .index) (start q .args .head) (l .loop .inv .1) (start q .pre .1) (index-same q) (d .relax .ensures .tried)
+    tried-next (q .read-entry .result .index) (start q .args .head) (l .loop .inv .1) (start q .pre .1) (index-same q) (d .relax .ensures .tried)
 
 is-greatest-requires : tie.Need-is-greatest-requires Inv-loop μ-loop
 is-greatest-requires c κs =
@@ -104,8 +104,8 @@ returns c =
       entry = refl;
     }
 
-entry-at-requires : tie.Need-entry-at-requires Inv-loop μ-loop
-entry-at-requires c κs =
+read-entry-requires : tie.Need-read-entry-requires Inv-loop μ-loop
+read-entry-requires c κs =
     let s = tested-start (c .before .before) in
     let running = s .pre .0 in (
       running .ready .some-mode,
@@ -113,21 +113,21 @@ entry-at-requires c κs =
       entry-space (s .args .head) (running .ready) (running .queue) (s .pre .1) .0,
     )
 
-add-first-of : tie.Need-add-first-of Inv-loop μ-loop
-add-first-of c = let d = c .before in omega (arith, mode-low d, start d .pre .0 .ready .few-modes)
+add-first-place : tie.Need-add-first-place Inv-loop μ-loop
+add-first-place c = let d = c .before in omega (arith, mode-low d, start d .pre .0 .ready .few-modes)
 
-first-of-requires : tie.Need-first-of-requires Inv-loop μ-loop
-first-of-requires c κs = let d = c .before in omega (arith, mode-low d, start d .pre .0 .ready .few-modes)
+first-place-requires : tie.Need-first-place-requires Inv-loop μ-loop
+first-place-requires c κs = let d = c .before in omega (arith, mode-low d, start d .pre .0 .ready .few-modes)
 
-first-of-requires-2 : tie.Need-first-of-requires-2 Inv-loop μ-loop
-first-of-requires-2 c κs = let d = c .before .before in omega (arith, mode-low d, start d .pre .0 .ready .few-modes)
+first-place-requires-2 : tie.Need-first-place-requires-2 Inv-loop μ-loop
+first-place-requires-2 c κs = let d = c .before .before in omega (arith, mode-low d, start d .pre .0 .ready .few-modes)
 
 loop-holds : tie.Need-loop-holds Inv-loop μ-loop
 loop-holds c =
     let d = c .before .before .before in
     let s = start d in
-    let e : c .first-of2 .result ≡ firstPlace (s .args .places .now) (mode-of s) =
-    c .first-of2 .ensures ∙ ap {B = ℕ} (firstPlace (s .args .places .now)) (mode-same d) in
+    let e : c .first-place2 .result ≡ firstPlace (s .args .places .now) (mode-of s) =
+    c .first-place2 .ensures ∙ ap {B = ℕ} (firstPlace (s .args .places .now)) (mode-same d) in
     rw e (omega arith, tried-none (firstPlace (s .args .places .now) (mode-of s)) _ _ 0 (s .pre .0 .queue))
 
 relax-requires : tie.Need-relax-requires Inv-loop μ-loop
@@ -139,12 +139,12 @@ relax-requires c κs =
     let from = ap {B = ℕ} (firstPlace (s .args .places .now)) (mode-same q) in
     record {
       running = record { ready = ready-kept (s .pre .0 .ready) (g .best-size) (g .size); queue = l .loop .inv .1 .queue };
-      entry = entry-later (s .args .task .modes) g (s .pre .1) (q .entry-at .ensures);
+      entry = entry-later (s .args .task .modes) g (s .pre .1) (q .read-entry .ensures);
       before = omega (arith, index-same q, g .more, s .pre .1);
       group =
           record {
             from = omega (arith, from, l .loop .inv .0);
-            below = omega (arith, l .before .before .first-of .ensures, c .before .before .loop-test .taken);
+            below = omega (arith, l .before .before .first-place .ensures, c .before .before .loop-test .taken);
           };
     }
 
@@ -185,8 +185,8 @@ returns-3 c =
     let l = c .before in
     let q = at-entry l in
     let s = start q in
-    let end : l .before .before .first-of .result ≡ firstPlace (s .args .places .now) (mode-of s + 1) =
-    l .before .before .first-of .ensures ∙ ap {B = ℕ} (λ m. firstPlace (s .args .places .now) (m + 1)) (mode-same q) in
+    let end : l .before .before .first-place .result ≡ firstPlace (s .args .places .now) (mode-of s + 1) =
+    l .before .before .first-place .ensures ∙ ap {B = ℕ} (λ m. firstPlace (s .args .places .now) (m + 1)) (mode-same q) in
     record {
       visited = visited-tried (s .pre .0 .ready) (tried-free _ refl (tried-less (omega (arith, end, c .loop-test .left)) (l .loop .inv .1)));
       entry = refl;
@@ -202,10 +202,10 @@ visit-spec =
     same-length
     same-length-2
     returns
-    entry-at-requires
-    add-first-of
-    first-of-requires
-    first-of-requires-2
+    read-entry-requires
+    add-first-place
+    first-place-requires
+    first-place-requires-2
     loop-holds
     relax-requires
     same-length-3

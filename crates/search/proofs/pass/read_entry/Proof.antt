@@ -1,8 +1,8 @@
--- `pass::entry_at` meets its contract: the level and the mode are the parts of the entry's node. Assumes nothing.
+-- `pass::read_entry` meets its contract: the level and the mode are the parts of the entry's node. Assumes nothing.
 use mathlib.Core.Path.{refl}
 use borrow.Author.Needs.{needs}
-use Rattle.search.proofs.pass.entry_at.Statement.{statement}
-use Rattle.search.proofs.pass.entry_at.Tie as tie
+use Rattle.search.proofs.pass.read_entry.Statement.{statement}
+use Rattle.search.proofs.pass.read_entry.Tie as tie
 
 node-of-requires : tie.Need-node-of-requires
 node-of-requires c κs = search needs
@@ -19,8 +19,8 @@ charge-of-requires c κs = search needs
 returns : tie.Need-returns
 returns c = rw (c .charge-of .ensures, c .before .node-of .ensures) refl
 
-pub entry-at-spec : {M : Type 1} → statement M
-entry-at-spec =
+pub read-entry-spec : {M : Type 1} → statement M
+read-entry-spec =
     tie.close
     (tie.spec
     node-of-requires

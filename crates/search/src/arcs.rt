@@ -20,7 +20,7 @@ fn number(x: u8) -> usize
 }
 
 // The first place of a mode.
-pub fn first_of(places: &[u8; PLACES], mode: usize) -> usize
+pub fn first_place(places: &[u8; PLACES], mode: usize) -> usize
     requires { ⌜ mode < orderFrom ⌝ }
     ensures { λ r. ⌜ r ≡ firstPlace (now (places .entry)) mode ⌝ }
 {
@@ -28,7 +28,7 @@ pub fn first_of(places: &[u8; PLACES], mode: usize) -> usize
 }
 
 // The arc at a place.
-pub fn arc_at(places: &[u8; PLACES], i: usize) -> usize
+pub fn arc_placed(places: &[u8; PLACES], i: usize) -> usize
     requires { ⌜ i < arcsMost ⌝ }
     ensures { λ r. ⌜ r ≡ arcPlaced (now (places .entry)) i ⌝ }
 {
