@@ -21,14 +21,8 @@ use Rattle.judge.proofs.Shapes.{numbers-yes}
 use Rattle.search.specs.declared.Searched.{Searched}
 use Rattle.search.specs.declared.Searched.the-variants as outcome
 use Rattle.search.specs.Search.{noPlan, searchAnswer, searchable, Answered, none, found, SearchOf}
-use Rattle.search.specs.Agreed.{Agreed, refusals, tens, plans}
+use Rattle.search.specs.Agreed.{IsFound, Agreed, refusals, tens, plans, GivenNumbers}
 use Rattle.search.proofs.Demand3.{answered-found, plan-searchable, search-none}
-
--- the numbers in w are those of arcs of the lists: the first leaves s, and each leaves the mode that the one before enters
-pub record GivenNumbers (l : Lists) (s : ℕ) (w : List ℕ) : Type 0 where
-  pub known : (i : ℕ) → i < length w → getD w i 0 < length (l .sources)
-  pub first : 0 < length w → getD (l .sources) (getD w 0 0) 0 ≡ s
-  pub chain : (i : ℕ) → suc i < length w → getD (l .sources) (getD w (suc i) 0) 0 ≡ getD (l .targets) (getD w i 0) 0
 
 module _ (g : Automaton) where
   leads-first : (w : List ℕ) (s t : ℕ) → Leads g s w t → 0 < length w → arcAt g (getD w 0 0) .source ≡ s
@@ -63,10 +57,6 @@ leads-given n s k l w t h =
 
     target : (i : ℕ) → i < length w → arcAt g (getD w i 0) .target ≡ getD (l .targets) (getD w i 0) 0
     target i low = ap {B = ℕ} (λ (x : Arc). x .target) (arcs-here l (length (l .sources)) (getD w i 0) (known i low))
-
--- an answer with a plan
-abbrev pub IsFound : Searched → Type 0
-IsFound r = (p : ℕ) × (q : ℕ) × (r ≡ outcome.Plan p q)
 
 -- two answers where none of 1 to 9 applies: both 10 or both a plan, where each is 10 just where the other is
 answered-agree : {v : Verdict} {g g′ : Automaton} {b c b′ c′ : ℕ} {plan plan′ plan₂ plan₂′ : List ℕ} {r r₂ : Searched} → v ≡ Yes
