@@ -15,7 +15,7 @@ pub record Arrival (g : Net) (b c t x : ℕ) (arcs : List ℕ) : Type 0 where
   pub reached : Reached g (Usable g) 0 b (g .start) c 0 t x
   pub same : reached .arcs ≡ arcs
 
--- the arcs are a cycle from mode s that meets every colour and keeps the charge e
+-- the arcs are a cycle from mode s that meets every duty and keeps the charge e
 pub record Kept (g : Net) (b s e : ℕ) (arcs : List ℕ) : Type 0 where
   pub cycle : KeptCycle g b s e
   pub same : cycle .arcs ≡ arcs

@@ -15,17 +15,22 @@ Inv-loop work i j₀ steps₀ j steps = (j + steps ≤ i) × ((k : ℕ) → Chai
 abbrev μ-loop : tie.MeasureT-loop
 μ-loop work i j₀ steps₀ j steps = j
 
+-- from the loop to the beginning
+abbrev start : tie.At-loop Inv-loop μ-loop → tie.Start Inv-loop μ-loop
+start l = l .before .before
+
 falls : (c : tie.After-parent-of Inv-loop μ-loop)
-    → parentAt (c .before .before .before .before .args .work .now) (c .before .before .loop .j) < c .before .before .loop .j
+    → let l = c .before .before in
+    parentAt (start l .args .work .now) (l .loop .j) < l .loop .j
 falls c =
-    c .before .before .before .before .pre .back (c .before .before .loop .j) (c .before .loop-test .taken)
-    (omega (arith, c .before .before .loop .inv .0))
+    let l = c .before .before in
+    start l .pre .back (l .loop .j) (c .before .loop-test .taken) (omega (arith, l .loop .inv .0))
 
 loop-holds : tie.Need-loop-holds Inv-loop μ-loop
 loop-holds c = (omega arith, λ k h. subst (λ n. Chain (c .before .args .work .now) (c .before .args .i) n) (omega arith) h)
 
 parent-of-requires : tie.Need-parent-of-requires Inv-loop μ-loop
-parent-of-requires c κs = omega (arith, c .before .before .before .pre .space)
+parent-of-requires c κs = omega (arith, start (c .before) .pre .space)
 
 add-steps : tie.Need-add-steps Inv-loop μ-loop
 add-steps c = search needs
@@ -35,7 +40,7 @@ loop-less c = omega (arith, c .parent-of .ensures, falls c)
 
 loop-again : tie.Need-loop-again Inv-loop μ-loop
 loop-again c =
-    let s = c .before .before .before .before in
+    let s = start (c .before .before) in
     let l = c .before .before .loop in
     let f = falls c in (
       omega (arith, c .parent-of .ensures),
@@ -46,7 +51,7 @@ loop-again c =
 
 returns : tie.Need-returns Inv-loop μ-loop
 returns c =
-    let s = c .before .before .before in
+    let s = start (c .before) in
     let l = c .before .loop in
     let z : 0 ≡ l .j = omega arith in
     subst (λ n. Chain (s .args .work .now) (s .args .i) n) (omega arith)
