@@ -20,8 +20,8 @@ use Rattle.judge.proofs.Leads.{leads-chain}
 use Rattle.judge.proofs.Shapes.{numbers-yes}
 use Rattle.search.specs.declared.Searched.{Searched}
 use Rattle.search.specs.declared.Searched.the-variants as outcome
-use Rattle.search.specs.Search.{noPlan, searchAnswer, searchable, Answered, none, found, SearchOf}
-use Rattle.search.specs.Agreed.{IsFound, Agreed, refusals, tens, plans, GivenNumbers}
+use Rattle.search.specs.Search.{noPlan, IsFound, searchAnswer, searchable, Answered, none, found, SearchOf}
+use Rattle.search.specs.Agreed.{Agreed, refusals, tens, plans, GivenNumbers}
 use Rattle.search.proofs.Demand3.{answered-found, plan-searchable, search-none}
 
 module _ (g : Automaton) where

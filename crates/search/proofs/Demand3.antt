@@ -57,7 +57,7 @@ module _ (n s k : ℕ) (l : Lists) (b c : ℕ) {work plan work′ plan′ : List
   pub search-judged : {p q : ℕ} → SearchOf n s k l b c work plan work′ plan′ (outcome.Plan p q) → judged n s k l b c p q (take (p + q) plan′) ≡ Yes
   search-judged {p} {q} h =
       let through = plan-searchable h in
-      let able = searchable-yes n s k l b c (length work) (length plan) .0 through .0 in
+      let able = searchable-yes n s k l b c (length work) (length plan) .0 through in
       let f = answered-found (h .decided through .answered) in
       judged-yes n s k l b c p q (take (p + q) plan′) .1 (record {
         equal = able .equal;

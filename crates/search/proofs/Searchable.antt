@@ -5,7 +5,7 @@ use mathlib.Core.Logic.{_↔_}
 use Prim.Native.Nat.{ℕ, _+_, _*_, _≤_}
 use lib.Dec.{ltb}
 use lib.ListN.{length, replicate}
-use Rattle.limits.specs.Ceilings.{productMost, workSpace, planBuffer}
+use Rattle.limits.specs.Ceilings.{boundMost, productMost, workSpace, planBuffer}
 use Rattle.refusals.specs.declared.Refusal.{Refusal}
 use Rattle.refusals.specs.declared.Refusal.the-variants.{Product, WorkingSpace, PlanBuffer}
 use Rattle.refusals.specs.declared.Verdict.{Verdict}
@@ -17,13 +17,13 @@ use Rattle.model.specs.Automaton.{Automaton}
 use Rattle.model.specs.declared.Fitted.{Fitted}
 use Rattle.model.specs.declared.Model.{Model}
 use Rattle.model.specs.Lists.{Lists, automatonOf, held}
-use Rattle.model.specs.Fitness.{fitness, levelsOf, fittedOf, Holds}
+use Rattle.model.specs.Fitness.{fitness, levelsOf, fittedOf, EqualLists, Fit, Holds}
 use Rattle.model.specs.Plans.{SomePlan}
 use Rattle.model.proofs.Fitness.{fitness-yes, levels-yes, fitted-held, fitted-holds}
 use Rattle.search.specs.declared.Searched.{Searched}
 use Rattle.search.specs.declared.Searched.the-variants as outcome
 use Rattle.search.specs.Search.{noPlan, spaces, levelsAndSpaces, searchable, Answered, Search}
-use Rattle.search.specs.Tasks.{Callable, Solvable, checkedOf}
+use Rattle.search.specs.Tasks.{Solvable, checkedOf}
 
 -- none of 7 to 9 applies
 pub spaces-yes : (n k b words bytes : ℕ) → (spaces n k b words bytes ≡ Yes)
@@ -49,8 +49,17 @@ spaces-yes n k b words bytes =
     )
 
 -- none of 1 to 9 applies
+pub record Callable (n s k : ℕ) (l : Lists) (b c words bytes : ℕ) : Type 0 where
+  pub equal : EqualLists l
+  pub fit : Fit (automatonOf n s k l)
+  pub credit : c ≤ b
+  pub low : b ≤ boundMost
+  pub product : n * (b + 1) ≤ productMost
+  pub space : workSpace k n b ≤ words
+  pub buffer : planBuffer k n b ≤ bytes
+
 pub searchable-yes : (n s k : ℕ) (l : Lists) (b c words bytes : ℕ) → (searchable n s k l b c words bytes ≡ Yes)
-    ↔ (Callable l n s k b c words × (planBuffer k n b ≤ bytes))
+    ↔ Callable n s k l b c words bytes
 unfolding searchable
 searchable-yes n s k l b c words bytes =
     let outer = and-then-yes (fitness n s k l) (levelsAndSpaces n k b c words bytes) in
@@ -59,11 +68,11 @@ searchable-yes n s k l b c words bytes =
           let (equal, fit) = fitness-yes n s k l .0 (outer .0 e .0) in
           let (low, credit) = levels-yes b c .0 (inner .0 (outer .0 e .1) .0) in
           let (product, space, buffer) = spaces-yes n k b words bytes .0 (inner .0 (outer .0 e .1) .1) in
-          (record { equal = equal; fit = fit; credit = credit; low = low; product = product; space = space }, buffer),
-      λ (a, buffer).
+          record { equal = equal; fit = fit; credit = credit; low = low; product = product; space = space; buffer = buffer },
+      λ a.
           outer .1 (
             fitness-yes n s k l .1 (a .equal, a .fit),
-            inner .1 (levels-yes b c .1 (a .low, a .credit), spaces-yes n k b words bytes .1 (a .product, a .space, buffer)),
+            inner .1 (levels-yes b c .1 (a .low, a .credit), spaces-yes n k b words bytes .1 (a .product, a .space, a .buffer)),
           ),
     )
 
@@ -93,7 +102,7 @@ module _ (n s k : ℕ) (l : Lists) (b c words bytes : ℕ) {y : Fitted} (told : 
 
   pub told-solvable : Solvable (y .model) b c words bytes
   told-solvable =
-      let (a, buffer) = searchable-yes n s k l b c words bytes .0 told-yes in
+      let a = searchable-yes n s k l b c words bytes .0 told-yes in
       let modes : y .model .modes ≡ n = ap {B = ℕ} (λ (g : Automaton). g .modes) told-held in
       let colours : y .model .colours ≡ k = ap {B = ℕ} (λ (g : Automaton). g .colours) told-held in
       record {
@@ -102,7 +111,7 @@ module _ (n s k : ℕ) (l : Lists) (b c words bytes : ℕ) {y : Fitted} (told : 
         low = a .low;
         product = subst (λ (x : ℕ). x * (b + 1) ≤ productMost) (sym modes) (a .product);
         space = subst₂ (λ (x z : ℕ). workSpace x z b ≤ words) (sym colours) (sym modes) (a .space);
-        buffer = subst₂ (λ (x z : ℕ). planBuffer x z b ≤ bytes) (sym colours) (sym modes) buffer;
+        buffer = subst₂ (λ (x z : ℕ). planBuffer x z b ≤ bytes) (sym colours) (sym modes) (a .buffer);
       }
 
 module _ {v : Verdict} {g : Automaton} {b c : ℕ} {work plan : List ℕ} where

@@ -1,6 +1,5 @@
 -- The rows and groups of a value stand for the model that it holds: the net read from the rows is the net of the model. Assumes nothing.
 use mathlib.Core.Path.{_≡_, sym, ap, subst, fun-ext, _∙_}
-use mathlib.Core.Bool.{true}
 use mathlib.Core.List.{List}
 use mathlib.Core.Logic.{_↔_}
 use Prim.Native.Nat.{ℕ, _+_, _*_, _≤_, _<_}
@@ -11,7 +10,7 @@ use Rattle.limits.specs.Ceilings.{planBuffer}
 use Rattle.walks.specs.Moves.{drawOf, gainOf}
 use Rattle.model.specs.declared.Arc.{Arc}
 use Rattle.model.specs.declared.Model.{Model}
-use Rattle.model.specs.Automaton.{noArc, arcAt, bit}
+use Rattle.model.specs.Automaton.{noArc, arcAt}
 use Rattle.model.specs.Lists.{held}
 use Rattle.model.specs.Fitness.{Holds}
 use Rattle.model.specs.Plans.{SomePlan}
@@ -24,26 +23,12 @@ use Rattle.groups.specs.Groups.{groupsOf}
 use Rattle.groups.specs.Rows.{rowWords, rowOf, arcIn, sourceAt, targetAt, drawAt, gainAt, coloursAt}
 use Rattle.groups.proofs.Rows.{row-at, row-none}
 use Rattle.groups.specs.Grouped.{firstPlace, Grouped}
-use Rattle.groups.proofs.Grouping.{holds-grouped, holds-end, grouped-same}
+use Rattle.groups.proofs.Grouping.{given-numbers, holds-grouped, holds-end, grouped-same}
 use Rattle.search.specs.declared.Searched.{Searched}
 use Rattle.search.specs.declared.plans.Task.{Task}
 use Rattle.search.specs.Search.{noPlan, Answered}
-use Rattle.search.specs.Tasks.{rowsNet, taskNet, Solvable, Searchable, Written}
+use Rattle.search.specs.Tasks.{fieldsNet, rowsNet, taskNet, Solvable, Searchable, Written}
 use Rattle.search.proofs.Written.{written-answered}
-
--- a net by the fields of its arcs
-abbrev fieldsNet : (ℕ → ℕ) → (ℕ → ℕ) → (ℕ → ℕ) → (ℕ → ℕ) → (ℕ → ℕ) → ℕ → ℕ → ℕ → ℕ → Net
-fieldsNet source target draw gain colours n s k m =
-    record {
-      graph = record { source = source; target = target; move = λ a. record { draw = draw a; gain = gain a } };
-      modes = n;
-      start = s;
-      count = m;
-      on = λ a. true;
-      lasting = λ a. true;
-      duties = k;
-      meets = λ j a. bit (colours a) j;
-    }
 
 module _ (g : Model) (h : Holds g) where
   -- a word of the row of arc a is what is read of the model's arc, for every number a: past the last arc both are blank
@@ -99,8 +84,7 @@ module _ {g : Model} {b c words bytes : ℕ} {groups : Groups} (able : Solvable 
   pub solvable-searchable : Searchable (groups .rows) (groups .places) (modelTask g b c) words × (planBuffer (g .colours) (g .modes) b ≤ bytes)
   solvable-searchable =
       let fit = able .holds .fit in
-      let source : (a : ℕ) → a < g .count → arcIn g a .source ≡ sourceAt (groupsOf g .rows) a =
-      λ a h. sym (row-source g (able .holds) a ∙ ap {B = ℕ} (λ (x : Arc). x .source) (held-arc g a h)) in (
+      let source : (a : ℕ) → a < g .count → arcIn g a .source ≡ sourceAt (groupsOf g .rows) a = λ a h. sym (given-numbers g a h .source) in (
         record {
           some-mode = fit .some-mode;
           few-modes = fit .few-modes;

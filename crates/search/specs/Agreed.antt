@@ -11,10 +11,6 @@ use Rattle.search.specs.declared.Searched.{Searched}
 use Rattle.search.specs.declared.Searched.the-variants as outcome
 use Rattle.search.specs.Search.{noPlan}
 
--- an answer with a plan
-abbrev pub IsFound : Searched → Type 0
-IsFound r = (p : ℕ) × (q : ℕ) × (r ≡ outcome.Plan p q)
-
 -- "Every answer and detail equals that of the ungrouped model, though search may choose another feasible and accepted plan": two answers to one
 -- call are the same refusal, or both 10, or both a plan (of which `SearchOf` says that it is feasible and accepted). v: what 1 to 9 say of
 -- the call.

@@ -45,6 +45,10 @@ searchAnswer (outcome.Refused r) = record { answer = numbered r; p = 0; q = 0 }
 abbrev pub noPlan : Searched
 noPlan = outcome.Refused NoPlan
 
+-- a plan is found
+abbrev pub IsFound : Searched → Type 0
+IsFound r = (p : ℕ) × (q : ℕ) × (r ≡ outcome.Plan p q)
+
 -- What holds of the plan that is handed back. Which feasible and accepted plan it is, its p and q with it, is free.
 pub record Found (g : Automaton) (b c p q : ℕ) (plan plan′ : List ℕ) : Type 0 where
   -- "the first p + q bytes of the plan buffer, as the call leaves it, are with this p and q a feasible and accepted plan"

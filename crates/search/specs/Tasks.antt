@@ -10,8 +10,8 @@ use Rattle.limits.specs.Ceilings.{modesMost, arcsMost, coloursMost, boundMost, 
 use Rattle.model.specs.declared.Fitted.{Fitted}
 use Rattle.model.specs.declared.Model.{Model}
 use Rattle.model.specs.Automaton.{bit}
-use Rattle.model.specs.Lists.{Lists, automatonOf}
-use Rattle.model.specs.Fitness.{EqualLists, Fit, Holds, fittedOf}
+use Rattle.model.specs.Lists.{Lists}
+use Rattle.model.specs.Fitness.{Holds, fittedOf}
 use Rattle.judge.specs.Shape.{planOf}
 use Rattle.nets.specs.Net.{Net, Fits, AcceptedLasso}
 use Rattle.nets.specs.Table.{raisedIf}
@@ -28,24 +28,23 @@ use Rattle.search.specs.declared.pass.Entry.{Entry}
 use Rattle.search.specs.declared.pass.Outcome.{Outcome}
 use Rattle.search.specs.Search.{noPlan, searchable}
 
--- the net of n modes and m arcs that stand in rows, with the start mode s and k duties
-abbrev pub rowsNet : List ℕ → ℕ → ℕ → ℕ → ℕ → Net
-rowsNet rows n s k m =
+-- the net of n modes and m arcs by the fields of its arcs, with the start mode s and k duties
+abbrev pub fieldsNet : (ℕ → ℕ) → (ℕ → ℕ) → (ℕ → ℕ) → (ℕ → ℕ) → (ℕ → ℕ) → ℕ → ℕ → ℕ → ℕ → Net
+fieldsNet source target draw gain colours n s k m =
     record {
-      graph =
-          record {
-            source = λ a. sourceAt rows a;
-            target = λ a. targetAt rows a;
-            move = λ a. record { draw = drawAt rows a; gain = gainAt rows a };
-          };
+      graph = record { source = source; target = target; move = λ a. record { draw = draw a; gain = gain a } };
       modes = n;
       start = s;
       count = m;
       on = λ a. true;
       lasting = λ a. true;
       duties = k;
-      meets = λ j a. bit (coloursAt rows a) j;
+      meets = λ j a. bit (colours a) j;
     }
+
+-- the net of arcs that stand in rows
+abbrev pub rowsNet : List ℕ → ℕ → ℕ → ℕ → ℕ → Net
+rowsNet rows = fieldsNet (sourceAt rows) (targetAt rows) (drawAt rows) (gainAt rows) (coloursAt rows)
 
 -- the net of a task over its rows and groups; the last mode's group ends with the last arc
 abbrev pub taskNet : List ℕ → List ℕ → Task → Net
@@ -93,15 +92,6 @@ pub record VisitedAt (P : Pass) (best w : List ℕ) (tail head : ℕ) (best′ w
 -- 1 to 9, and the model beside the verdict
 abbrev pub checkedOf : ℕ → ℕ → ℕ → Lists → ℕ → ℕ → ℕ → ℕ → Fitted
 checkedOf n s k l b c words bytes = record { verdict = searchable n s k l b c words bytes; model = fittedOf n s k l .model }
-
--- none of 1 to 8 applies to a call, where the working space has this many words
-pub record Callable (l : Lists) (n s k b c words : ℕ) : Type 0 where
-  pub equal : EqualLists l
-  pub fit : Fit (automatonOf n s k l)
-  pub credit : c ≤ b
-  pub low : b ≤ boundMost
-  pub product : n * (b + 1) ≤ productMost
-  pub space : workSpace k n b ≤ words
 
 -- the value holds a fit model, and none of 6 to 9 applies
 pub record Solvable (g : Model) (b c words bytes : ℕ) : Type 0 where
