@@ -150,7 +150,7 @@ module _ {d : ℕ} where
     ran-within (a ∷ w) i e {f} h after = on (stepped b (arcAt g a .weight) e) λ y. ran-within w (suc i) y (omega arith) after
       where
         on : (s : Step) → ((y : ℕ) → Within d (afterRan (ran g b w (suc i) y) f)) → Within d (afterRan (ranOn s i (ran g b w (suc i))) f)
-        on (To y) ih = ih y
+        on (To y l) ih = ih y
         on Impossible ih = omega arith
 
     -- 15 and 16

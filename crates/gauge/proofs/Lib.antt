@@ -1,2 +1,4 @@
--- Laws of the lent gauge: a refusal leaves it.
-pub mod Refused
+-- Laws of the gauge: its rows, the call repeated, and the balance of a history.
+pub mod Gauges
+pub mod Follows
+pub mod History

@@ -1,2 +1,3 @@
--- What a reader must believe of the lent gauge.
-pub mod Moved
+-- What a reader must believe of the gauge.
+pub mod Gauge
+pub mod History

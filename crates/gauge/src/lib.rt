@@ -1,69 +1,161 @@
-// The gauge lent by &mut to one thin step, over the by-value step of `gauges`.
+// The gauge by value: starting it, and stepping it on one arc.
 ghost use mathlib.Core.Path.{_≡_};
-ghost use Rattle.model.specs.Lists.{lists};
-ghost use Rattle.gauges.specs.Gauge.{steppedOf};
-ghost use Rattle.gauge.specs.Moved.{moved, LentStep};
-use gauges::Gauge;
-use refusals::Answer;
+ghost use Rattle.model.specs.Lists.{lists, held};
+ghost use Rattle.model.specs.Fitness.{levelsOf, Holds};
+ghost use Rattle.gauge.specs.Gauge.{gauge, gauged, noGauge, stopAt, startedOf, landed, movedOf, movedLevelled, steppedOf};
+use limits::Limits;
+use model::Model;
+use model::check_levels;
+use model::check_model;
+use refusals::Refusal;
+use refusals::Verdict;
+use walks::Step;
+use walks::bounded_step;
 
-// A step's number and detail, and the gauge after it.
-struct Moved {
-    pub answer: Answer,
+// Where a walk stands: the mode, the charge, and the total of charge that spilled over on the way.
+pub struct Gauge {
+    pub mode: u8,
+    pub charge: u16,
+    pub spill: u64,
+}
+
+// What starting or stepping a gauge answers: the verdict, and the gauge afterwards.
+pub struct Gauged {
+    pub verdict: Verdict,
     pub gauge: Gauge,
 }
 
-// The step by value, with its number and detail: what the lent step calls.
-fn step_by_value(
-    gauge: Gauge,
-    n: u32,
-    start: u32,
-    k: u32,
-    sources: &[u8],
-    targets: &[u8],
-    weights: &[i16],
-    colours: &[u8],
-    b: u32,
-    arc: u32,
-) -> Moved
-    ensures { λ r. ⌜ r ≡ moved (steppedOf n start k (lists (now (sources .entry)) (now (targets .entry)) (now (weights .entry)) (now (colours .entry))) b arc gauge) ⌝ }
+// What a refused start hands back.
+const NO_GAUGE: Gauge = Gauge {
+    mode: 0,
+    charge: 0,
+    spill: 0,
+};
+
+// A refusal, and the gauge that goes with it: as found by a step, NO_GAUGE from a start.
+fn refused(gauge: Gauge, refusal: Refusal) -> Gauged
+    ensures { λ r. ⌜ r ≡ gauged (Verdict.Refused refusal) gauge ⌝ }
 {
-    let gauged = gauge.step(n, start, k, sources, targets, weights, colours, b, arc);
-    let verdict = gauged.verdict;
-    let after = gauged.gauge;
-    Moved {
-        answer: verdict.answer(),
-        gauge: after,
+    Gauged {
+        verdict: Verdict::Refused(refusal),
+        gauge,
     }
 }
 
-// One step of the lent gauge on an arc: number 0 and the gauge moved on, or the first of 1 to 6, 12, 13 and 15 that applies and the gauge as
-// found. For all gauges, numbers and lists.
-pub fn step(
-    gauge: &mut Gauge,
-    n: u32,
-    start: u32,
-    k: u32,
-    sources: &[u8],
-    targets: &[u8],
-    weights: &[i16],
-    colours: &[u8],
-    b: u32,
-    arc: u32,
-) -> Answer
-    ensures { λ r. ⌜ LentStep n start k (lists (now (sources .entry)) (now (targets .entry)) (now (weights .entry)) (now (colours .entry))) b arc (now (gauge .entry)) (now (gauge .exit)) r ⌝ }
+// A yes, and the gauge in this mode with this charge and this total.
+fn accepted(mode: u8, charge: u16, spill: u64) -> Gauged
+    ensures { λ r. ⌜ r ≡ gauged Verdict.Yes (gauge mode charge spill) ⌝ }
 {
-    let done = step_by_value(
-        *gauge,
-        n,
-        start,
-        k,
-        sources,
-        targets,
-        weights,
-        colours,
-        b,
-        arc,
-    );
-    *gauge = done.gauge;
-    done.answer
+    Gauged {
+        verdict: Verdict::Yes,
+        gauge: Gauge {
+            mode,
+            charge,
+            spill,
+        },
+    }
+}
+
+// The gauge after a step that is possible: moved on, or 15 and as found where the total would pass 64 bits.
+fn land(gauge: Gauge, mode: u8, charge: u16, lost: u32) -> Gauged
+    ensures { λ r. ⌜ r ≡ landed gauge mode (Step.To charge lost) ⌝ }
+{
+    let spill = gauge.spill;
+    let more = lost as u64;
+    if spill > Limits::SPILL - more {
+        return refused(gauge, Refusal::ImpossibleStep(0));
+    }
+    accepted(mode, charge, spill + more)
+}
+
+// Refusal 6, and the new gauge, where the model is fit.
+fn start_levelled(start: u8, c: u32, b: u32) -> Gauged
+    ensures { λ r. ⌜ r ≡ stopAt (levelsOf b c) noGauge (gauged Verdict.Yes (gauge start c 0)) ⌝ }
+{
+    let levels = check_levels(c, b);
+    match levels {
+        Verdict::Yes => accepted(start, c as u16, 0),
+        Verdict::Refused(refusal) => refused(NO_GAUGE, refusal),
+    }
+}
+
+// A step on an arc of the model: 12, 13 and 15, or the gauge moved on.
+fn step_on(gauge: Gauge, model: Model, b: u16, arc: u32) -> Gauged
+    requires { ⌜ Holds model ⌝ }
+    ensures { λ r. ⌜ r ≡ movedOf (held model) b arc gauge ⌝ }
+{
+    let count = model.count;
+    if arc >= (count as u32) {
+        return refused(gauge, Refusal::ArcNumber(0));
+    }
+    let taken = model.arcs[arc as usize];
+    if taken.source != gauge.mode {
+        return refused(gauge, Refusal::OtherMode(0));
+    }
+    let next = bounded_step(gauge.charge, taken.weight, b);
+    match next {
+        Step::To(charge, lost) => land(gauge, taken.target, charge, lost),
+        Step::Impossible => refused(gauge, Refusal::ImpossibleStep(0)),
+    }
+}
+
+// Refusal 6, which reads the gauge's own charge, and the step, where the model is fit.
+fn step_levelled(gauge: Gauge, model: Model, b: u32, arc: u32) -> Gauged
+    requires { ⌜ Holds model ⌝ }
+    ensures { λ r. ⌜ r ≡ movedLevelled (held model) b arc gauge ⌝ }
+{
+    let charge = gauge.charge;
+    let levels = check_levels(charge as u32, b);
+    match levels {
+        Verdict::Yes => step_on(gauge, model, b as u16, arc),
+        Verdict::Refused(refusal) => refused(gauge, refusal),
+    }
+}
+
+impl Gauge {
+    // A new gauge with the start mode and the credit c, or the first of 1 to 6 that applies and a gauge of zeros. For all numbers and lists.
+    pub fn start(
+        n: u32,
+        start: u32,
+        k: u32,
+        sources: &[u8],
+        targets: &[u8],
+        weights: &[i16],
+        colours: &[u8],
+        c: u32,
+        b: u32,
+    ) -> Gauged
+        ensures { λ r. ⌜ r ≡ startedOf n start k (lists (now (sources .entry)) (now (targets .entry)) (now (weights .entry)) (now (colours .entry))) b c ⌝ }
+    {
+        let fitted = check_model(n, start, k, sources, targets, weights, colours);
+        let verdict = fitted.verdict;
+        match verdict {
+            Verdict::Yes => start_levelled(fitted.model.start, c, b),
+            Verdict::Refused(refusal) => refused(NO_GAUGE, refusal),
+        }
+    }
+
+    // The gauge after a step on an arc, or the first of 1 to 6, 12, 13 and 15 that applies and the gauge as found. For all gauges, numbers
+    // and lists.
+    pub fn step(
+        self,
+        n: u32,
+        start: u32,
+        k: u32,
+        sources: &[u8],
+        targets: &[u8],
+        weights: &[i16],
+        colours: &[u8],
+        b: u32,
+        arc: u32,
+    ) -> Gauged
+        ensures { λ r. ⌜ r ≡ steppedOf n start k (lists (now (sources .entry)) (now (targets .entry)) (now (weights .entry)) (now (colours .entry))) b arc self ⌝ }
+    {
+        let fitted = check_model(n, start, k, sources, targets, weights, colours);
+        let verdict = fitted.verdict;
+        match verdict {
+            Verdict::Yes => step_levelled(self, fitted.model, b, arc),
+            Verdict::Refused(refusal) => refused(self, refusal),
+        }
+    }
 }

@@ -77,7 +77,7 @@ module _ (g : Automaton) (b : ℕ) where
     where
       go : (s : Step) → ((y : ℕ) → ran g b (u ++ v) (suc i) y ≡ thenRan (ran g b u (suc i) y) (λ x. ran g b v (suc i + length u) x))
           → ranOn s i (ran g b (u ++ v) (suc i)) ≡ thenRan (ranOn s i (ran g b u (suc i))) (λ x. ran g b v (i + suc (length u)) x)
-      go (To y) ih = ih y ∙ rw (add-suc i (length u), suc-add i (length u)) refl
+      go (To y l) ih = ih y ∙ rw (add-suc i (length u), suc-add i (length u)) refl
       go Impossible ih = refl
 
   -- 15 applies with detail i exactly where, of run-in, first and second round in one list, step i is the first that is not possible
@@ -104,7 +104,7 @@ module _ (g : Automaton) (b : ℕ) where
     where
       go : (s : Step) → stepped b (arcAt g a .weight) c ≡ s → ((y : ℕ) → ran g b w (suc k) y ≡ Stops d → (i : ℕ) × (suc k + i ≡ d) × StopsAt w y i)
           → ranOn s k (ran g b w (suc k)) ≡ Stops d → (i : ℕ) × (k + i ≡ d) × StopsAt (a ∷ w) c i
-      go (To y) e ih q = let (i, n, (h, (x, u, v))) = ih y q in (suc i, omega arith, (omega arith, (x, rw e u, v)))
+      go (To y l) e ih q = let (i, n, (h, (x, u, v))) = ih y q in (suc i, omega arith, (omega arith, (x, rw e u, v)))
       go Impossible e ih q = let z : k ≡ d = cc in (0, omega arith, (omega arith, (c, refl, e)))
 
   -- a walk stops at step i exactly where the walk of the i arcs before it ends at some charge, from which step i is not possible

@@ -64,7 +64,7 @@ module _ (g : Automaton) (b : ℕ) where
     where
       on : (s : Step) → ((y : ℕ) → (ran g b w (suc i) y ≡ Through x) ↔ (walkedArcs g b w y ≡ Ends x))
           → (ranOn s i (ran g b w (suc i)) ≡ Through x) ↔ (afterStep s (walkedArcs g b w) ≡ Ends x)
-      on (To y) ih = ih y
+      on (To y l) ih = ih y
       on Impossible ih = (λ q. clash (cc), λ q. clash (cc))
 
   -- two rounds say yes exactly where the first is possible and ends no lower than it began, or the second is also possible and does

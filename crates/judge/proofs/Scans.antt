@@ -53,10 +53,10 @@ module _ (g : Model) (b : ℕ) (w : List ℕ) (i j e : ℕ) where
 
   module _ (h : i < length w) (below : getD w i 0 < g .count) where
     -- a step that is possible leads on
-    pub ran-on : (x : ℕ) → stepped b (arcIn g (getD w i 0) .weight) e ≡ To x
+    pub ran-on : (x l : ℕ) → stepped b (arcIn g (getD w i 0) .weight) e ≡ To x l
         → ran (held g) b (drop i w) (j + i) e ≡ ran (held g) b (drop (i + 1) w) (j + (i + 1)) x
     unfolding ran
-    ran-on x q =
+    ran-on x l q =
         let n : j + suc i ≡ suc (j + i) = omega arith in
         rw (drop-cons w i 0 h, held-arc g (getD w i 0) below, q, add-one i, n) refl
 

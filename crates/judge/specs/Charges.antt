@@ -18,7 +18,7 @@ use Rattle.judge.specs.declared.Ran.the-variants.{Through, Stops}
 
 -- what follows step i goes on from the charge that it leads to
 abbrev pub ranOn : Step → ℕ → (ℕ → Ran) → Ran
-ranOn (To e) i f = f e
+ranOn (To e l) i f = f e
 ranOn Impossible i f = Stops i
 
 -- the arcs walked one after the other from charge e: the charge at the end, or the step that is not possible; the first step has the number i

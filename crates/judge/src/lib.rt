@@ -124,7 +124,7 @@ fn run(model: Model, arcs: &[u8], bound: u16, charge: u16, step: u32) -> Ran
         let arc = model.arcs[arcs[i] as usize];
         let next = bounded_step(reached, arc.weight, bound);
         match next {
-            Step::To(charge) => {
+            Step::To(charge, _) => {
                 reached = charge;
             }
             Step::Impossible => {

@@ -34,6 +34,10 @@ weightLeast = negℤ (pos 10000)
 abbrev pub weightMost : ℤ
 weightMost = pos 10000
 
+-- document 02, Ask 2: "a spill total, kept as a 64-bit number"
+abbrev pub spillMost : ℕ
+spillMost = 18446744073709551615
+
 -- "Working space: 4 × (k+1) × n × (b+1) words."
 abbrev pub workWords : ℕ
 workWords = 4

@@ -11,6 +11,7 @@ ghost use Rattle.limits.specs.Ceilings.{
   planMost,
   weightLeast,
   weightMost,
+  spillMost,
   workWords,
   workLevels,
   planLevels,
@@ -44,6 +45,9 @@ impl Limits {
     // The greatest weight of an arc.
     pub const WEIGHT_MOST: i16 = 10000;
 
+    // The greatest total of charge that spilled over, the last number of 64 bits.
+    pub const SPILL: u64 = 18446744073709551615;
+
     // Working space of search: 4 × (k + 1) × n × (b + 1) words. The words of one entry.
     pub const WORK_WORDS: usize = 4;
 
@@ -67,6 +71,7 @@ impl Limits {
         ensures plan { λ _. do ⌜ (← ⟦Limits::PLAN⟧ .entry) ≡ planMost ⌝ }
         ensures weight_least { λ _. do ⌜ (← ⟦Limits::WEIGHT_LEAST⟧ .entry) ≡ weightLeast ⌝ }
         ensures weight_most { λ _. do ⌜ (← ⟦Limits::WEIGHT_MOST⟧ .entry) ≡ weightMost ⌝ }
+        ensures spill { λ _. do ⌜ (← ⟦Limits::SPILL⟧ .entry) ≡ spillMost ⌝ }
         ensures work_words { λ _. do ⌜ (← ⟦Limits::WORK_WORDS⟧ .entry) ≡ workWords ⌝ }
         ensures work_levels { λ _. do ⌜ (← ⟦Limits::WORK_LEVELS⟧ .entry) ≡ workLevels ⌝ }
         ensures plan_levels { λ _. do ⌜ (← ⟦Limits::PLAN_LEVELS⟧ .entry) ≡ planLevels ⌝ }

@@ -1,47 +1,92 @@
 -- The gauge that walks a judged plan is never refused: its walk ends at the least step that meets the colour, or after all of them.
 -- Assumes nothing.
-use mathlib.Core.Path.{_≡_, refl, _∙_}
-use mathlib.Core.List.{List, [], _∷_}
-use Prim.Native.Nat.{ℕ, suc, _≤_, _<_}
+use mathlib.Core.Path.{_≡_, refl, sym, ap, _∙_, subst}
+use mathlib.Core.Bool.{Bool, true, false, true≢false}
+use mathlib.Core.List.{List, [], _∷_, _++_, append-nil, append-assoc}
+use mathlib.Core.Logic.{_⊎_, inl, inr}
+use Prim.Native.Nat.{ℕ, zero, suc, _+_, _-_, _*_, _≤_, _<_}
+use native.Mathlib.Omega.{arith}
+use native.Mathlib.Decide.{decLe}
+use lib.ListN.{length, take, drop, length-take, take-append-drop}
+use lib.Seq.{take-add, take-append-seam}
 use borrow.Author.Tests.{lt-leb}
-use Rattle.limits.specs.Ceilings.{boundMost}
-use Rattle.walks.specs.Walk.{Ends}
+use Rattle.limits.specs.Ceilings.{boundMost, planMost, spillMost}
+use Rattle.walks.specs.Walk.{Ends, times}
 use Rattle.walks.proofs.Weights.{walked-cons}
 use Rattle.walks.proofs.Charges.{stepped-bound}
 use Rattle.refusals.specs.declared.Verdict.the-variants.{Yes}
 use Rattle.model.specs.declared.Model.{Model}
-use Rattle.model.specs.Automaton.{arcAt, weights}
+use Rattle.model.specs.Automaton.{Automaton, arcAt, meets, weights}
 use Rattle.model.specs.Lists.{Lists, automatonOf, held}
 use Rattle.model.specs.Fitness.{fitness}
-use Rattle.model.specs.Plans.{Plan, Leads, walkedArcs, Serves}
+use Rattle.model.specs.Plans.{Plan, Leads, walkedArcs, Meets, Serves}
 use Rattle.model.proofs.Fitness.{fitness-yes, levels-yes}
 use Rattle.model.proofs.Plans.{serves-walked}
+use Rattle.model.proofs.SomeArc.{some-right}
 use Rattle.judge.specs.Shape.{planOf}
 use Rattle.judge.specs.Judged.{judged}
 use Rattle.judge.proofs.Judged.{judged-yes}
-use Rattle.gauges.specs.Gauge.{gauge, startedOf}
-use Rattle.gauges.proofs.Follows.{moved-yes, step-moved, started-yes}
-use Rattle.planwalk.specs.Walked.{stepsOfPlan, walkOn, gaugeWalk, walkOf, firstMet}
+use Rattle.gauge.specs.Gauge.{gauge, startedOf}
+use Rattle.gauge.proofs.Follows.{lossMost, arc-loss, moved-yes, step-moved, started-yes}
+use Rattle.planwalk.specs.declared.Walked.{Walked}
+use Rattle.planwalk.specs.Walked.{stepsOfPlan, metOr, walkOn, gaugeWalk, walkOf, firstMet}
+
+-- two walks that go on alike where the step does not meet the colour, and one later does or there is no more
+met-or : {A B : Walked} (m : Bool) (Later End : Type 0) (i : ℕ) → ((m ≡ true) ⊎ Later) ⊎ End → (Later ⊎ End → A ≡ B) → metOr m i A ≡ metOr m i B
+met-or true Later End i last rest = refl
+met-or false Later End i (inl (inl met)) rest = absurd (true≢false (sym met))
+met-or false Later End i (inl (inr met)) rest = rest (inl met)
+met-or false Later End i (inr end) rest = rest (inr end)
 
 module _ (n s k : ℕ) (l : Lists) (b : ℕ) (fit : fitness n s k l ≡ Yes) (low : b ≤ boundMost) (j : ℕ) where
-  -- along arcs that lead on and whose walk ends, the gauge walks to the least step that meets the colour
-  pub gauge-least : (w : List ℕ) (m e t x : ℕ) → e ≤ b → Leads (automatonOf n s k l) m w t → walkedArcs (automatonOf n s k l) b w e ≡ Ends x → (i : ℕ)
-      → gaugeWalk n s k l b j w i (gauge m e) ≡ firstMet (automatonOf n s k l) j w i
+  -- Along arcs w that lead on and whose walk ends, the gauge walks to the least step that meets the colour, whatever arcs v stand behind them,
+  -- if one of w meets it or v has none; its total has room for what w may lose.
+  pub gauge-least : (w v : List ℕ) (m e y t x : ℕ) → e ≤ b → y + length w * lossMost ≤ spillMost → Leads (automatonOf n s k l) m w t
+      → walkedArcs (automatonOf n s k l) b w e ≡ Ends x → Meets (automatonOf n s k l) j w ⊎ (v ≡ []) → (i : ℕ)
+      → gaugeWalk n s k l b j (w ++ v) i (gauge m e y) ≡ firstMet (automatonOf n s k l) j (w ++ v) i
   unfolding gaugeWalk firstMet
-  gauge-least [] m e t x h leads q i = refl
-  gauge-least (a ∷ w) m e t x h (below, source, leads) q i =
+  gauge-least [] v m e y t x h room leads q (inl none) i = absurd none
+  gauge-least [] v m e y t x h room leads q (inr end) i = rw end refl
+  gauge-least (a ∷ w) v m e y t x h room (below, source, leads) q last i =
       let g = automatonOf n s k l in
+      let f = arcAt g a .weight in
       let u = arcAt g a .target in
-      let (y, f, r) = walked-cons b (arcAt g a .weight) (weights g w) e x .0 q in
-      let step = step-moved n s k l b a (gauge m e) fit (levels-yes b e .1 (low, h)) ∙ moved-yes g b a m e u y .1 (below, source, refl, f) in
-      rw (step, gauge-least w u y t x (stepped-bound b (arcAt g a .weight) e y h f) leads r (suc i)) refl
+      let (z, lost, to, r) = walked-cons b f (weights g w) e x .0 q in
+      let little = arc-loss n s k l b a e z lost fit h below to in
+      let step =
+      step-moved n s k l b a (gauge m e y) fit (levels-yes b e .1 (low, h))
+      ∙ moved-yes g b a m e y u z (y + lost) .1 (below, source, refl, (lost, to, refl, omega arith))
+      in
+      rw step
+      (met-or (meets g j a) (Meets g j w) (v ≡ []) (suc i) last
+      (λ rest. gauge-least w v u z (y + lost) t x (stepped-bound b f e z lost h to) (omega arith) leads r rest (suc i)))
 
-  -- the same of the first steps of a plan that serves, from the start
-  plan-least : (c : ℕ) (p : Plan) → c ≤ b → Serves (automatonOf n s k l) b c p → (t : ℕ)
+  -- the same of the first steps of a plan that serves, from the start: prefix and one round meet every colour
+  plan-least : (c : ℕ) (p : Plan) → c ≤ b → Serves (automatonOf n s k l) b c p → length (p .prefix ++ p .cycle) ≤ planMost → j < k → (t : ℕ)
       → walkOn (startedOf n s k l b c) (gaugeWalk n s k l b j (stepsOfPlan p t) 0) ≡ firstMet (automatonOf n s k l) j (stepsOfPlan p t) 0
-  plan-least c p h serves t =
-      let (m, x, leads, ends) = serves-walked (automatonOf n s k l) b c p serves t t in
-      rw (started-yes n s k l b c fit (levels-yes b c .1 (low, h))) (gauge-least (stepsOfPlan p t) s c m x h leads ends 0)
+  plan-least c p h serves short hj t =
+      rw (started-yes n s k l b c fit (levels-yes b c .1 (low, h)))
+      (elim (decLe t (length (p .prefix ++ p .cycle))) [
+        | yes q ↦
+            let (m, x, leads, ends) = serves-walked (automatonOf n s k l) b c p serves t t in
+            let w = stepsOfPlan p t in
+            subst (λ (u : List ℕ). gaugeWalk n s k l b j u 0 (gauge s c 0) ≡ firstMet (automatonOf n s k l) j u 0) (append-nil w)
+            (gauge-least w [] s c 0 m x h (omega (arith, length-take t (p .prefix ++ times t (p .cycle)))) leads ends (inr refl) 0)
+        | no q ↦
+            let d = length (p .prefix ++ p .cycle) in
+            let all = p .prefix ++ times t (p .cycle) in
+            let (m, x, leads, ends) = serves-walked (automatonOf n s k l) b c p serves t d in
+            let whole : d + (t - d) ≡ t = omega arith in
+            let e : take d all ++ take (t - d) (drop d all) ≡ take t all = sym (take-add d (t - d) all) ∙ ap (λ (i : ℕ). take i all) whole in
+            subst (λ (u : List ℕ). gaugeWalk n s k l b j u 0 (gauge s c 0) ≡ firstMet (automatonOf n s k l) j u 0) e
+            (gauge-least (take d all) (take (t - d) (drop d all)) s c 0 m x h (omega (arith, length-take d all)) leads ends
+            (inl (subst (Meets (automatonOf n s k l) j) (sym (once (p .prefix) (p .cycle) t (omega arith)))
+            (some-right (meets (automatonOf n s k l) j) (p .prefix) (p .cycle) (serves .accepted j hj)))) 0)
+      ])
+    where
+      once : (u v : List ℕ) (t : ℕ) → 0 < t → take (length (u ++ v)) (u ++ times t v) ≡ u ++ v
+      once u v zero h = absurd (omega arith)
+      once u v (suc t) h = rw (sym (append-assoc u v (times t v))) (take-append-seam (u ++ v) (times t v))
 
 module _ (n s k : ℕ) (l : Lists) (b c p q : ℕ) (w : List ℕ) (yes : judged n s k l b c p q w ≡ Yes) (j t : ℕ) (h : j < k) where
   -- the call, for a plan that judging accepts and a colour of the model
@@ -50,7 +95,9 @@ module _ (n s k : ℕ) (l : Lists) (b c p q : ℕ) (w : List ℕ) (yes : judged 
   walk-least =
       let right = judged-yes n s k l b c p q w .0 yes in
       let fit = fitness-yes n s k l .1 (right .equal, right .fit) in
-      rw (yes, lt-leb k j h) (plan-least n s k l b fit (right .bound) j c (planOf p w) (right .credit) (right .serves) t)
+      rw (yes, lt-leb k j h)
+      (plan-least n s k l b fit (right .bound) j c (planOf p w) (right .credit) (right .serves)
+      (omega (arith, right .lengths .short, ap {B = ℕ} length (take-append-drop p w))) h t)
 
   -- the same of the model as the code holds it
   pub held-least : (g : Model) → held g ≡ automatonOf n s k l → firstMet (held g) j (stepsOfPlan (planOf p w) t) 0 ≡ walkOf n s k l b c p q w j t

@@ -15,9 +15,9 @@ use Rattle.model.specs.Lists.{Lists, automatonOf}
 use Rattle.model.specs.Plans.{Plan}
 use Rattle.judge.specs.Shape.{planOf}
 use Rattle.judge.specs.Judged.{judged}
-use Rattle.gauges.specs.declared.Gauge.{Gauge}
-use Rattle.gauges.specs.declared.Gauged.{Gauged}
-use Rattle.gauges.specs.Gauge.{startedOf, steppedOf}
+use Rattle.gauge.specs.declared.Gauge.{Gauge}
+use Rattle.gauge.specs.declared.Gauged.{Gauged}
+use Rattle.gauge.specs.Gauge.{startedOf, steppedOf}
 use Rattle.planwalk.specs.declared.Walked.{Walked}
 use Rattle.planwalk.specs.declared.Walked.the-variants as outcome
 use Rattle.planwalk.specs.declared.WalkAnswer.{WalkAnswer}

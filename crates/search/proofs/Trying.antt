@@ -1,17 +1,15 @@
 -- What relax meets at an arc: the step that it takes, or that there is none; and what visit has from place to place. Assumes nothing.
-use mathlib.Core.Path.{_≡_, refl, ap, _∙_}
-use mathlib.Core.Bool.{Bool, true, false}
+use mathlib.Core.Path.{_≡_, refl, sym, ap, _∙_}
+use mathlib.Core.Bool.{Bool, false}
 use mathlib.Core.List.{List}
 use Prim.Native.Nat.{ℕ, _+_, _%_, _≤_, _<_}
 use native.Mathlib.Nat.{mod-lt}
 use native.Mathlib.Omega.{arith}
-use lib.Dec.{leb}
 use lib.ListN.{length}
-use borrow.Author.Tests.{leb-true, le-leb}
 use Rattle.walks.specs.declared.Step.the-variants.{To, Impossible}
-use Rattle.walks.specs.Moves.{after, possibleIf, moved}
+use Rattle.walks.specs.Moves.{moved}
+use Rattle.walks.proofs.Weights.{moved-to, moved-off}
 use Rattle.limits.specs.Ceilings.{modesMost, arcsMost, coloursMost}
-use Rattle.refusals.proofs.Verdicts.{clash}
 use Rattle.model.specs.Automaton.{bit}
 use Rattle.groups.specs.Rows.{sourceAt, targetAt, drawAt, gainAt, coloursAt}
 use Rattle.groups.specs.Grouped.{firstPlace, arcPlaced}
@@ -85,7 +83,6 @@ module _ {rows places : List ℕ} {t : Task} {m : Aim} {h : Entry} {i : ℕ} {be
   -- the step is not possible
   pub relax-impossible : moved (t .bound) (record { draw = d; gain = g }) (h .charge) ≡ Impossible
       → Relaxed (passOf rows places t m) h i best w tail best w (record { found = false; head = h .index; arc = a; tail = tail })
-  unfolding moved
   relax-impossible e =
       record {
         tried =
@@ -94,36 +91,26 @@ module _ {rows places : List ℕ} {t : Task} {m : Aim} {h : Entry} {i : ℕ} {be
             (λ u x s.
             let drawn : drawAt rows (arcPlaced places i) ≤ chargeAt w (h .index) = s .possible in
             let low : d ≤ h .charge = omega (arith, charge-same f, r .draw, ap {B = ℕ} (drawAt rows) (r .arc)) in
-            let possible = le-leb d (h .charge) low in
-            let off : To (after (t .bound) (record { draw = d; gain = g }) (h .charge)) ≡ Impossible = rw possible at e in
-            clash (cc)));
+            let high = moved-off (t .bound) (record { draw = d; gain = g }) (h .charge) e in
+            absurd (omega arith)));
         entry = refl;
       }
 
   -- the step that the arc takes
-  pub relax-along : {u x k y : ℕ} → moved (t .bound) (record { draw = d; gain = g }) (h .charge) ≡ To x → k ≡ coloursAt rows a
+  pub relax-along : {u x l k y : ℕ} → moved (t .bound) (record { draw = d; gain = g }) (h .charge) ≡ To x l → k ≡ coloursAt rows a
       → y ≡ targetAt rows a → u ≡ node (t .modes) (levelAfter (m .last) k (h .level)) y
       → Along (passOf rows places t m) (arcPlaced places i) (nodeAt w (h .index)) (chargeAt w (h .index)) u x
-  unfolding moved levelAfter
-  relax-along {u} {x} e ek ey eu =
-      let (low, left) = moved-to d g x e in
+  unfolding levelAfter
+  relax-along {u} {x} {l} e ek ey eu =
+      let (low, left, cut) = moved-to (t .bound) (record { draw = d; gain = g }) (h .charge) x l .0 e in
       record {
         known = arc-known f;
         allowed = refl;
         leaves = arc-leaves f;
         possible = omega (arith, charge-same f, r .draw, ap {B = ℕ} (drawAt rows) (r .arc));
-        left = left ∙ rw (r .draw, r .gain, r .arc, charge-same f) refl;
+        left = sym left ∙ rw (r .draw, r .gain, r .arc, charge-same f) refl;
         enters = eu ∙ rw (ek, ey, r .arc, level-same f) refl;
       }
-    where
-      moved-to : (d g x : ℕ) → possibleIf (leb d (h .charge)) (To (after (t .bound) (record { draw = d; gain = g }) (h .charge))) ≡ To x
-          → (d ≤ h .charge) × (x ≡ after (t .bound) (record { draw = d; gain = g }) (h .charge))
-      moved-to d g x e = go (leb d (h .charge)) refl e
-        where
-          go : (b : Bool) → leb d (h .charge) ≡ b → possibleIf b (To (after (t .bound) (record { draw = d; gain = g }) (h .charge))) ≡ To x
-              → (d ≤ h .charge) × (x ≡ after (t .bound) (record { draw = d; gain = g }) (h .charge))
-          go true q s = (leb-true d (h .charge) q, cc)
-          go false q s = clash (cc)
 
 -- where the arc takes a step
 module _ {rows places : List ℕ} {t : Task} {m : Aim} {h : Entry} {i : ℕ} {best w : List ℕ} {tail a u x : ℕ}

@@ -155,7 +155,7 @@ fn relax(
         task.bound,
     );
     match step {
-        Step::To(charge) => {
+        Step::To(charge, _) => {
             let node = entered(
                 task.modes,
                 aim.last,

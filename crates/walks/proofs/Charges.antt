@@ -39,9 +39,9 @@ pub walked-bound : (b : ℕ) (ws : List ℤ) (e x : ℕ) → e ≤ b → walked 
 walked-bound b ws e x h q = omega (arith, walked-to b ws e x q .1, charge-bound b (map moveOf ws) e h)
 
 -- .. also of a single step ..
-pub stepped-bound : (b : ℕ) (w : ℤ) (e x : ℕ) → e ≤ b → stepped b w e ≡ To x → x ≤ b
+pub stepped-bound : (b : ℕ) (w : ℤ) (e x l : ℕ) → e ≤ b → stepped b w e ≡ To x l → x ≤ b
 unfolding walked
-stepped-bound b w e x h q = walked-bound b (w ∷ []) e x h (rw q refl)
+stepped-bound b w e x l h q = walked-bound b (w ∷ []) e x h (rw q refl)
 
 -- .. and monotone: a walk that is possible is possible from more, and ends no lower
 pub walked-mono : (b : ℕ) (ws : List ℤ) (e e′ x : ℕ) → e ≤ e′ → walked b ws e ≡ Ends x → (x′ : ℕ) × (walked b ws e′ ≡ Ends x′) × (x ≤ x′)

@@ -3,16 +3,18 @@
 use mathlib.Core.Path.{_≡_, refl, sym, ap, _∙_}
 use mathlib.Core.List.{List, [], _∷_, map}
 use mathlib.Core.Logic.{_↔_}
-use Prim.Native.Nat.{ℕ, zero, suc, _+_, _-_, _≤_, min}
+use Prim.Native.Nat.{ℕ, suc, _+_, _-_, _≤_, min}
 use native.Mathlib.Omega.{arith}
 use native.Mathlib.Decide.{decLe}
-use borrow.Author.Tests.{le-ltb}
-use lib.IntN.{ℤ, pos, negsuc, _+ℤ_, _-ℤ_, +ℤ-assoc, +ℤ-comm, +ℤ-idr, +ℤ-invl, +ℤ-negℤ-cancel, pos-+ℤ-pos}
+use lib.IntN.{ℤ, pos, negsuc, natAbs, _+ℤ_, _-ℤ_, +ℤ-assoc, +ℤ-comm, +ℤ-idr, +ℤ-invl, +ℤ-negℤ-cancel, pos-+ℤ-pos}
 use Rattle.walks.specs.declared.Step.the-variants.{To}
 use Rattle.walks.specs.BoundedStep.{stepped}
 use Rattle.walks.specs.Walk.{Ends, walked, total}
 use Rattle.walks.specs.Moves.{Move, moveOf, drawOf, gainOf, after, charge, draws, gains, Possible}
+use Rattle.walks.specs.Spill.{spilled}
+use Rattle.walks.proofs.Sums.{difference}
 use Rattle.walks.proofs.Weights.{walked-moves}
+use Rattle.walks.proofs.Spill.{step-balance, walk-balance}
 
 module _ (b : ℕ) where
   -- What a list of moves does to every charge up to the bound: it is possible exactly from need on, and then takes e to the smaller of
@@ -90,25 +92,28 @@ total-moves (w ∷ ws) =
     ∙ ap (λ (z : ℤ). pos (gainOf w) +ℤ z) (total-moves ws)
     ∙ pos-+ℤ-pos (gainOf w) (gains (map moveOf ws))
 
-less : (a d : ℕ) → d ≤ a → pos a -ℤ pos d ≡ pos (a - d)
-less a zero h = ap {B = ℤ} pos (omega arith)
-less a (suc d) h = rw (le-ltb a (suc d) h)
-
 -- a step with the sum W of the weights, where it is not below 0
-step-total : (M e x D G : ℕ) (W : ℤ) → W +ℤ pos D ≡ pos G → x + D ≡ min (e + G) (M + D) → stepped M W e ≡ To x
+step-total : (M e x D G : ℕ) (W : ℤ) → W +ℤ pos D ≡ pos G → x + D ≡ min (e + G) (M + D) → (l : ℕ) × (stepped M W e ≡ To x l)
 unfolding stepped
 step-total M e x D G W q h =
     let s : pos e +ℤ W ≡ pos (e + G - D) =
     sym (+ℤ-negℤ-cancel (pos e +ℤ W) (pos D))
     ∙ ap (λ (z : ℤ). z -ℤ pos D) (+ℤ-assoc (pos e) W (pos D) ∙ ap (λ (z : ℤ). pos e +ℤ z) q ∙ pos-+ℤ-pos e G)
-    ∙ less (e + G) D (omega arith)
+    ∙ difference (e + G) D (omega arith)
     in
     let m : min (e + G - D) M ≡ x = omega arith in
-    rw (s, m)
+    (e + G - D - M, rw (s, m) refl)
 
--- The law as the paper words it: a walk of these weights, where possible, is one step with their sum, under some bound M.
+-- .. and it loses what the walk of the weights lost, since both come from one charge to one charge with one sum
+loses-alike : (M b : ℕ) (ws : List ℤ) (e x l : ℕ) → stepped M (total ws) e ≡ To x l → walked b ws e ≡ Ends x → l ≡ spilled b ws e
+loses-alike M b ws e x l p q =
+    let same = sym (step-balance M (total ws) e x l p) ∙ walk-balance b ws e x q in
+    omega (arith, ap {B = ℕ} natAbs same)
+
+-- The law as the paper words it: a walk of these weights, where possible, is one step with their sum, under some bound M, in the charge that
+-- it leads to and in what is lost.
 pub closed-walk : (b : ℕ) (ws : List ℤ) →
-    (M : ℕ) × (M ≤ b) × ((e x : ℕ) → e ≤ b → walked b ws e ≡ Ends x → stepped M (total ws) e ≡ To x)
+    (M : ℕ) × (M ≤ b) × ((e x : ℕ) → e ≤ b → walked b ws e ≡ Ends x → stepped M (total ws) e ≡ To x (spilled b ws e))
 closed-walk b ws =
     let l = walk-law b (map moveOf ws) in (
       l .top,
@@ -117,5 +122,8 @@ closed-walk b ws =
           let k = walked-moves b ws e in
           let p = k .possible .0 (rw q tt) in
           let i : charge b (map moveOf ws) e ≡ x = cc (k .leads p) in
-          step-total (l .top) e x (draws (map moveOf ws)) (gains (map moveOf ws)) (total ws) (total-moves ws) (rw i at (l .value e h p)),
+          let (lost, step) =
+          step-total (l .top) e x (draws (map moveOf ws)) (gains (map moveOf ws)) (total ws) (total-moves ws) (rw i at (l .value e h p))
+          in
+          step ∙ ap (To x) (loses-alike (l .top) b ws e x lost step q),
     )

@@ -3,6 +3,7 @@ pub mod Signs
 pub mod Sums
 pub mod Weights
 pub mod Charges
+pub mod Spill
 pub mod ClosedWalk
 pub mod Rounds
 pub mod Merge

@@ -1,8 +1,8 @@
 -- The sum of a charge and a signed weight, cut off at the bound, as `bounded_step` makes it: how it is made, that it fits, and where it leads.
 -- Assumes nothing.
-use mathlib.Core.Path.{_≡_, refl, sym, ap}
+use mathlib.Core.Path.{_≡_, refl, sym, ap, _∙_}
 use mathlib.Core.Bool.{Bool, true, false, cond, true≢false}
-use Prim.Native.Nat.{ℕ, zero, suc, min, _+_, _-_, _<_}
+use Prim.Native.Nat.{ℕ, zero, suc, min, _+_, _-_, _≤_, _<_}
 use native.Mathlib.Decide.{decLe}
 use native.Mathlib.Omega.{arith}
 use borrow.Author.Tests.{ltb-true, ltb-false, lt-ltb, le-ltb}
@@ -13,6 +13,11 @@ use mir.Syntax.{w16, w32}
 use mir.Val.{Fits, SFits}
 use Rattle.walks.specs.declared.Step.the-variants.{To, Impossible}
 use Rattle.walks.specs.BoundedStep.{clipped}
+
+-- a difference that is not below 0
+pub difference : (a d : ℕ) → d ≤ a → pos a -ℤ pos d ≡ pos (a - d)
+difference a zero h = ap {B = ℤ} pos (omega arith)
+difference a (suc d) h = rw (le-ltb a (suc d) h)
 
 -- a sum cut off at the bound: the smaller of the two
 abbrev pub cutOff : ℕ → ℤ → ℤ
@@ -55,7 +60,7 @@ smaller-sum b e z = by (ltZ (pos e) (pos b -ℤ z)) refl
 
 -- none of the numbers on the way is too great for a signed word of 32 bits: the sum and the difference of two words of 16 bits, and the sum
 -- cut off
-sum-sfits : (e : ℕ) (z : ℤ) → Fits w16 e → mag z < 65536 → SFits w32 (pos e +ℤ z)
+pub sum-sfits : (e : ℕ) (z : ℤ) → Fits w16 e → mag z < 65536 → SFits w32 (pos e +ℤ z)
 sum-sfits e (pos x) f g = record { sfits = omega (arith, f .fits) }
 sum-sfits e (negsuc x) f g =
     elim (decLe (suc x) e) [
@@ -83,9 +88,30 @@ pub cut-fits : (b : ℕ) (s : ℤ) → Fits w16 b → ltZ (cutOff b s) (pos 0) �
 cut-fits b (pos n) f h = (tt, record { fits = omega (arith, f .fits) })
 cut-fits b (negsuc n) f h = absurd (true≢false h)
 
--- .. and the charge that the step leads to
-pub cut-leads : (b : ℕ) (s : ℤ) → ltZ (cutOff b s) (pos 0) ≡ false → To (natAbs (cutOff b s)) ≡ clipped b s
-cut-leads b (pos n) h = refl
+-- what is cut off of it
+cut-rest : (b n : ℕ) → pos n -ℤ pos (min n b) ≡ pos (n - b)
+cut-rest b n = difference n (min n b) (omega arith) ∙ ap {B = ℤ} pos (omega arith)
+
+-- .. is a word of 32 bits, signed or unsigned
+pub lost-sfits : (b e : ℕ) (z : ℤ) → Fits w16 e → SFits w16 z → ltZ (cutOff b (pos e +ℤ z)) (pos 0) ≡ false
+    → SFits w32 ((pos e +ℤ z) -ℤ cutOff b (pos e +ℤ z))
+lost-sfits b e z f g h = go (pos e +ℤ z) (sum-sfits e z f (omega (arith, g .sfits))) h
+  where
+    go : (s : ℤ) → SFits w32 s → ltZ (cutOff b s) (pos 0) ≡ false → SFits w32 (s -ℤ cutOff b s)
+    go (pos n) k h = rw (cut-rest b n) (record { sfits = omega (arith, k .sfits) })
+    go (negsuc n) k h = absurd (true≢false h)
+
+pub lost-fits : (b e : ℕ) (z : ℤ) → Fits w16 e → SFits w16 z → ltZ (cutOff b (pos e +ℤ z)) (pos 0) ≡ false
+    → T (nonNeg ((pos e +ℤ z) -ℤ cutOff b (pos e +ℤ z))) × Fits w32 (natAbs ((pos e +ℤ z) -ℤ cutOff b (pos e +ℤ z)))
+lost-fits b e z f g h = go (pos e +ℤ z) (sum-sfits e z f (omega (arith, g .sfits))) h
+  where
+    go : (s : ℤ) → SFits w32 s → ltZ (cutOff b s) (pos 0) ≡ false → T (nonNeg (s -ℤ cutOff b s)) × Fits w32 (natAbs (s -ℤ cutOff b s))
+    go (pos n) k h = rw (cut-rest b n) (tt, record { fits = omega (arith, k .sfits) })
+    go (negsuc n) k h = absurd (true≢false h)
+
+-- .. and the charge that the step leads to, with what is cut off
+pub cut-leads : (b : ℕ) (s : ℤ) → ltZ (cutOff b s) (pos 0) ≡ false → To (natAbs (cutOff b s)) (natAbs (s -ℤ cutOff b s)) ≡ clipped b s
+cut-leads b (pos n) h = rw (cut-rest b n) refl
 cut-leads b (negsuc n) h = absurd (true≢false h)
 
 -- where it is below 0, the step is not possible

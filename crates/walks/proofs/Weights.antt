@@ -13,7 +13,7 @@ use Rattle.walks.specs.declared.Step.{Step}
 use Rattle.walks.specs.declared.Step.the-variants.{To, Impossible}
 use Rattle.walks.specs.BoundedStep.{stepped}
 use Rattle.walks.specs.Walk.{End, Ends, Blocked, afterStep, afterWalk, walked, IsPossible, times}
-use Rattle.walks.specs.Moves.{Move, moveOf, after, moved, charge, Possible}
+use Rattle.walks.specs.Moves.{Move, moveOf, after, lost, moved, charge, Possible}
 
 -- the step with weight w is the step by its move
 pub stepped-moved : (b : ℕ) (w : ℤ) (e : ℕ) → stepped b w e ≡ moved b (moveOf w) e
@@ -28,7 +28,7 @@ stepped-moved b (negsuc x) e =
     ]
 
 -- a move that is possible leads to the charge after it, and any other leads nowhere
-moved-possible : (b : ℕ) (m : Move) (e : ℕ) → m .draw ≤ e → moved b m e ≡ To (after b m e)
+moved-possible : (b : ℕ) (m : Move) (e : ℕ) → m .draw ≤ e → moved b m e ≡ To (after b m e) (lost b m e)
 unfolding moved
 moved-possible b m e h = rw (le-leb (m .draw) e h)
 
@@ -36,17 +36,28 @@ moved-impossible : (b : ℕ) (m : Move) (e : ℕ) → e < m .draw → moved b m 
 unfolding moved
 moved-impossible b m e h = rw (lt-leb (m .draw) e h)
 
--- a weight leads to x exactly where its move is possible and leads to x
-pub stepped-to : (b : ℕ) (w : ℤ) (e x : ℕ) → (stepped b w e ≡ To x) ↔ ((moveOf w .draw ≤ e) × (after b (moveOf w) e ≡ x))
-stepped-to b w e x =
-    elim (decLe (moveOf w .draw) e) [
-      | yes h ↦
-          let q = stepped-moved b w e ∙ moved-possible b (moveOf w) e h in
-          (λ p. (h, cc), λ p. q ∙ ap To (p .1))
+-- a move leads to x and loses l exactly where it is possible, x is the charge after it, and l what it loses
+pub moved-to : (b : ℕ) (m : Move) (e x l : ℕ) → (moved b m e ≡ To x l) ↔ ((m .draw ≤ e) × (after b m e ≡ x) × (lost b m e ≡ l))
+moved-to b m e x l =
+    elim (decLe (m .draw) e) [
+      | yes h ↦ let q = moved-possible b m e h in (λ p. (h, cc, cc), λ (i, j, k). q ∙ cc)
       | no h ↦
-          let q = stepped-moved b w e ∙ moved-impossible b (moveOf w) e (omega arith) in
+          let q = moved-impossible b m e (omega arith) in
           (λ p. absurd (let z : _≡_ {A = ℕ} 0 1 = cc in omega arith), λ p. absurd (h (p .0)))
     ]
+
+-- .. and it leads nowhere only where the charge is below the draw
+pub moved-off : (b : ℕ) (m : Move) (e : ℕ) → moved b m e ≡ Impossible → e < m .draw
+moved-off b m e p =
+    elim (decLe (m .draw) e) [
+      | yes h ↦ let q = moved-possible b m e h in absurd (let z : _≡_ {A = ℕ} 0 1 = cc in omega arith)
+      | no h ↦ omega arith
+    ]
+
+-- the same of a weight
+pub stepped-to : (b : ℕ) (w : ℤ) (e x l : ℕ)
+    → (stepped b w e ≡ To x l) ↔ ((moveOf w .draw ≤ e) × (after b (moveOf w) e ≡ x) × (lost b (moveOf w) e ≡ l))
+stepped-to b w e x l = rw (stepped-moved b w e) (moved-to b (moveOf w) e x l)
 
 -- what the theory says of a walk of moves, about the walk of weights
 pub record WalksAlike (b : ℕ) (ws : List ℤ) (e : ℕ) : Type 0 where
@@ -92,19 +103,19 @@ walked-to b ws e x q =
 
 -- a walk of one more weight ends exactly where its first step is possible and the others end
 pub walked-cons : (b : ℕ) (w : ℤ) (ws : List ℤ) (e x : ℕ) → (walked b (w ∷ ws) e ≡ Ends x)
-    ↔ ((y : ℕ) × (stepped b w e ≡ To y) × (walked b ws y ≡ Ends x))
+    ↔ ((y : ℕ) × (l : ℕ) × (stepped b w e ≡ To y l) × (walked b ws y ≡ Ends x))
 unfolding walked
 walked-cons b w ws e x = go (stepped b w e)
   where
-    go : (s : Step) → (afterStep s (walked b ws) ≡ Ends x) ↔ ((y : ℕ) × (s ≡ To y) × (walked b ws y ≡ Ends x))
-    go (To y) = (λ q. (y, refl, q), λ (u, p, q). cc)
+    go : (s : Step) → (afterStep s (walked b ws) ≡ Ends x) ↔ ((y : ℕ) × (l : ℕ) × (s ≡ To y l) × (walked b ws y ≡ Ends x))
+    go (To y l) = (λ q. (y, l, refl, q), λ (u, v, p, q). let i : y ≡ u = cc in rw i q)
     go Impossible = (
       λ q. absurd (let z : _≡_ {A = ℕ} 0 1 = cc in omega arith),
-      λ (u, p, q). absurd (let z : _≡_ {A = ℕ} 0 1 = cc in omega arith),
+      λ (u, v, p, q). absurd (let z : _≡_ {A = ℕ} 0 1 = cc in omega arith),
     )
 
 after-step-assoc : (s : Step) (f g h : ℕ → End) → ((e : ℕ) → f e ≡ afterWalk (g e) h) → afterStep s f ≡ afterWalk (afterStep s g) h
-after-step-assoc (To e) f g h k = k e
+after-step-assoc (To e l) f g h k = k e
 after-step-assoc Impossible f g h k = refl
 
 -- a walk of two lists is the one, and then the other

@@ -32,13 +32,17 @@ moveOf w = record { draw = drawOf w; gain = gainOf w }
 abbrev pub after : ℕ → Move → ℕ → ℕ
 after b m e = min (e - m .draw + m .gain) b
 
+-- what a possible move loses: the part of e - draw + gain above the bound
+abbrev pub lost : ℕ → Move → ℕ → ℕ
+lost b m e = e - m .draw + m .gain - b
+
 abbrev pub possibleIf : Bool → Step → Step
 possibleIf true s = s
 possibleIf false s = Impossible
 
 -- the step by a move: possible where the charge is at least the draw
 unfoldable pub moved : ℕ → Move → ℕ → Step
-moved b m e = possibleIf (leb (m .draw) e) (To (after b m e))
+moved b m e = possibleIf (leb (m .draw) e) (To (after b m e) (lost b m e))
 
 -- the charge after the moves
 abbrev pub charge : ℕ → List Move → ℕ → ℕ

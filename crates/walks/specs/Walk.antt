@@ -16,7 +16,7 @@ pub data End : Type 0 where
 
 -- what follows a step goes on from the charge that it leads to
 abbrev pub afterStep : Step → (ℕ → End) → End
-afterStep (To e) f = f e
+afterStep (To e l) f = f e
 afterStep Impossible f = Blocked
 
 -- what follows a walk goes on from the charge at its end

@@ -5,9 +5,9 @@ ghost use lib.Signed.{ltZ};
 ghost use Rattle.walks.specs.BoundedStep.{stepped};
 ghost use Rattle.walks.specs.Moves.{drawOf, gainOf, moved};
 
-// The charge that a step leads to, or that it is not possible.
+// The charge that a step leads to, with what the bound cut off, or that it is not possible.
 pub enum Step {
-    To(u16),
+    To(u16, u32),
     Impossible,
 }
 
@@ -40,9 +40,9 @@ pub fn bounded_move(charge: u16, draw: u16, gain: u16, bound: u16) -> Step
     }
     let sum = ((charge - draw) as u32) + (gain as u32);
     if sum < (bound as u32) {
-        return Step::To(sum as u16);
+        return Step::To(sum as u16, 0);
     }
-    Step::To(bound)
+    Step::To(bound, sum - (bound as u32))
 }
 
 // The smaller of two numbers.
@@ -55,9 +55,9 @@ fn smaller(x: i32, y: i32) -> i32
     y
 }
 
-// A step on an arc with this weight: to the smaller of charge + weight and the bound, possible only where charge + weight is at
-// least 0. For all charges, weights and bounds. The charge is cut off at what leads to the bound before the weight is added, so that no
-// branch hangs on the sign of the weight or on the bound.
+// A step on an arc with this weight: to the smaller of charge + weight and the bound, with what the bound cut off, possible only where
+// charge + weight is at least 0. For all charges, weights and bounds. The charge is cut off at what leads to the bound before the weight is
+// added, so that no branch hangs on the sign of the weight or on the bound.
 pub fn bounded_step(charge: u16, weight: i16, bound: u16) -> Step
     ensures { λ r. ⌜ r ≡ stepped bound weight charge ⌝ }
 {
@@ -67,5 +67,8 @@ pub fn bounded_step(charge: u16, weight: i16, bound: u16) -> Step
     if sum < 0 {
         return Step::Impossible;
     }
-    Step::To(sum as u16)
+    let whole = (charge as i32) + change;
+    let reached = sum as u16;
+    let lost = (whole - sum) as u32;
+    Step::To(reached, lost)
 }

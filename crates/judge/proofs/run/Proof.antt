@@ -82,7 +82,7 @@ loop-again c =
       omega arith,
       d .loop .inv .1
           ∙ ran-on (a .t1) (a .bound) (a .arcs .now) (d .loop .i) (a .step) (d .loop .reached) (omega arith)
-          (d .before .before .pre .0 .below (d .loop .i) (omega arith)) _
+          (d .before .before .pre .0 .below (d .loop .i) (omega arith)) _ _
           (simp back at (sym (c .before .before .before .bounded-step .ensures) ∙ c .before .next .given .1)),
     )
 

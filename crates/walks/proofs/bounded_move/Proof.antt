@@ -26,7 +26,11 @@ unfolding moved
 returns-2 c =
     let a = c .before .before .args in
     let m : min (a .charge - a .draw + a .gain) (a .bound) ≡ a .charge - a .draw + a .gain = omega arith in
-    simp (le-leb _ _ (c .before .if1 .left), m)
+    let l : a .charge - a .draw + a .gain - a .bound ≡ 0 = omega arith in
+    simp (le-leb _ _ (c .before .if1 .left), m, l)
+
+sub-t8 : tie.Need-sub-t8
+sub-t8 c = search needs
 
 returns-3 : tie.Need-returns-3
 unfolding moved
@@ -36,4 +40,4 @@ returns-3 c =
     simp (le-leb _ _ (c .before .if1 .left), m)
 
 pub bounded-move-spec : {M : Type 1} → statement M
-bounded-move-spec = tie.close (tie.spec returns cast-sum add-sum cast-t10 returns-2 returns-3)
+bounded-move-spec = tie.close (tie.spec returns cast-sum add-sum cast-t10 returns-2 sub-t8 returns-3)

@@ -1,13 +1,16 @@
 -- `walks::bounded_step` meets its contract: the number that it makes is the sum of charge and weight, cut off at the bound. Assumes nothing.
-use mathlib.Core.Path.{_≡_}
-use lib.IntN.{ℤ, pos, _+ℤ_}
+use mathlib.Core.Path.{_≡_, refl}
+use mathlib.Core.Bool.{false}
+use native.Mathlib.Omega.{arith}
+use lib.IntN.{ℤ, pos, _+ℤ_, _-ℤ_}
+use lib.Signed.{ltZ}
 use mir.Facts.{toZ-ofZ, sfits-widen}
 use mir.Syntax.{w16, w32}
 use mir.Val.{SFits, toZ, ofZ}
 use borrow.Author.Needs.{needs, sfits-of}
 use Rattle.walks.specs.BoundedStep.{stepped}
 use Rattle.walks.proofs.Signs.{unsigned-widened, signed-widened}
-use Rattle.walks.proofs.Sums.{cutOff, smaller-sum, difference-sfits, cut-sum-sfits, cut-fits, cut-leads, cut-impossible}
+use Rattle.walks.proofs.Sums.{cutOff, smaller-sum, difference-sfits, sum-sfits, cut-sum-sfits, lost-sfits, lost-fits, cut-fits, cut-leads, cut-impossible}
 use Rattle.walks.proofs.bounded_step.Statement.{statement}
 use Rattle.walks.proofs.bounded_step.Tie as tie
 
@@ -35,6 +38,18 @@ made-cut c =
 word-cut : (c : tie.After-smaller) → toZ w32 (ofZ w32 (made c)) ≡ cutOff (c .before .args .bound) (sum (c .before))
 word-cut c = rw (made-cut c) (toZ-ofZ (sum-cut-sfits (c .before)))
 
+-- the sum not cut off, as the code makes it, also as a word
+whole-sum : (c : tie.After-smaller)
+    → toZ w32 (c .before .args .charge) +ℤ toZ w32 (ofZ w32 (toZ w16 (ofZ w16 (c .before .args .weight)))) ≡ sum (c .before)
+whole-sum c = rw (unsigned-widened (c .before .fits .charge), signed-widened (c .before .fits .weight)) refl
+
+sum-fits : (s : tie.Start) → SFits w32 (sum s)
+sum-fits s = sum-sfits (s .args .charge) (s .args .weight) (s .fits .charge) (omega (arith, s .fits .weight .sfits))
+
+word-sum : (c : tie.After-smaller)
+    → toZ w32 (ofZ w32 (toZ w32 (c .before .args .charge) +ℤ toZ w32 (ofZ w32 (toZ w16 (ofZ w16 (c .before .args .weight)))))) ≡ sum (c .before)
+word-sum c = rw (whole-sum c) (toZ-ofZ (sum-fits (c .before)))
+
 cast-change : tie.Need-cast-change
 cast-change c = let f = c .fits .weight in simp (toZ-ofZ f) (sfits-widen tt f)
 
@@ -59,17 +74,39 @@ returns : tie.Need-returns
 unfolding stepped
 returns c = let s = c .before .before in cut-impossible (s .args .bound) (sum s) (rw (word-cut (c .before)) at (c .if1 .taken))
 
-cast-t10 : tie.Need-cast-t10
-cast-t10 c =
+-- what is lost
+lost-word : (c : tie.After-smaller) → ltZ (cutOff (c .before .args .bound) (sum (c .before))) (pos 0) ≡ false
+    → SFits w32 (sum (c .before) -ℤ cutOff (c .before .args .bound) (sum (c .before)))
+lost-word c h = let s = c .before in lost-sfits (s .args .bound) (s .args .charge) (s .args .weight) (s .fits .charge) (s .fits .weight) h
+
+cast-whole : tie.Need-cast-whole
+cast-whole c = search needs
+
+add-whole : tie.Need-add-whole
+add-whole c = rw (whole-sum (c .before)) (sum-fits (c .before .before))
+
+cast-reached : tie.Need-cast-reached
+cast-reached c =
     let s = c .before .before in
     rw (word-cut (c .before)) (cut-fits (s .args .bound) (sum s) (s .fits .bound) (rw (word-cut (c .before)) at (c .if1 .left)))
+
+sub-lost : tie.Need-sub-lost
+sub-lost c = rw (word-sum (c .before), word-cut (c .before)) (lost-word (c .before) (rw (word-cut (c .before)) at (c .if1 .left)))
+
+cast-lost : tie.Need-cast-lost
+cast-lost c =
+    let s = c .before .before in
+    let h = rw (word-cut (c .before)) at (c .if1 .left) in
+    rw (word-sum (c .before), word-cut (c .before), toZ-ofZ (lost-word (c .before) h))
+    (lost-fits (s .args .bound) (s .args .charge) (s .args .weight) (s .fits .charge) (s .fits .weight) h)
 
 returns-2 : tie.Need-returns-2
 unfolding stepped
 returns-2 c =
     let s = c .before .before in
-    rw (word-cut (c .before)) (cut-leads (s .args .bound) (sum s) (rw (word-cut (c .before)) at (c .if1 .left)))
+    let h = rw (word-cut (c .before)) at (c .if1 .left) in
+    rw (word-sum (c .before), word-cut (c .before), toZ-ofZ (lost-word (c .before) h)) (cut-leads (s .args .bound) (sum s) h)
 
 pub bounded-step-spec : {M : Type 1} → statement M
 bounded-step-spec =
-    tie.close (tie.spec cast-change cast-room sub-room cast-smaller smaller-requires add-sum returns cast-t10 returns-2)
+    tie.close (tie.spec cast-change cast-room sub-room cast-smaller smaller-requires add-sum returns cast-whole add-whole cast-reached sub-lost cast-lost returns-2)

@@ -1,0 +1,186 @@
+-- The call repeated: stepped along a list of arcs, the gauge has at each point the mode and the charge of the definition of a walk, and
+-- along a plan that serves it is never refused. Assumes nothing.
+use mathlib.Core.Path.{_≡_, refl, sym, ap, _∙_}
+use mathlib.Core.List.{List, [], _∷_, _++_}
+use mathlib.Core.Logic.{_↔_}
+use Prim.Native.Nat.{ℕ, _+_, _≤_, _<_}
+use native.Mathlib.Omega.{arith}
+use native.Mathlib.Decide.{decLe, ℕ-discrete}
+use lib.ListN.{length, take}
+use Rattle.limits.specs.Ceilings.{boundMost, spillMost}
+use Rattle.walks.specs.declared.Step.{Step}
+use Rattle.walks.specs.declared.Step.the-variants.{To, Impossible}
+use Rattle.walks.specs.BoundedStep.{stepped}
+use Rattle.walks.specs.Walk.{Ends, walked, times}
+use Rattle.walks.specs.Spill.{spilled}
+use Rattle.walks.proofs.Weights.{walked-cons}
+use Rattle.walks.proofs.Charges.{stepped-bound}
+use Rattle.walks.proofs.Spill.{step-loss, gain-most, spilled-cons}
+use Rattle.refusals.specs.declared.Refusal.{Refusal}
+use Rattle.refusals.specs.declared.Refusal.the-variants.{ArcNumber, OtherMode, ImpossibleStep}
+use Rattle.refusals.specs.declared.Verdict.{Verdict}
+use Rattle.refusals.specs.declared.Verdict.the-variants.{Yes, Refused}
+use Rattle.refusals.proofs.Verdicts.{clash}
+use Rattle.model.specs.Automaton.{Automaton, arcAt, weights}
+use Rattle.model.specs.Lists.{Lists, automatonOf}
+use Rattle.model.specs.Fitness.{fitness, levelsOf}
+use Rattle.model.specs.Plans.{Plan, Leads, walkedArcs, Serves}
+use Rattle.model.proofs.Fitness.{fitness-yes, levels-yes}
+use Rattle.model.proofs.Plans.{serves-walked}
+use Rattle.gauge.specs.declared.Gauge.{Gauge}
+use Rattle.gauge.specs.declared.Gauged.{Gauged}
+use Rattle.gauge.specs.Gauge.{gauge, gauged, startedOf, landed, movedOf, movedLevelled, steppedOf, stopAt, afterGauged, stepsOf}
+use Rattle.gauge.proofs.Gauges.{landed-full, landed-on, moved-number, moved-mode, moved-lands}
+
+-- two accepted gauges are equal exactly where their modes, their charges and their totals are
+same-gauge : (m e s t x y : ℕ) → (gauged Yes (gauge m e s) ≡ gauged Yes (gauge t x y)) ↔ ((m ≡ t) × (e ≡ x) × (s ≡ y))
+same-gauge m e s t x y = (
+  λ q.
+      (ap {B = ℕ} (λ (z : Gauged). z .gauge .mode) q, ap {B = ℕ} (λ (z : Gauged). z .gauge .charge) q, ap {B = ℕ} (λ (z : Gauged). z .gauge .spill) q),
+  λ (p, q, r). cc,
+)
+
+-- what is refused is not accepted
+pub not-yes : {X : Type 0} (r : Refusal) (x z : Gauge) → gauged (Refused r) x ≡ gauged Yes z → X
+not-yes r x z q = let e : Refused r ≡ Yes = ap {B = Verdict} (λ (y : Gauged). y .verdict) q in clash (cc)
+
+-- the step leads to charge x, and what it lost makes the total s of before y, which is a number of 64 bits
+abbrev pub Spills : Step → ℕ → ℕ → ℕ → Type 0
+Spills f s x y = (l : ℕ) × (f ≡ To x l) × (y ≡ s + l) × (y ≤ spillMost)
+
+-- a step is accepted exactly where it is possible and the total does not pass 64 bits
+landed-yes : (z : Gauge) (u : ℕ) (f : Step) (t x y : ℕ) → (landed z u f ≡ gauged Yes (gauge t x y)) ↔ ((u ≡ t) × Spills f (z .spill) x y)
+landed-yes z u (To e l) t x y =
+    elim (decLe (z .spill + l) spillMost) [
+      | yes h ↦
+          let on = landed-on z u e l h in
+          let same = same-gauge u e (z .spill + l) t x y in (
+            λ q. let (i, j, k) = same .0 (sym on ∙ q) in (i, (l, rw j refl, sym k, omega arith)),
+            λ (i, (n, p, k, m)). let j : e ≡ x = cc in let r : l ≡ n = cc in on ∙ same .1 (i, j, omega arith),
+          )
+      | no h ↦
+          let full = landed-full z u e l (omega arith) in (
+            λ q. not-yes (ImpossibleStep 0) z (gauge t x y) (sym full ∙ q),
+            λ (i, (n, p, k, m)). let r : l ≡ n = cc in absurd (omega arith),
+          )
+    ]
+landed-yes z u Impossible t x y = (λ q. not-yes (ImpossibleStep 0) z (gauge t x y) q, λ (i, (n, p, k, m)). clash (cc))
+
+-- a step on an arc of the model is accepted exactly where the arc is there, it leaves the gauge's mode, the bounded step is possible, and
+-- the total does not pass 64 bits
+pub moved-yes : (g : Automaton) (b a m e s t x y : ℕ) → (movedOf g b a (gauge m e s) ≡ gauged Yes (gauge t x y))
+    ↔ ((a < length (g .arcs)) × (arcAt g a .source ≡ m) × (arcAt g a .target ≡ t) × Spills (stepped b (arcAt g a .weight) e) s x y)
+moved-yes g b a m e s t x y =
+    let z = gauge m e s in
+    let z′ = gauge t x y in
+    let lands = landed-yes z (arcAt g a .target) (stepped b (arcAt g a .weight) e) t x y in (
+      λ q.
+          elim (decLe (length (g .arcs)) a) [
+            | yes h ↦ not-yes (ArcNumber 0) z z′ (sym (moved-number g b a z h) ∙ q)
+            | no h ↦
+                elim (ℕ-discrete (arcAt g a .source) m) [
+                  | yes p ↦ let (i, j) = lands .0 (sym (moved-lands g b a z (omega arith) p) ∙ q) in (omega arith, p, i, j)
+                  | no p ↦ not-yes (OtherMode 0) z z′ (sym (moved-mode g b a z (omega arith) p) ∙ q)
+                ]
+          ],
+      λ (h, p, i, j). moved-lands g b a z h p ∙ lands .1 (i, j),
+    )
+
+-- the call on a fit model, where 6 does not apply, is the step on the arc
+pub step-moved : (n s k : ℕ) (l : Lists) (b a : ℕ) (x : Gauge) → fitness n s k l ≡ Yes → levelsOf b (x .charge) ≡ Yes
+    → steppedOf n s k l b a x ≡ movedOf (automatonOf n s k l) b a x
+unfolding steppedOf movedLevelled
+step-moved n s k l b a x fit levels = rw (fit, levels) refl
+
+-- "A gauge in a mode not below n therefore gets 13 or an earlier number": where none of 1 to 6 and 12 applies, it gets 13
+pub mode-refused : (n s k : ℕ) (l : Lists) (b a : ℕ) (x : Gauge) → fitness n s k l ≡ Yes → levelsOf b (x .charge) ≡ Yes
+    → a < length (automatonOf n s k l .arcs) → n ≤ x .mode → steppedOf n s k l b a x ≡ gauged (Refused (OtherMode 0)) x
+mode-refused n s k l b a x fit levels h far =
+    let source = fitness-yes n s k l .0 fit .1 .arcs-fit a h .source in
+    step-moved n s k l b a x fit levels ∙ moved-mode (automatonOf n s k l) b a x h (λ q. omega arith)
+
+-- what follows a step is accepted exactly where both are
+pub after-yes : (y : Gauged) (f : Gauge → Gauged) (z : Gauge) → (afterGauged y f ≡ gauged Yes z) ↔ ((u : Gauge) × (y ≡ gauged Yes u) × (f u ≡ gauged Yes z))
+after-yes y f z = go (y .verdict) (y .gauge)
+  where
+    go : (v : Verdict) (x : Gauge) → (stopAt v x (f x) ≡ gauged Yes z) ↔ ((u : Gauge) × (gauged v x ≡ gauged Yes u) × (f u ≡ gauged Yes z))
+    go Yes x = (λ q. (x, refl, q), λ (u, p, q). ap {B = Gauged} (λ (t : Gauged). f (t .gauge)) p ∙ q)
+    go (Refused r) x = (λ q. not-yes r x z q, λ (u, p, q). not-yes r x u p)
+
+-- the most that a step of a fit model loses: the greatest weight
+abbrev pub lossMost : ℕ
+lossMost = 10000
+
+pub arc-loss : (n s k : ℕ) (l : Lists) (b a e x u : ℕ) → fitness n s k l ≡ Yes → e ≤ b → a < length (automatonOf n s k l .arcs)
+    → stepped b (arcAt (automatonOf n s k l) a .weight) e ≡ To x u → u ≤ lossMost
+arc-loss n s k l b a e x u fit h below to =
+    let w = arcAt (automatonOf n s k l) a .weight in
+    let most = gain-most w lossMost (fitness-yes n s k l .0 fit .1 .arcs-fit a below .weight-most) in
+    omega (arith, step-loss b w e x u h to)
+
+-- Stepped along the arcs w from mode m, charge e and total s, the gauge comes to mode t, charge x and total y, without a refusal, exactly
+-- where w leads from m to t, its walk from e ends at x, and s and what the walk lost make y, which is a number of 64 bits.
+module _ (n s k : ℕ) (l : Lists) (b : ℕ) (fit : fitness n s k l ≡ Yes) (hb : b ≤ boundMost) where
+  pub gauge-follows : (w : List ℕ) (m e i t x y : ℕ) → e ≤ b → i ≤ spillMost
+      → (stepsOf n s k l b w (gauge m e i) ≡ gauged Yes (gauge t x y))
+      ↔ (Leads (automatonOf n s k l) m w t × (walkedArcs (automatonOf n s k l) b w e ≡ Ends x)
+      × (y ≡ i + spilled b (weights (automatonOf n s k l) w) e) × (y ≤ spillMost))
+  unfolding stepsOf walked spilled
+  gauge-follows [] m e i t x y h hi =
+      let same = same-gauge m e i t x y in (
+        λ q. let (p, r, u) = same .0 q in (p, ap Ends r, omega arith, omega arith),
+        λ (p, q, r, u). let z : e ≡ x = cc in same .1 (p, z, omega arith),
+      )
+  gauge-follows (a ∷ w) m e i t x y h hi =
+      let g = automatonOf n s k l in
+      let f = arcAt g a .weight in
+      let step = step-moved n s k l b a (gauge m e i) fit (levels-yes b e .1 (hb, h)) in
+      let after = after-yes (steppedOf n s k l b a (gauge m e i)) (stepsOf n s k l b w) (gauge t x y) in
+      let walk = walked-cons b f (weights g w) e x in (
+        λ q.
+            let (u, p, r) = after .0 q in
+            let (below, source, target, (lost, to, sum, low)) = moved-yes g b a m e i (u .mode) (u .charge) (u .spill) .0 (sym step ∙ p) in
+            let (leads, ends, all, most) =
+            gauge-follows w (u .mode) (u .charge) (u .spill) t x y (stepped-bound b f e (u .charge) lost h to) low .0 r
+            in (
+              (below, source, rw target leads),
+              walk .1 (u .charge, lost, to, ends),
+              omega (arith, spilled-cons b f (weights g w) e (u .charge) lost to),
+              most,
+            ),
+        λ ((below, source, leads), q, all, most).
+            let (v, lost, to, ends) = walk .0 q in
+            let u = arcAt g a .target in
+            let sum = spilled-cons b f (weights g w) e v lost to in
+            after .1 (
+              gauge u v (i + lost),
+              step ∙ moved-yes g b a m e i u v (i + lost) .1 (below, source, refl, (lost, to, refl, omega (arith, sum))),
+              gauge-follows w u v (i + lost) t x y (stepped-bound b f e v lost h to) (omega (arith, sum)) .1
+                  (leads, ends, omega (arith, sum), most),
+            ),
+      )
+
+-- "Starting .. hands back a new one with the start mode and c", where none of 1 to 6 applies
+pub started-yes : (n s k : ℕ) (l : Lists) (b c : ℕ) → fitness n s k l ≡ Yes → levelsOf b c ≡ Yes → startedOf n s k l b c ≡ gauged Yes (gauge s c 0)
+unfolding startedOf
+started-yes n s k l b c fit levels = rw (fit, levels) refl
+
+-- Started, and stepped along a plan that serves, the gauge is refused only where the total would pass 64 bits, however often the cycle
+-- repeats and wherever one stops: it has the mode that the arcs lead to, the charge of their walk, and what the walk lost.
+pub plan-followed : (n s k : ℕ) (l : Lists) (b c : ℕ) (p : Plan) → fitness n s k l ≡ Yes → b ≤ boundMost → c ≤ b
+    → Serves (automatonOf n s k l) b c p → (r i : ℕ) → let w = take i (p .prefix ++ times r (p .cycle)) in
+    (t : ℕ) × (x : ℕ) × Leads (automatonOf n s k l) s w t × (walkedArcs (automatonOf n s k l) b w c ≡ Ends x)
+    × (spilled b (weights (automatonOf n s k l) w) c ≤ spillMost
+    → afterGauged (startedOf n s k l b c) (stepsOf n s k l b w) ≡ gauged Yes (gauge t x (spilled b (weights (automatonOf n s k l) w) c)))
+plan-followed n s k l b c p fit hb hc serves r i =
+    let (t, x, leads, ends) = serves-walked (automatonOf n s k l) b c p serves r i in
+    let w = take i (p .prefix ++ times r (p .cycle)) in
+    let y = spilled b (weights (automatonOf n s k l) w) c in (
+      t,
+      x,
+      leads,
+      ends,
+      λ low.
+          rw (started-yes n s k l b c fit (levels-yes b c .1 (hb, hc)))
+          (gauge-follows n s k l b fit hb w s c 0 t x y hc (omega arith) .1 (leads, ends, omega arith, low)),
+    )

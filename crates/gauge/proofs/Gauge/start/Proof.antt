@@ -1,0 +1,50 @@
+-- `Gauge::start` meets its contract: the refusal of fitness, else what 6 says. Assumes nothing.
+use mathlib.Core.Path.{_∙_}
+use borrow.Author.Needs.{needs}
+use Rattle.model.specs.Lists.{lists}
+use Rattle.gauge.proofs.Gauges.{start-fit, start-unfit}
+use Rattle.gauge.proofs.Gauge.start.Statement.{statement}
+use Rattle.gauge.proofs.Gauge.start.Tie as tie
+
+check-model-requires : tie.Need-check-model-requires
+check-model-requires c κs = search needs
+
+enum-told : tie.Need-enum-told
+enum-told c = search needs
+
+start-levelled-requires : tie.Need-start-levelled-requires
+start-levelled-requires c κs = search needs
+
+enum-known-verdict : tie.Need-enum-known-verdict
+enum-known-verdict c = search needs
+
+refused-requires : tie.Need-refused-requires
+refused-requires c κs = search needs
+
+returns : tie.Need-returns
+returns c =
+    let d = c .before .before .before in
+    let a = d .before .before .before .before .args in
+    let l = lists (a .sources .now) (a .targets .now) (a .weights .now) (a .colours .now) in
+    c .start-levelled .ensures
+    ∙ start-fit (a .n) (a .start) (a .k) l _ (d .check-model .ensures) (a .b) (a .c) (c .before .enum-told .given .1)
+
+returns-2 : tie.Need-returns-2
+returns-2 c =
+    let d = c .before .before .before .before in
+    let a = d .before .before .before .before .args in
+    let l = lists (a .sources .now) (a .targets .now) (a .weights .now) (a .colours .now) in
+    c .refused .ensures
+    ∙ start-unfit (a .n) (a .start) (a .k) l _ (d .check-model .ensures) (a .b) (a .c) _ (c .before .before .verdict .given .1)
+
+pub start-spec : {M : Type 1} → statement M
+start-spec =
+    tie.close
+    (tie.spec
+    check-model-requires
+    enum-told
+    start-levelled-requires
+    enum-known-verdict
+    refused-requires
+    returns
+    returns-2)

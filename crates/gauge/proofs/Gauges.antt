@@ -1,0 +1,96 @@
+-- What starting and stepping a gauge hand back, row by row: of a model, of the model that the code holds, and by the verdict that
+-- check_model answers. Assumes nothing.
+use mathlib.Core.Path.{_≡_, refl, ap, _∙_}
+use mathlib.Core.Logic.{_≢_}
+use Prim.Native.Nat.{ℕ, _+_, _≤_, _<_}
+use native.Mathlib.Omega.{arith}
+use lib.ListN.{length}
+use borrow.Author.Tests.{le-leb, lt-leb, le-ltb, lt-ltb, eq-eqb, ne-eqb}
+use Rattle.limits.specs.Ceilings.{spillMost}
+use Rattle.walks.specs.declared.Step.{Step}
+use Rattle.walks.specs.declared.Step.the-variants.{To}
+use Rattle.walks.specs.BoundedStep.{stepped}
+use Rattle.refusals.specs.declared.Refusal.{Refusal}
+use Rattle.refusals.specs.declared.Refusal.the-variants.{ArcNumber, OtherMode, ImpossibleStep}
+use Rattle.refusals.specs.declared.Verdict.the-variants.{Yes, Refused}
+use Rattle.model.specs.declared.Model.{Model}
+use Rattle.model.specs.declared.Fitted.{Fitted}
+use Rattle.model.specs.Automaton.{Automaton, arcAt}
+use Rattle.model.specs.Lists.{Lists, held}
+use Rattle.model.specs.Fitness.{fittedOf, levelsOf, Holds}
+use Rattle.model.proofs.Held.{arcIn, held-arc, told-verdict, told-held}
+use Rattle.gauge.specs.declared.Gauge.{Gauge}
+use Rattle.gauge.specs.Gauge.{gauge, gauged, noGauge, stopAt, landed, startedOf, movedOf, movedLevelled, steppedOf}
+
+module _ (x : Gauge) (t e l : ℕ) where
+  -- a step that is possible: the total would pass 64 bits
+  pub landed-full : spillMost < x .spill + l → landed x t (To e l) ≡ gauged (Refused (ImpossibleStep 0)) x
+  landed-full h = rw (lt-ltb spillMost (x .spill + l) h) refl
+
+  -- it does not
+  pub landed-on : x .spill + l ≤ spillMost → landed x t (To e l) ≡ gauged Yes (gauge t e (x .spill + l))
+  landed-on h = rw (le-ltb spillMost (x .spill + l) h) refl
+
+module _ (g : Automaton) (b a : ℕ) (x : Gauge) where
+  -- 12 applies
+  pub moved-number : length (g .arcs) ≤ a → movedOf g b a x ≡ gauged (Refused (ArcNumber 0)) x
+  unfolding movedOf
+  moved-number h = rw (le-leb (length (g .arcs)) a h) refl
+
+  module _ (h : a < length (g .arcs)) where
+    -- 12 does not apply, and 13 does
+    pub moved-mode : arcAt g a .source ≢ x .mode → movedOf g b a x ≡ gauged (Refused (OtherMode 0)) x
+    unfolding movedOf
+    moved-mode q = rw (lt-leb (length (g .arcs)) a h, ne-eqb (arcAt g a .source) (x .mode) q) refl
+
+    -- neither does: the bounded step decides
+    pub moved-lands : arcAt g a .source ≡ x .mode
+        → movedOf g b a x ≡ landed x (arcAt g a .target) (stepped b (arcAt g a .weight) (x .charge))
+    unfolding movedOf
+    moved-lands q = rw (lt-leb (length (g .arcs)) a h, eq-eqb (arcAt g a .source) (x .mode) q) refl
+
+-- the same of the model that the code holds
+module _ (g : Model) (holds : Holds g) (b a : ℕ) (x : Gauge) where
+  -- 12 applies
+  pub held-number : g .count ≤ a → movedOf (held g) b a x ≡ gauged (Refused (ArcNumber 0)) x
+  held-number h = moved-number (held g) b a x (omega (arith, holds .count))
+
+  module _ (h : a < g .count) where
+    -- the arc is one of the model's
+    below : a < length (held g .arcs)
+    below = omega (arith, holds .count)
+
+    -- 12 does not apply, and 13 does
+    pub held-mode : arcIn g a .source ≢ x .mode → movedOf (held g) b a x ≡ gauged (Refused (OtherMode 0)) x
+    held-mode q = moved-mode (held g) b a x below (rw (held-arc g a h) q)
+
+    -- neither does: the bounded step decides
+    pub held-lands : arcIn g a .source ≡ x .mode → (s : Step) → stepped b (arcIn g a .weight) (x .charge) ≡ s
+        → movedOf (held g) b a x ≡ landed x (arcIn g a .target) s
+    held-lands q s e = moved-lands (held g) b a x below (rw (held-arc g a h) q) ∙ rw (held-arc g a h, e) refl
+
+-- what a caller of check_model hands back, where check_model answers y
+module _ (n s k : ℕ) (l : Lists) (y : Fitted) (told : y ≡ fittedOf n s k l) where
+  module _ (b c : ℕ) where
+    -- starting on a fit model: 6 decides
+    pub start-fit : y .verdict ≡ Yes → stopAt (levelsOf b c) noGauge (gauged Yes (gauge (y .model .start) c 0)) ≡ startedOf n s k l b c
+    unfolding startedOf
+    start-fit e =
+        let same : y .model .start ≡ s = ap {B = ℕ} (λ (g : Automaton). g .start) (told-held n s k l y told e) in
+        rw (told-verdict n s k l y told Yes e, same) refl
+
+    -- starting on an unfit model: its refusal
+    pub start-unfit : (r : Refusal) → y .verdict ≡ Refused r → gauged (Refused r) noGauge ≡ startedOf n s k l b c
+    unfolding startedOf
+    start-unfit r e = rw (told-verdict n s k l y told (Refused r) e) refl
+
+  module _ (b a : ℕ) (x : Gauge) where
+    -- a step on a fit model: 6 and what follows it decide
+    pub step-fit : y .verdict ≡ Yes → movedLevelled (held (y .model)) b a x ≡ steppedOf n s k l b a x
+    unfolding steppedOf
+    step-fit e = rw (told-verdict n s k l y told Yes e, told-held n s k l y told e) refl
+
+    -- a step on an unfit model: its refusal, and the gauge as found
+    pub step-unfit : (r : Refusal) → y .verdict ≡ Refused r → gauged (Refused r) x ≡ steppedOf n s k l b a x
+    unfolding steppedOf
+    step-unfit r e = rw (told-verdict n s k l y told (Refused r) e) refl

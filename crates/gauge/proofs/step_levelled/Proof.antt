@@ -1,0 +1,55 @@
+-- `gauge::step_levelled` meets its contract: the verdict on the levels decides. Assumes nothing.
+use mathlib.Core.Path.{refl, sym, _∙_}
+use native.Mathlib.Omega.{arith}
+use borrow.Author.Needs.{needs}
+use Rattle.model.proofs.Fitness.{levels-yes}
+use Rattle.gauge.specs.Gauge.{movedLevelled}
+use Rattle.gauge.proofs.step_levelled.Statement.{statement}
+use Rattle.gauge.proofs.step_levelled.Tie as tie
+
+cast-check-levels : tie.Need-cast-check-levels
+cast-check-levels c = search needs
+
+check-levels-requires : tie.Need-check-levels-requires
+check-levels-requires c κs = search needs
+
+enum-told : tie.Need-enum-told
+enum-told c = search needs
+
+cast-step-on : tie.Need-cast-step-on
+cast-step-on c =
+    let d = c .before .before in
+    let h = levels-yes (d .before .args .b) (d .before .args .gauge .charge) .0 (sym (d .check-levels .ensures) ∙ c .enum-told .given .1) in
+    omega arith
+
+step-on-requires : tie.Need-step-on-requires
+step-on-requires c κs = search needs
+
+enum-known-levels : tie.Need-enum-known-levels
+enum-known-levels c = search needs
+
+refused-requires : tie.Need-refused-requires
+refused-requires c κs = search needs
+
+returns : tie.Need-returns
+unfolding movedLevelled
+returns c = c .step-on .ensures ∙ rw (sym (c .before .before .before .check-levels .ensures) ∙ c .before .enum-told .given .1) refl
+
+returns-2 : tie.Need-returns-2
+unfolding movedLevelled
+returns-2 c =
+    c .refused .ensures ∙ rw (sym (c .before .before .before .before .check-levels .ensures) ∙ c .before .before .levels .given .1) refl
+
+pub step-levelled-spec : {M : Type 1} → statement M
+step-levelled-spec =
+    tie.close
+    (tie.spec
+    cast-check-levels
+    check-levels-requires
+    enum-told
+    cast-step-on
+    step-on-requires
+    enum-known-levels
+    refused-requires
+    returns
+    returns-2)

@@ -1,0 +1,74 @@
+-- The gauge. Document 01, "What can be called": "the gauge is one small record that each step moves on: mode and charge", and "Where each
+-- call stops", the paragraph below the table. Document 02, Ask 2: "The gauge gains a spill total, kept as a 64-bit number."
+use Prim.Native.Nat.{ℕ, _+_}
+use mathlib.Core.Bool.{not}
+use mathlib.Core.List.{List, [], _∷_}
+use lib.Dec.{leb, ltb, eqb}
+use lib.ListN.{length}
+use Rattle.limits.specs.Ceilings.{spillMost}
+use Rattle.walks.specs.declared.Step.{Step}
+use Rattle.walks.specs.declared.Step.the-variants.{To, Impossible}
+use Rattle.walks.specs.BoundedStep.{stepped}
+use Rattle.refusals.specs.declared.Refusal.the-variants.{ArcNumber, OtherMode, ImpossibleStep}
+use Rattle.refusals.specs.declared.Verdict.{Verdict}
+use Rattle.refusals.specs.declared.Verdict.the-variants.{Yes, Refused}
+use Rattle.refusals.specs.Refusals.{refuse, andThen}
+use Rattle.model.specs.Automaton.{Automaton, arcAt}
+use Rattle.model.specs.Lists.{Lists, automatonOf}
+use Rattle.model.specs.Fitness.{fitness, levelsOf}
+use Rattle.gauge.specs.declared.Gauge.{Gauge}
+use Rattle.gauge.specs.declared.Gauged.{Gauged}
+
+-- a gauge by its mode, its charge and its total of charge that spilled over
+abbrev pub gauge : ℕ → ℕ → ℕ → Gauge
+gauge mode charge spill = record { mode = mode; charge = charge; spill = spill }
+
+-- a verdict and the gauge that goes with it
+abbrev pub gauged : Verdict → Gauge → Gauged
+gauged v x = record { verdict = v; gauge = x }
+
+-- "a refusal hands back mode 0, charge 0, and 0 in every field that is added later"
+abbrev pub noGauge : Gauge
+noGauge = gauge 0 0 0
+
+-- a refusal, and the gauge x that goes with it; where nothing refuses, what follows answers
+abbrev pub stopAt : Verdict → Gauge → Gauged → Gauged
+stopAt Yes x y = y
+stopAt (Refused r) x y = gauged (Refused r) x
+
+-- "Starting is lent no gauge and hands back a new one with the start mode and c"; it "uses 1 to 6"
+unfoldable pub startedOf : ℕ → ℕ → ℕ → Lists → ℕ → ℕ → Gauged
+startedOf n s k l b c = stopAt (andThen (fitness n s k l) (levelsOf b c)) noGauge (gauged Yes (gauge s c 0))
+
+-- the gauge x after a step to mode t: moved on, or as found where the step is not possible; "A step that would carry the total past 64 bits
+-- is refused by 15, after the test for zero."
+abbrev pub landed : Gauge → ℕ → Step → Gauged
+landed x t (To e l) =
+    stopAt (refuse (ltb spillMost (x .spill + l)) (ImpossibleStep 0) Yes) x (gauged Yes (gauge t e (x .spill + l)))
+landed x t Impossible = gauged (Refused (ImpossibleStep 0)) x
+
+-- the step on arc a: "12, 13, 15 with detail 0, and a refusal leaves the gauge as found"
+unfoldable pub movedOf : Automaton → ℕ → ℕ → Gauge → Gauged
+movedOf g b a x =
+    stopAt
+    (refuse (leb (length (g .arcs)) a) (ArcNumber 0)
+    (refuse (not (eqb (arcAt g a .source) (x .mode))) (OtherMode 0)
+    Yes))
+    x (landed x (arcAt g a .target) (stepped b (arcAt g a .weight) (x .charge)))
+
+-- "For a step, 6 reads the gauge's own charge in place of c, so a gauge charged above b is refused by 6."
+unfoldable pub movedLevelled : Automaton → ℕ → ℕ → Gauge → Gauged
+movedLevelled g b a x = stopAt (levelsOf b (x .charge)) x (movedOf g b a x)
+
+-- "A gauge step uses 1 to 6, then 12, 13, 15 with detail 0, and a refusal leaves the gauge as found."
+unfoldable pub steppedOf : ℕ → ℕ → ℕ → Lists → ℕ → ℕ → Gauge → Gauged
+steppedOf n s k l b a x = stopAt (fitness n s k l) x (movedLevelled (automatonOf n s k l) b a x)
+
+-- what follows a start or a step goes on from its gauge, where it is accepted
+abbrev pub afterGauged : Gauged → (Gauge → Gauged) → Gauged
+afterGauged y f = stopAt (y .verdict) (y .gauge) (f (y .gauge))
+
+-- the call repeated on the arcs of a list, up to the first refusal
+unfoldable pub stepsOf : ℕ → ℕ → ℕ → Lists → ℕ → List ℕ → Gauge → Gauged
+stepsOf n s k l b [] x = gauged Yes x
+stepsOf n s k l b (a ∷ w) x = afterGauged (steppedOf n s k l b a x) (stepsOf n s k l b w)

@@ -1,0 +1,45 @@
+-- A history of steps, each a call with a model, a bound and an arc of its own. Document 02, Ask 2: "For any sequence of accepted steps from a
+-- start, c plus the weights walked equals charge plus the sum, over the history, of what each step lost, and the gauge's total is that sum."
+use Prim.Native.Nat.{ℕ, _+_}
+use mathlib.Core.List.{List, [], _∷_}
+use lib.IntN.{ℤ}
+use Rattle.walks.specs.declared.Step.{Step}
+use Rattle.walks.specs.declared.Step.the-variants.{To, Impossible}
+use Rattle.walks.specs.BoundedStep.{stepped}
+use Rattle.refusals.specs.declared.Verdict.the-variants.{Yes}
+use Rattle.model.specs.Automaton.{arcAt}
+use Rattle.model.specs.Lists.{Lists, automatonOf}
+use Rattle.gauge.specs.declared.Gauge.{Gauge}
+use Rattle.gauge.specs.declared.Gauged.{Gauged}
+use Rattle.gauge.specs.Gauge.{gauged, afterGauged, steppedOf}
+
+-- a call of the step: what it takes beside the gauge
+pub record Call : Type 0 where
+  pub modes : ℕ
+  pub start : ℕ
+  pub colours : ℕ
+  pub lists : Lists
+  pub bound : ℕ
+  pub arc : ℕ
+
+abbrev pub called : Call → Gauge → Gauged
+called d x = steppedOf (d .modes) (d .start) (d .colours) (d .lists) (d .bound) (d .arc) x
+
+-- the calls made one after the other, up to the first refusal
+unfoldable pub calledAll : List Call → Gauge → Gauged
+calledAll [] x = gauged Yes x
+calledAll (d ∷ h) x = afterGauged (called d x) (calledAll h)
+
+-- the weight that a call walks
+abbrev pub weightOf : Call → ℤ
+weightOf d = arcAt (automatonOf (d .modes) (d .start) (d .colours) (d .lists)) (d .arc) .weight
+
+-- what a step lost
+abbrev pub lostIn : Step → ℕ
+lostIn (To e l) = l
+lostIn Impossible = 0
+
+-- "the sum, over the history, of what each step lost"
+unfoldable pub lostBy : List Call → Gauge → ℕ
+lostBy [] x = 0
+lostBy (d ∷ h) x = lostIn (stepped (d .bound) (weightOf d) (x .charge)) + lostBy h (called d x .gauge)

@@ -1,3 +1,0 @@
--- Laws of the gauge: its rows, and the call repeated.
-pub mod Gauges
-pub mod Follows

@@ -1,2 +1,0 @@
--- What a reader must believe of the gauge.
-pub mod Gauge

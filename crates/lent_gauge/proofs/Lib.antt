@@ -1,0 +1,2 @@
+-- Laws of the lent gauge: a refusal leaves it.
+pub mod Refused

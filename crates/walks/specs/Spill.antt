@@ -1,0 +1,17 @@
+-- What the bound cuts off along a walk. Document 02, Ask 2: "the sum, over the history, of what each step lost".
+use Prim.Native.Nat.{ℕ, _+_}
+use mathlib.Core.List.{List, [], _∷_}
+use lib.IntN.{ℤ}
+use Rattle.walks.specs.declared.Step.{Step}
+use Rattle.walks.specs.declared.Step.the-variants.{To, Impossible}
+use Rattle.walks.specs.BoundedStep.{stepped}
+
+-- what a step lost, and what follows it goes on from the charge that it leads to
+abbrev pub spilledOn : Step → (ℕ → ℕ) → ℕ
+spilledOn (To e l) f = l + f e
+spilledOn Impossible f = 0
+
+-- the sum of what each step lost, of the weights walked one after the other from charge e
+unfoldable pub spilled : ℕ → List ℤ → ℕ → ℕ
+spilled b [] e = 0
+spilled b (w ∷ ws) e = spilledOn (stepped b w e) (spilled b ws)
