@@ -1,5 +1,6 @@
 /*
- * chargeplan.h: judging and searching charge plans for a knee joint, from C99 or C++ on Linux for 64-bit x86 (System V calls).
+ * chargeplan.h: judging, searching and walking charge plans for a knee joint, from C99 or C++ on Linux for 64-bit x86 (System V
+ * calls).
  *
  * Link with target/staticlib/libdesk.a, which `rt staticlib desk` writes once the code is proved. There is no set-up, no
  * state between calls and no heap: calls on different buffers may run at the same time, and no input traps or hangs a call.
@@ -14,7 +15,8 @@
  *   weight   -10,000 to 10,000
  *   b        the bound (battery size), 0 to 8,191
  *   c        the credit (charge on arrival), 0 to b
- * A step on an arc of weight w takes charge e to the smaller of e + w and b. It is possible where e + w is at least 0.
+ * A step on an arc of weight w takes charge e to the smaller of e + w and b. It is possible where e + w is at least 0. What e + w
+ * has above b is lost: it is the step's spill.
  *
  * THE PLAN. Arc numbers, a byte each: p of them are the prefix (run-in) and then q, at least 1, the cycle (round), which is
  * repeated for ever. It begins in the start mode with charge c, each arc leaves the mode that the one before entered, and the
@@ -25,9 +27,12 @@
  * the call is told, it is aligned as its type asks, and no two lists or buffers of one call share memory. A list or buffer
  * without elements may be a null pointer with length 0. The lists are only read.
  *
- * THE ANSWER. One word of 64 bits: bits 0 to 7 the number, 8 to 31 the detail, 32 to 47 p, 48 to 63 q. Number 0 is yes, or a
- * plan found; every other number is a refusal (below), the first that applies, top to bottom. The detail is 0 where none is
- * named below. p and q are 0 but for a plan found.
+ * THE ANSWER. One word of 64 bits: bits 0 to 7 the number, 8 to 31 the detail; with a plan found 32 to 47 p, 48 to 63 q; with a
+ * walk 32 to 47 the steps made, 48 whether the colour was met. Number 0 is yes; every other number is a refusal (below), the first
+ * that applies, top to bottom. The detail is 0 where none is named below, and all bits that are not named are 0.
+ *
+ * THE CALLS. For people: the functions over a struct chargeplan_model, at the end, which have the model in one argument. Beneath
+ * them: the library's own entries, which take each list with a length of its own.
  */
 #ifndef CHARGEPLAN_H
 #define CHARGEPLAN_H
@@ -56,16 +61,18 @@ extern "C" {
 #define CHARGEPLAN_WORK_WORDS_MOST (4u * (CHARGEPLAN_COLOURS_MOST + 1u) * CHARGEPLAN_PRODUCT_MOST)
 #define CHARGEPLAN_PLAN_BYTES_MOST ((CHARGEPLAN_COLOURS_MOST + 2u) * CHARGEPLAN_PRODUCT_MOST)
 
-/* The numbers. Search answers 0 to 10; judging 0 to 6 and 11 to 17. */
+/* The numbers. Search answers 0 to 10; judging 0 to 6 and 11 to 17; starting a gauge 0 to 6; a step of a gauge 0 to 6, 12, 13 and 15,
+   the last three with detail 0; the walk 0 to 6 and 11 to 18. */
 enum {
-    CHARGEPLAN_YES = 0,              /* the plan is feasible and accepted; from search: a plan is in the buffer */
+    CHARGEPLAN_YES = 0,              /* judging: the plan is feasible and accepted; search: a plan is in the buffer; gauge: it is
+                                        started, or has moved on; walk: the steps are made */
     CHARGEPLAN_MODE_COUNT = 1,       /* n is 0 or above 64 */
     CHARGEPLAN_START_MODE = 2,       /* the start mode is not below n */
     CHARGEPLAN_ARC_LISTS = 3,        /* the four arc lists are of unequal length, or longer than 255 */
     CHARGEPLAN_COLOUR_COUNT = 4,     /* k is above 4 */
     CHARGEPLAN_UNFIT_ARC = 5,        /* a source or target not below n, a weight outside its range, or a colour bit at or
                                         above k; detail: the lowest such arc */
-    CHARGEPLAN_LEVELS = 6,           /* b is above 8,191, or c is above b */
+    CHARGEPLAN_LEVELS = 6,           /* b is above 8,191, or c is above b; a step reads the gauge's own charge in place of c */
     CHARGEPLAN_PRODUCT = 7,          /* n * (b + 1) is above 8,192 */
     CHARGEPLAN_WORKING_SPACE = 8,    /* the working space is too short */
     CHARGEPLAN_PLAN_BUFFER = 9,      /* the plan buffer is too short */
@@ -75,9 +82,27 @@ enum {
     CHARGEPLAN_OTHER_MODE = 13,      /* an arc leaves another mode than the current one; detail: its first position */
     CHARGEPLAN_OPEN_CYCLE = 14,      /* the cycle ends in another mode than it began */
     CHARGEPLAN_IMPOSSIBLE_STEP = 15, /* a step is impossible; detail: the step, counted from 0 over the prefix, the first
-                                        and the second round of the cycle */
+                                        and the second round of the cycle. A step of a gauge: also where it would carry
+                                        the spill past 64 bits */
     CHARGEPLAN_FALLING_CYCLE = 16,   /* the first and the second round each end lower than they began */
-    CHARGEPLAN_MISSING_COLOUR = 17   /* a colour stands on no arc of the cycle; detail: the lowest such colour */
+    CHARGEPLAN_MISSING_COLOUR = 17,  /* a colour stands on no arc of the cycle; detail: the lowest such colour */
+    CHARGEPLAN_NO_SUCH_COLOUR = 18   /* j is not below k; looked at after the plan */
+};
+
+/*
+ * A gauge: where a walk stands on the bench. The mode, the charge, and the spill: all that was lost at the bound since the start.
+ * For any accepted steps from a start: c + the weights walked = charge + spill.
+ */
+struct chargeplan_gauge {
+    uint8_t mode;
+    uint16_t charge;
+    uint64_t spill;
+};
+
+/* What starting a gauge answers: number and detail, and the new gauge, 0 in every field where it is refused. */
+struct chargeplan_started {
+    uint64_t answer;
+    struct chargeplan_gauge gauge;
 };
 
 /*
@@ -124,6 +149,59 @@ uint64_t chargeplan_search(
     uint16_t *work, size_t work_length,
     uint8_t *plan, size_t plan_length);
 
+/*
+ * Starting a gauge: n to b as in judging. It is lent no gauge and hands back a new one, in the start mode with charge c and spill 0.
+ *
+ * Answers 0, or the first of 1 to 6 that applies and a gauge of zeros.
+ */
+struct chargeplan_started chargeplan_gauge_start(
+    uint32_t n, uint32_t start, uint32_t k,
+    const uint8_t *sources, size_t sources_length,
+    const uint8_t *targets, size_t targets_length,
+    const int16_t *weights, size_t weights_length,
+    const uint8_t *colours, size_t colours_length,
+    uint32_t c, uint32_t b);
+
+/*
+ * A step of a gauge on an arc of the model.
+ *
+ * gauge   lent to the call, which moves it on; not null, and not part of a list
+ * b       the bound; model and bound are those that the gauge was started with
+ * arc     the arc's number
+ *
+ * Answers 0 and moves the gauge on, or answers the first of 1 to 6, 12, 13 and 15 that applies and leaves it as it was.
+ */
+uint64_t chargeplan_gauge_step(
+    struct chargeplan_gauge *gauge,
+    uint32_t n, uint32_t start, uint32_t k,
+    const uint8_t *sources, size_t sources_length,
+    const uint8_t *targets, size_t targets_length,
+    const int16_t *weights, size_t weights_length,
+    const uint8_t *colours, size_t colours_length,
+    uint32_t b, uint32_t arc);
+
+/*
+ * The walk: judges a plan, then steps it from its beginning, the cycle repeating, until colour j is first met or the allowance is
+ * spent.
+ *
+ * n to plan   as in judging
+ * j           the colour
+ * allowance   the steps that may be made, 0 to 65,535
+ *
+ * Answers 0 with the steps made: where the colour was met (chargeplan_met), the step that meets it counted; where it was not, they are
+ * the whole allowance. Else answers the first of 1 to 6 and 11 to 18 that applies, with 0 steps.
+ */
+uint64_t chargeplan_walk(
+    uint32_t n, uint32_t start, uint32_t k,
+    const uint8_t *sources, size_t sources_length,
+    const uint8_t *targets, size_t targets_length,
+    const int16_t *weights, size_t weights_length,
+    const uint8_t *colours, size_t colours_length,
+    uint32_t c, uint32_t b,
+    uint32_t p, uint32_t q,
+    const uint8_t *plan, size_t plan_length,
+    uint32_t j, uint16_t allowance);
+
 /* The number of an answer. */
 static inline uint32_t chargeplan_number(uint64_t answer)
 {
@@ -148,6 +226,18 @@ static inline uint32_t chargeplan_cycle(uint64_t answer)
     return (uint32_t)(answer >> 48);
 }
 
+/* The steps that a walk made. */
+static inline uint32_t chargeplan_steps(uint64_t answer)
+{
+    return (uint32_t)((answer >> 32) & 0xffffu);
+}
+
+/* Whether a walk met its colour: 1 or 0. */
+static inline uint32_t chargeplan_met(uint64_t answer)
+{
+    return (uint32_t)((answer >> 48) & 1u);
+}
+
 /* Whether search refuses n, k and b whatever the lists and buffers are (1, 4, 6 or 7). */
 static inline int chargeplan_unsearchable(uint32_t n, uint32_t k, uint32_t b)
 {
@@ -165,6 +255,54 @@ static inline size_t chargeplan_work_words(uint32_t n, uint32_t k, uint32_t b)
 static inline size_t chargeplan_plan_bytes(uint32_t n, uint32_t k, uint32_t b)
 {
     return chargeplan_unsearchable(n, k, b) ? 0 : (size_t)(k + 2) * n * (b + 1);
+}
+
+/* A model: its numbers, and its arcs as four lists of one length. */
+struct chargeplan_model {
+    uint32_t n, start, k;
+    const uint8_t *sources, *targets;
+    const int16_t *weights;
+    const uint8_t *colours;
+    size_t arcs;
+};
+
+/* chargeplan_judge of a model; plan has p + q arc numbers. */
+static inline uint64_t chargeplan_model_judge(const struct chargeplan_model *m, uint32_t c, uint32_t b, uint32_t p, uint32_t q,
+    const uint8_t *plan)
+{
+    return chargeplan_judge(m->n, m->start, m->k, m->sources, m->arcs, m->targets, m->arcs, m->weights, m->arcs, m->colours, m->arcs,
+        c, b, p, q, plan, (size_t)p + q);
+}
+
+/* chargeplan_search of a model. */
+static inline uint64_t chargeplan_model_search(const struct chargeplan_model *m, uint32_t c, uint32_t b, uint16_t *work,
+    size_t work_length, uint8_t *plan, size_t plan_length)
+{
+    return chargeplan_search(m->n, m->start, m->k, m->sources, m->arcs, m->targets, m->arcs, m->weights, m->arcs, m->colours, m->arcs,
+        c, b, work, work_length, plan, plan_length);
+}
+
+/* chargeplan_gauge_start of a model. */
+static inline struct chargeplan_started chargeplan_model_gauge_start(const struct chargeplan_model *m, uint32_t c, uint32_t b)
+{
+    return chargeplan_gauge_start(m->n, m->start, m->k, m->sources, m->arcs, m->targets, m->arcs, m->weights, m->arcs, m->colours,
+        m->arcs, c, b);
+}
+
+/* chargeplan_gauge_step of a model. */
+static inline uint64_t chargeplan_model_gauge_step(struct chargeplan_gauge *gauge, const struct chargeplan_model *m, uint32_t b,
+    uint32_t arc)
+{
+    return chargeplan_gauge_step(gauge, m->n, m->start, m->k, m->sources, m->arcs, m->targets, m->arcs, m->weights, m->arcs, m->colours,
+        m->arcs, b, arc);
+}
+
+/* chargeplan_walk of a model; plan has p + q arc numbers. */
+static inline uint64_t chargeplan_model_walk(const struct chargeplan_model *m, uint32_t c, uint32_t b, uint32_t p, uint32_t q,
+    const uint8_t *plan, uint32_t j, uint16_t allowance)
+{
+    return chargeplan_walk(m->n, m->start, m->k, m->sources, m->arcs, m->targets, m->arcs, m->weights, m->arcs, m->colours, m->arcs,
+        c, b, p, q, plan, (size_t)p + q, j, allowance);
 }
 
 #ifdef __cplusplus

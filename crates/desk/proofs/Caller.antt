@@ -1,8 +1,9 @@
--- What a C caller learns from the word that each of the two calls answers. Assumes nothing.
+-- What a C caller learns from what each of the calls answers. Assumes nothing.
 use mathlib.Core.Path.{_≡_, refl, sym, ap, _∙_}
+use mathlib.Core.Bool.{cond}
 use mathlib.Core.List.{List}
 use mathlib.Core.Logic.{_↔_, _⊎_, inl, inr}
-use Prim.Native.Nat.{ℕ, _+_}
+use Prim.Native.Nat.{ℕ, _+_, _^_, _<_}
 use native.Mathlib.Omega.{arith}
 use lib.ListN.{length, take, replicate}
 use Rattle.refusals.specs.declared.Answer.{Answer}
@@ -15,16 +16,24 @@ use Rattle.model.specs.Lists.{Lists, automatonOf}
 use Rattle.model.specs.Plans.{SomePlan}
 use Rattle.judge.specs.Judged.{judged, Right}
 use Rattle.judge.proofs.Judged.{judged-yes}
+use Rattle.gauge.specs.declared.Gauge.{Gauge}
+use Rattle.gauge.specs.Gauge.{startedOf, steppedOf}
+use Rattle.lent_gauge.proofs.Refused.{stepped-keeps}
+use Rattle.planwalk.specs.Walked.{walkAnswer, walkOf}
 use Rattle.search.specs.declared.Searched.{Searched}
 use Rattle.search.specs.declared.Searched.the-variants as outcome
 use Rattle.search.specs.Search.{searchAnswer, searchable, Found, Answered, none, found, SearchOf}
 use Rattle.search.proofs.Demand3.{answered-found, plan-searchable, search-judged, search-ten}
 use Rattle.search.proofs.Agreed.{search-agrees, agreed-answer}
-use Rattle.desk.specs.Packing.{judgeAnswer, numberIn, detailIn, prefixIn, cycleIn}
-use Rattle.desk.specs.Desk.{deskJudged, DeskSearched}
+use Rattle.desk.specs.Packing.{numberIn, detailIn, firstIn, secondIn}
+use Rattle.desk.specs.Desk.{deskJudged, deskStarted, deskWalked, DeskSearched, DeskStepped}
 use Rattle.desk.proofs.Details.{refusal-number}
-use Rattle.desk.proofs.Sizes.{judge-fields, search-fields}
+use Rattle.desk.proofs.Sizes.{judge-fields, start-fields, step-fields, walk-fields, search-fields}
 use Rattle.desk.proofs.Unpacked.{Parts, unpacked}
+
+-- the parts of a word are those of what search answers
+abbrev SearchParts : ℕ → Searched → Type 0
+SearchParts r x = Parts r (searchAnswer x .answer) (searchAnswer x .p) (searchAnswer x .q)
 
 -- 0 is the number of the yes alone
 yes-number : (v : Verdict) → (answerOf v .number ≡ 0) ↔ (v ≡ Yes)
@@ -32,7 +41,7 @@ yes-number Yes = (λ e. refl, λ e. refl)
 yes-number (Refused r) = (λ e. absurd (omega (arith, refusal-number r)), λ e. ap (λ (v : Verdict). answerOf v .number) e)
 
 -- in search, that of a plan alone, and the word has its two lengths
-plan-parts : (x : Searched) {r : ℕ} → Parts r (searchAnswer x) → numberIn r ≡ 0 → x ≡ outcome.Plan (prefixIn r) (cycleIn r)
+plan-parts : (x : Searched) {r : ℕ} → SearchParts r x → numberIn r ≡ 0 → x ≡ outcome.Plan (firstIn r) (secondIn r)
 plan-parts (outcome.Plan p q) parts e = cc
 plan-parts (outcome.Refused y) parts e = absurd (omega (arith, refusal-number y))
 
@@ -50,8 +59,8 @@ answered-kept (found f) ten = absurd (omega arith)
 
 module _ (n s k : ℕ) (l : Lists) (b c p q : ℕ) (w : List ℕ) where
   -- judging: the number and the detail are those of the verdict, and p and q are 0
-  pub desk-judge-parts : Parts (deskJudged n s k l b c p q w) (judgeAnswer (judged n s k l b c p q w))
-  desk-judge-parts = unpacked (judgeAnswer (judged n s k l b c p q w)) (judge-fields n s k l b c p q w)
+  pub desk-judge-parts : Parts (deskJudged n s k l b c p q w) (answerOf (judged n s k l b c p q w)) 0 0
+  desk-judge-parts = unpacked (answerOf (judged n s k l b c p q w)) 0 0 (judge-fields n s k l b c p q w)
 
   -- the number is 0 exactly where all is right
   pub desk-judged : (numberIn (deskJudged n s k l b c p q w) ≡ 0) ↔ Right n s k l b c p q w
@@ -63,34 +72,36 @@ module _ (n s k : ℕ) (l : Lists) (b c p q : ℕ) (w : List ℕ) where
 
 module _ {n s k : ℕ} {l : Lists} {b c : ℕ} {work plan work′ plan′ : List ℕ} {r : ℕ} (h : DeskSearched n s k l b c work plan work′ plan′ r) where
   -- search: the parts are those of what is answered
-  desk-search-parts : Parts r (searchAnswer (h .searched))
-  desk-search-parts = rw (h .word) (unpacked (searchAnswer (h .searched)) (search-fields n s k l b c (h .claim)))
+  desk-search-parts : SearchParts r (h .searched)
+  desk-search-parts =
+      let x = searchAnswer (h .searched) in
+      rw (h .word) (unpacked (x .answer) (x .p) (x .q) (search-fields n s k l b c (h .claim)))
 
   -- where the number is 0, a plan is answered, with the two lengths in the word
-  desk-answer : numberIn r ≡ 0 → SearchOf n s k l b c work plan work′ plan′ (outcome.Plan (prefixIn r) (cycleIn r))
+  desk-answer : numberIn r ≡ 0 → SearchOf n s k l b c work plan work′ plan′ (outcome.Plan (firstIn r) (secondIn r))
   desk-answer e = rw (plan-parts (h .searched) desk-search-parts e) at (h .claim)
 
   -- it is in the plan buffer,
-  pub desk-plan : numberIn r ≡ 0 → Found (automatonOf n s k l) b c (prefixIn r) (cycleIn r) plan plan′
+  pub desk-plan : numberIn r ≡ 0 → Found (automatonOf n s k l) b c (firstIn r) (secondIn r) plan plan′
   desk-plan e =
       let claim = desk-answer e in
       answered-found (claim .decided (plan-searchable n s k l b c claim) .answered)
 
   -- and judging says yes to it
   pub desk-plan-judged : numberIn r ≡ 0
-      → numberIn (deskJudged n s k l b c (prefixIn r) (cycleIn r) (take (prefixIn r + cycleIn r) plan′)) ≡ 0
+      → numberIn (deskJudged n s k l b c (firstIn r) (secondIn r) (take (firstIn r + secondIn r) plan′)) ≡ 0
   desk-plan-judged e =
-      let w = take (prefixIn r + cycleIn r) plan′ in
-      desk-judge-parts n s k l b c (prefixIn r) (cycleIn r) w .number
-      ∙ yes-number (judged n s k l b c (prefixIn r) (cycleIn r) w) .1 (search-judged n s k l b c (desk-answer e))
+      let w = take (firstIn r + secondIn r) plan′ in
+      desk-judge-parts n s k l b c (firstIn r) (secondIn r) w .number
+      ∙ yes-number (judged n s k l b c (firstIn r) (secondIn r) w) .1 (search-judged n s k l b c (desk-answer e))
 
   -- where one of 1 to 9 applies, the word is its number and detail, and both buffers are untouched
   pub desk-refused : (x : Refusal) → searchable n s k l b c (length work) (length plan) ≡ Refused x
-      → (numberIn r ≡ numbered x .number) × (detailIn r ≡ numbered x .detail) × (prefixIn r ≡ 0) × (cycleIn r ≡ 0) × (work′ ≡ work) × (plan′ ≡ plan)
+      → (numberIn r ≡ numbered x .number) × (detailIn r ≡ numbered x .detail) × (firstIn r ≡ 0) × (secondIn r ≡ 0) × (work′ ≡ work) × (plan′ ≡ plan)
   desk-refused x e =
       let (answer, works, plans) = h .claim .refused x e in
       let parts = rw answer at desk-search-parts in
-      (parts .number, parts .detail, parts .prefix, parts .cycle, works, plans)
+      (parts .number, parts .detail, parts .first, parts .second, works, plans)
 
   module _ (through : searchable n s k l b c (length work) (length plan) ≡ Yes) where
     -- where none of them applies, the number is 10 exactly where no plan of any length is feasible and accepted
@@ -118,3 +129,24 @@ desk-agrees {n} {s} {k} {l} {b} {c} ew ep h h₂ =
       one .number ∙ ap {B = ℕ} (λ (x : Answer). x .number) same ∙ sym (two .number),
       one .detail ∙ ap {B = ℕ} (λ (x : Answer). x .detail) same ∙ sym (two .detail),
     )
+
+module _ (n s k : ℕ) (l : Lists) (b c : ℕ) where
+  -- starting a gauge: number and detail are those of the verdict
+  pub desk-start-parts : Parts (deskStarted n s k l b c .answer) (answerOf (startedOf n s k l b c .verdict)) 0 0
+  desk-start-parts = unpacked (answerOf (startedOf n s k l b c .verdict)) 0 0 (start-fields n s k l b c)
+
+module _ {n s k : ℕ} {l : Lists} {b a : ℕ} {x y : Gauge} {r : ℕ} (h : DeskStepped n s k l b a x y r) where
+  -- a step of a gauge: number and detail are those of the verdict
+  pub desk-step-parts : Parts r (answerOf (steppedOf n s k l b a x .verdict)) 0 0
+  desk-step-parts = rw (h .word) (unpacked (answerOf (steppedOf n s k l b a x .verdict)) 0 0 (step-fields n s k l b a x))
+
+  -- "a refusal leaves the gauge as found"
+  pub desk-step-kept : (numberIn r ≡ 0 → ⊥) → y ≡ x
+  desk-step-kept refused = h .moved-on ∙ stepped-keeps n s k l b a x (λ e. refused (desk-step-parts .number ∙ e))
+
+-- the walk: number and detail, the steps made, and 1 where the colour was met
+pub desk-walk-parts : (n s k : ℕ) (l : Lists) (b c p q : ℕ) (w : List ℕ) (j t : ℕ) → t < 2 ^ 16 → let x = walkAnswer (walkOf n s k l b c p q w j t) in
+    Parts (deskWalked n s k l b c p q w j t) (x .answer) (x .steps) (cond (x .met) 1 0)
+desk-walk-parts n s k l b c p q w j t low =
+    let x = walkAnswer (walkOf n s k l b c p q w j t) in
+    unpacked (x .answer) (x .steps) (cond (x .met) 1 0) (walk-fields n s k l b c p q w j t low)

@@ -1,46 +1,77 @@
--- Each part of an answer is within its bits, of judging and of search. Assumes nothing.
+-- Each part of an answer is within its bits: of judging, search, gauge and walk. Assumes nothing.
 use mathlib.Core.Path.{_≡_, refl}
+use mathlib.Core.Bool.{Bool, true, false, cond}
 use mathlib.Core.List.{List}
 use Prim.Native.Nat.{ℕ, _<_, _^_}
 use native.Mathlib.Omega.{arith}
 use lib.ListN.{length}
+use mir.Val.{boolByte}
 use Rattle.refusals.specs.declared.Verdict.{Verdict}
 use Rattle.refusals.specs.declared.Verdict.the-variants.{Yes, Refused}
 use Rattle.refusals.specs.Refusals.{answerOf}
 use Rattle.model.specs.Automaton.{Automaton}
 use Rattle.model.specs.Lists.{Lists}
 use Rattle.judge.specs.Judged.{judged}
+use Rattle.gauge.specs.declared.Gauge.{Gauge}
+use Rattle.gauge.specs.Gauge.{startedOf, steppedOf}
+use Rattle.planwalk.specs.declared.Walked.{Walked}
+use Rattle.planwalk.specs.declared.Walked.the-variants as outcome
+use Rattle.planwalk.specs.Walked.{walkAnswer, walkOf}
+use Rattle.planwalk.proofs.Least.{walk-met, walk-spent}
 use Rattle.search.specs.declared.Searched.{Searched}
 use Rattle.search.specs.Search.{searchAnswer, searchable, Answered, none, found, SearchOf}
-use Rattle.desk.specs.Packing.{judgeAnswer, Fields}
-use Rattle.desk.proofs.Details.{refusal-number, judged-within, searchable-within}
+use Rattle.desk.specs.Packing.{Fields}
+use Rattle.desk.proofs.Details.{Within, refusal-number, judged-within, walked-within, started-within, stepped-within, searchable-within}
 
 -- the numbers of answers fit a byte
 answer-number : (v : Verdict) → answerOf v .number < 2 ^ 8
 answer-number Yes = omega arith
 answer-number (Refused r) = refusal-number r .1
 
+-- a verdict alone, whose detail is small
+verdict-fields : {d : ℕ} (v : Verdict) → d < 2 ^ 24 → Within d v → Fields (answerOf v) 0 0
+verdict-fields v small h =
+    record { number = answer-number v; detail = omega (arith, h .detail); first = omega arith; second = omega arith }
+
 -- what judging answers
-pub judge-fields : (n s k : ℕ) (l : Lists) (b c p q : ℕ) (w : List ℕ) → Fields (judgeAnswer (judged n s k l b c p q w))
-judge-fields n s k l b c p q w =
-    record {
-      number = answer-number (judged n s k l b c p q w);
-      detail = omega (arith, judged-within n s k l b c p q w .detail);
-      p = omega arith;
-      q = omega arith;
-    }
+pub judge-fields : (n s k : ℕ) (l : Lists) (b c p q : ℕ) (w : List ℕ) → Fields (answerOf (judged n s k l b c p q w)) 0 0
+judge-fields n s k l b c p q w = verdict-fields (judged n s k l b c p q w) (omega arith) (judged-within n s k l b c p q w)
+
+-- what starting and stepping a gauge answer
+pub start-fields : (n s k : ℕ) (l : Lists) (b c : ℕ) → Fields (answerOf (startedOf n s k l b c .verdict)) 0 0
+start-fields n s k l b c = verdict-fields (startedOf n s k l b c .verdict) (omega arith) (started-within n s k l b c)
+
+pub step-fields : (n s k : ℕ) (l : Lists) (b a : ℕ) (x : Gauge) → Fields (answerOf (steppedOf n s k l b a x .verdict)) 0 0
+step-fields n s k l b a x = verdict-fields (steppedOf n s k l b a x .verdict) (omega arith) (stepped-within n s k l b a x)
+
+-- a truth value as the code casts it
+pub bit-met : (m : Bool) → boolByte m ≡ cond m 1 0
+bit-met true = refl
+bit-met false = refl
+
+-- what the walk answers, with an allowance of 16 bits
+pub walk-fields : (n s k : ℕ) (l : Lists) (b c p q : ℕ) (w : List ℕ) (j t : ℕ) → t < 2 ^ 16 → let x = walkAnswer (walkOf n s k l b c p q w j t) in
+    Fields (x .answer) (x .steps) (cond (x .met) 1 0)
+walk-fields n s k l b c p q w j t low = go (walkOf n s k l b c p q w j t) refl
+  where
+    go : (y : Walked) → walkOf n s k l b c p q w j t ≡ y → Fields (walkAnswer y .answer) (walkAnswer y .steps) (cond (walkAnswer y .met) 1 0)
+    go (outcome.Met x) e = let (_, _, (a, z, f)) = walk-met n s k l b c p q w j t x .0 e in omega (arith, f .within)
+    go (outcome.Spent x) e = let (_, _, z, _) = walk-spent n s k l b c p q w j t x .0 e in omega arith
+    go (outcome.Refused r) e = omega (arith, refusal-number r, walked-within n s k l b c p q w j t r e .detail)
 
 -- what search answers where none of 1 to 9 applies
-answered-fields : {g : Automaton} {b c : ℕ} {plan plan′ : List ℕ} {r : Searched} → Answered g b c plan plan′ r → Fields (searchAnswer r)
+answered-fields : {g : Automaton} {b c : ℕ} {plan plan′ : List ℕ} {r : Searched} → Answered g b c plan plan′ r
+    → Fields (searchAnswer r .answer) (searchAnswer r .p) (searchAnswer r .q)
 answered-fields (none e) = omega arith
 answered-fields (found f) = omega (arith, f .short)
 
 -- what search answers
 pub search-fields : (n s k : ℕ) (l : Lists) (b c : ℕ) {work plan work′ plan′ : List ℕ} {r : Searched}
-    → SearchOf n s k l b c work plan work′ plan′ r → Fields (searchAnswer r)
+    → SearchOf n s k l b c work plan work′ plan′ r → Fields (searchAnswer r .answer) (searchAnswer r .p) (searchAnswer r .q)
 search-fields n s k l b c {work} {plan} {r = r} h = go (searchable n s k l b c (length work) (length plan)) refl
   where
-    go : (v : Verdict) → searchable n s k l b c (length work) (length plan) ≡ v → Fields (searchAnswer r)
+    go : (v : Verdict) → searchable n s k l b c (length work) (length plan) ≡ v
+        → Fields (searchAnswer r .answer) (searchAnswer r .p) (searchAnswer r .q)
     go Yes e = answered-fields (h .decided e .answered)
     go (Refused x) e =
         let small = rw e at (searchable-within n s k l b c (length work) (length plan)) in

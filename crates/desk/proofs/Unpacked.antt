@@ -2,15 +2,15 @@
 use mathlib.Core.Path.{_≡_}
 use Prim.Native.Nat.{ℕ}
 use native.Mathlib.Omega.{arith}
-use Rattle.search.specs.declared.SearchAnswer.{SearchAnswer}
-use Rattle.desk.specs.Packing.{packed, Fields, numberIn, detailIn, prefixIn, cycleIn}
+use Rattle.refusals.specs.declared.Answer.{Answer}
+use Rattle.desk.specs.Packing.{packed, Fields, numberIn, detailIn, firstIn, secondIn}
 
--- the parts of the word r are those of x
-pub record Parts (r : ℕ) (x : SearchAnswer) : Type 0 where
-  pub number : numberIn r ≡ x .answer .number
-  pub detail : detailIn r ≡ x .answer .detail
-  pub prefix : prefixIn r ≡ x .p
-  pub cycle : cycleIn r ≡ x .q
+-- the parts of the word r are those of the answer a, x and y
+pub record Parts (r : ℕ) (a : Answer) (x y : ℕ) : Type 0 where
+  pub number : numberIn r ≡ a .number
+  pub detail : detailIn r ≡ a .detail
+  pub first : firstIn r ≡ x
+  pub second : secondIn r ≡ y
 
-pub unpacked : (x : SearchAnswer) → Fields x → Parts (packed x) x
-unpacked x f = omega arith
+pub unpacked : (a : Answer) (x y : ℕ) → Fields a x y → Parts (packed a x y) a x y
+unpacked a x y f = omega arith

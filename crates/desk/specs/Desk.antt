@@ -1,21 +1,38 @@
 -- The C entries. Document 01, "What can be called": "The fitting desk's own program, written in C, calls judging and search, with numbers and
--- byte or word buffers."
+-- byte or word buffers." Since document 02, Ask 2, it also calls the gauge, whose spill "fitters wish to see", and the walk.
 use Prim.Native.Nat.{ℕ}
 use mathlib.Core.Path.{_≡_}
 use mathlib.Core.List.{List}
 use Rattle.model.specs.Lists.{Lists}
 use Rattle.judge.specs.Judged.{judged}
+use Rattle.gauge.specs.declared.Gauge.{Gauge}
+use Rattle.gauge.specs.Gauge.{startedOf, steppedOf}
+use Rattle.planwalk.specs.Walked.{walkOf}
 use Rattle.search.specs.declared.Searched.{Searched}
-use Rattle.search.specs.Search.{searchAnswer, SearchOf}
-use Rattle.desk.specs.Packing.{packed, judgeAnswer}
+use Rattle.search.specs.Search.{SearchOf}
+use Rattle.desk.specs.declared.Started.{Started}
+use Rattle.desk.specs.Packing.{verdictWord, searchWord, walkWord}
 
 -- what judging answers, in one word
 abbrev pub deskJudged : ℕ → ℕ → ℕ → Lists → ℕ → ℕ → ℕ → ℕ → List ℕ → ℕ
-deskJudged n s k l b c p q w = packed (judgeAnswer (judged n s k l b c p q w))
+deskJudged n s k l b c p q w = verdictWord (judged n s k l b c p q w)
 
 -- What search answers: the word is that of an answer of which all holds that search promises, demand 3 with it. Which plan it is, its p and q
 -- with it, is free, as in `SearchOf`.
 pub record DeskSearched (n s k : ℕ) (l : Lists) (b c : ℕ) (work plan work′ plan′ : List ℕ) (r : ℕ) : Type 0 where
   pub searched : Searched
   pub claim : SearchOf n s k l b c work plan work′ plan′ searched
-  pub word : r ≡ packed (searchAnswer searched)
+  pub word : r ≡ searchWord searched
+
+-- what starting a gauge answers: its verdict in one word, and the gauge; "a refusal hands back .. 0 in every field"
+abbrev pub deskStarted : ℕ → ℕ → ℕ → Lists → ℕ → ℕ → Started
+deskStarted n s k l b c = record { answer = verdictWord (startedOf n s k l b c .verdict); gauge = startedOf n s k l b c .gauge }
+
+-- A step of a lent gauge on arc a. x: the gauge at entry, y: the gauge at exit, r: the word.
+pub record DeskStepped (n s k : ℕ) (l : Lists) (b a : ℕ) (x y : Gauge) (r : ℕ) : Type 0 where
+  pub word : r ≡ verdictWord (steppedOf n s k l b a x .verdict)
+  pub moved-on : y ≡ steppedOf n s k l b a x .gauge
+
+-- what the walk answers, in one word
+abbrev pub deskWalked : ℕ → ℕ → ℕ → Lists → ℕ → ℕ → ℕ → ℕ → List ℕ → ℕ → ℕ → ℕ
+deskWalked n s k l b c p q w j t = walkWord (walkOf n s k l b c p q w j t)

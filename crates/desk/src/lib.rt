@@ -1,30 +1,47 @@
-// The fitting desk's entries: judging and search, to be called from C. include/chargeplan.h declares and explains them.
-// C passes a slice as two arguments, a pointer and a length.
+// The fitting desk's entries: judging, search, gauge and walk, to be called from C. include/chargeplan.h declares and explains them.
+// C passes a slice as two arguments, a pointer and a length, and a `&mut` as a pointer.
 ghost use mathlib.Core.Path.{_≡_};
 ghost use Rattle.model.specs.Lists.{lists};
 ghost use Rattle.desk.specs.Packing.{packed, Fields};
-ghost use Rattle.desk.specs.Desk.{deskJudged, DeskSearched};
+ghost use Rattle.desk.specs.Desk.{deskJudged, deskStarted, deskWalked, DeskSearched, DeskStepped};
+use gauge::Gauge;
 use judge::judge;
-use search::SearchAnswer;
+use lent_gauge::step;
+use planwalk::walk;
+use refusals::Answer;
 use search::search;
 
-// Where each part of an answer begins in the word: the number at bit 0, the detail at bit 8, p at bit 32, q at bit 48.
+// Where each part of an answer begins in the word: the number at bit 0, the detail at bit 8, and two numbers more at bits 32 and 48.
 const DETAIL: u64 = 256;
 
-const PREFIX: u64 = 4294967296;
+const FIRST: u64 = 4294967296;
 
-const CYCLE: u64 = 281474976710656;
+const SECOND: u64 = 281474976710656;
 
-// An answer in one word.
-fn pack(result: SearchAnswer) -> u64
-    requires { ⌜ Fields result ⌝ }
-    ensures { λ r. ⌜ r ≡ packed result ⌝ }
+// What starting a gauge answers: number and detail in one word, as in the other answers, and the new gauge.
+#[repr(C)]
+pub struct Started {
+    pub answer: u64,
+    pub gauge: Gauge,
+}
+
+// An answer in one word, with the two numbers that go with it.
+fn pack(answer: Answer, first: u32, second: u32) -> u64
+    requires { ⌜ Fields answer first second ⌝ }
+    ensures { λ r. ⌜ r ≡ packed answer first second ⌝ }
 {
-    let answer = result.answer;
     (answer.number as u64)
         + (answer.detail as u64) * DETAIL
-        + (result.p as u64) * PREFIX
-        + (result.q as u64) * CYCLE
+        + (first as u64) * FIRST
+        + (second as u64) * SECOND
+}
+
+// An answer in one word, where nothing goes with it.
+fn pack_alone(answer: Answer) -> u64
+    requires { ⌜ Fields answer 0 0 ⌝ }
+    ensures { λ r. ⌜ r ≡ packed answer 0 0 ⌝ }
+{
+    pack(answer, 0, 0)
 }
 
 // Judging: number 0 for yes, or the first of 1 to 6 and 11 to 17 that applies. For all numbers, lists and plans.
@@ -59,11 +76,7 @@ pub extern "C" fn chargeplan_judge(
         q,
         plan,
     );
-    pack(SearchAnswer {
-        answer: verdict.answer(),
-        p: 0,
-        q: 0,
-    })
+    pack_alone(verdict.answer())
 }
 
 // Search: number 0 with p and q of a plan in the plan buffer, 10 where there is none, or the first of 1 to 9 that applies. For all numbers,
@@ -97,5 +110,95 @@ pub extern "C" fn chargeplan_search(
         work,
         plan,
     );
-    pack(searched.answer())
+    let told = searched.answer();
+    let answer = told.answer;
+    pack(answer, told.p, told.q)
+}
+
+// Starting a gauge: number 0 and a new gauge with the start mode, the credit c and spill 0, or the first of 1 to 6 that applies and a gauge of
+// zeros. For all numbers and lists.
+#[no_mangle]
+pub extern "C" fn chargeplan_gauge_start(
+    n: u32,
+    start: u32,
+    k: u32,
+    sources: &[u8],
+    targets: &[u8],
+    weights: &[i16],
+    colours: &[u8],
+    c: u32,
+    b: u32,
+) -> Started
+    ensures { λ r. ⌜ r ≡ deskStarted n start k (lists (now (sources .entry)) (now (targets .entry)) (now (weights .entry)) (now (colours .entry))) b c ⌝ }
+{
+    let gauged = Gauge::start(n, start, k, sources, targets, weights, colours, c, b);
+    let verdict = gauged.verdict;
+    let gauge = gauged.gauge;
+    let answer = pack_alone(verdict.answer());
+    Started { answer, gauge }
+}
+
+// One step of the lent gauge on an arc: number 0 and the gauge moved on, or the first of 1 to 6, 12, 13 and 15 that applies and the gauge as
+// found. For all gauges, numbers and lists.
+#[no_mangle]
+pub extern "C" fn chargeplan_gauge_step(
+    gauge: &mut Gauge,
+    n: u32,
+    start: u32,
+    k: u32,
+    sources: &[u8],
+    targets: &[u8],
+    weights: &[i16],
+    colours: &[u8],
+    b: u32,
+    arc: u32,
+) -> u64
+    ensures { λ r. ⌜ DeskStepped n start k (lists (now (sources .entry)) (now (targets .entry)) (now (weights .entry)) (now (colours .entry))) b arc (now (gauge .entry)) (now (gauge .exit)) r ⌝ }
+{
+    let answer = step(gauge, n, start, k, sources, targets, weights, colours, b, arc);
+    pack_alone(answer)
+}
+
+// The walk: number 0 with the steps made and whether colour j was met, or the first of 1 to 6 and 11 to 18 that applies. For all numbers,
+// lists and plans.
+#[no_mangle]
+pub extern "C" fn chargeplan_walk(
+    n: u32,
+    start: u32,
+    k: u32,
+    sources: &[u8],
+    targets: &[u8],
+    weights: &[i16],
+    colours: &[u8],
+    c: u32,
+    b: u32,
+    p: u32,
+    q: u32,
+    plan: &[u8],
+    j: u32,
+    allowance: u16,
+) -> u64
+    ensures { λ r. ⌜ r ≡ deskWalked n start k (lists (now (sources .entry)) (now (targets .entry)) (now (weights .entry)) (now (colours .entry))) b c p q (now (plan .entry)) j allowance ⌝ }
+{
+    let walked = walk(
+        n,
+        start,
+        k,
+        sources,
+        targets,
+        weights,
+        colours,
+        c,
+        b,
+        p,
+        q,
+        plan,
+        j,
+        allowance,
+    );
+    let told = walked.answer();
+    let answer = told.answer;
+    let steps = told.steps as u32;
+    let met = told.met as u32;
+    pack(answer, steps, met)
 }

@@ -12,7 +12,8 @@ use refusals::Verdict;
 use walks::Step;
 use walks::bounded_step;
 
-// Where a walk stands: the mode, the charge, and the total of charge that spilled over on the way.
+// Where a walk stands: the mode, the charge, and the total of the charge that was lost at the bound since the start. C has the same struct.
+#[repr(C)]
 pub struct Gauge {
     pub mode: u8,
     pub charge: u16,

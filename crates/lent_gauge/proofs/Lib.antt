@@ -1,2 +1,3 @@
 -- Laws of the lent gauge: a refusal leaves it.
 pub mod Refused
+pub mod Lent

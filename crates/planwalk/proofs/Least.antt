@@ -3,7 +3,7 @@ use mathlib.Core.Path.{_≡_, refl, sym, ap, _∙_, subst}
 use mathlib.Core.Bool.{Bool, true, false}
 use mathlib.Core.List.{List, [], _∷_, _++_}
 use mathlib.Core.Logic.{_↔_, _⊎_, inl, inr, ⊎-elim}
-use Prim.Native.Nat.{ℕ, zero, suc, _+_, _<_}
+use Prim.Native.Nat.{ℕ, zero, suc, _+_, _≤_, _<_}
 use native.Mathlib.Omega.{arith}
 use native.Mathlib.Decide.{decLe}
 use lib.ListN.{length, getD, length-append}
@@ -81,6 +81,14 @@ module _ (g : Automaton) (j : ℕ) where
       λ (q, none). none-met w i none ∙ ap Spent (sym q),
     )
 
+  -- no refusal is answered
+  first-not-refused : {X : Type 0} (w : List ℕ) (i : ℕ) (r : Refusal) → firstMet g j w i ≡ Refused r → X
+  first-not-refused w i r q =
+      ⊎-elim
+      (λ (a, f). clash (cc (least-met w i a f)))
+      (λ none. clash (cc (none-met w i none)))
+      (first-or-none (λ d. meets g j (getD w d 0)) (length w))
+
 -- the first t steps of a plan are t, where its cycle has an arc
 pub steps-length : (p : Plan) (t : ℕ) → 0 < length (p .cycle) → length (stepsOfPlan p t) ≡ t
 steps-length p t h =
@@ -102,6 +110,25 @@ module _ (n s k : ℕ) (l : Lists) (b c p q : ℕ) (w : List ℕ) (j t : ℕ) wh
           elim (decLe k j) [
             | yes h ↦ absurd (through NoSuchColour (walk-no-colour n s k l b c p q w j t e h))
             | no h ↦ (e, omega arith)
+          ]
+
+  -- the call is refused exactly by what judging refuses the plan by, or by 18 where judging accepts it
+  pub walk-refused-by : (r : Refusal) → (walkOf n s k l b c p q w j t ≡ Refused r)
+      ↔ ((judged n s k l b c p q w ≡ verdict.Refused r) ⊎ ((judged n s k l b c p q w ≡ Yes) × (k ≤ j) × (r ≡ NoSuchColour)))
+  walk-refused-by r = (
+    λ e. go e (judged n s k l b c p q w) refl,
+    ⊎-elim (walk-refused n s k l b c p q w j t r) (λ (e, h, same). rw same (walk-no-colour n s k l b c p q w j t e h)),
+  )
+    where
+      go : walkOf n s k l b c p q w j t ≡ Refused r → (v : Verdict) → judged n s k l b c p q w ≡ v
+          → (judged n s k l b c p q w ≡ verdict.Refused r) ⊎ ((judged n s k l b c p q w ≡ Yes) × (k ≤ j) × (r ≡ NoSuchColour))
+      go e (verdict.Refused x) z = let same : x ≡ r = cc (walk-refused n s k l b c p q w j t x z) in inl (z ∙ rw same refl)
+      go e Yes z =
+          elim (decLe k j) [
+            | yes h ↦ inr (z, h, cc (walk-no-colour n s k l b c p q w j t z h))
+            | no h ↦
+                first-not-refused (automatonOf n s k l) j (stepsOfPlan (planOf p w) t) 0 r
+                (sym (walk-least n s k l b c p q w z j t (omega arith)) ∙ e)
           ]
 
   module _ (accepted : judged n s k l b c p q w ≡ Yes) where

@@ -1,7 +1,6 @@
 -- `chargeplan_search` meets its contract: what search answers, packed. Assumes nothing.
-use mathlib.Core.Path.{ap, _∙_}
+use mathlib.Core.Path.{refl, _∙_}
 use borrow.Author.Needs.{needs}
-use Rattle.desk.specs.Packing.{packed}
 use Rattle.desk.proofs.Sizes.{search-fields}
 use Rattle.desk.proofs.chargeplan_search.Statement.{statement}
 use Rattle.desk.proofs.chargeplan_search.Tie as tie
@@ -13,7 +12,9 @@ answer-requires : tie.Need-answer-requires
 answer-requires c κs = search needs
 
 pack-requires : tie.Need-pack-requires
-pack-requires c κs = rw (c .answer .ensures) (search-fields _ _ _ _ _ _ (c .before .before .before .before .before .search .ensures))
+pack-requires c κs =
+    let told = c .before in
+    rw (told .answer .ensures) (search-fields _ _ _ _ _ _ (told .before .before .before .before .before .search .ensures))
 
 same-length : tie.Need-same-length
 same-length c = search needs
@@ -23,11 +24,12 @@ same-length-2 c = search needs
 
 returns : tie.Need-returns
 returns c =
-    let d = c .before .before .before .before .before .before in
+    let told = c .before .before in
+    let call = told .before .before .before .before .before in
     record {
-      searched = d .search .result;
-      claim = d .search .ensures;
-      word = c .pack .ensures ∙ ap packed (c .before .answer .ensures);
+      searched = call .search .result;
+      claim = call .search .ensures;
+      word = c .pack .ensures ∙ rw (told .answer .ensures) refl;
     }
 
 pub chargeplan-search-spec : {M : Type 1} → statement M
