@@ -31,8 +31,8 @@
  * walk 32 to 47 the steps made, 48 whether the colour was met. Number 0 is yes; every other number is a refusal (below), the first
  * that applies, top to bottom. The detail is 0 where none is named below, and all bits that are not named are 0.
  *
- * THE CALLS. For people: the functions over a struct chargeplan_model, at the end, which have the model in one argument. Beneath
- * them: the library's own entries, which take each list with a length of its own.
+ * THE CALLS. First the calls over a struct chargeplan_model, which have the model in one argument. They are inline functions over the
+ * library's own entries, which come after them and take each list with a length of its own.
  */
 #ifndef CHARGEPLAN_H
 #define CHARGEPLAN_H
@@ -105,18 +105,77 @@ struct chargeplan_started {
     struct chargeplan_gauge gauge;
 };
 
+/* A model: its numbers, and its arcs as four lists of one length. */
+struct chargeplan_model {
+    uint32_t n, start, k;
+    const uint8_t *sources, *targets;
+    const int16_t *weights;
+    const uint8_t *colours;
+    size_t arcs;
+};
+
 /*
  * Judging: whether a plan, of any origin, is feasible and accepted for the model.
  *
- * n, start, k                         numbers of modes, start mode, number of colours
- * sources, targets, weights, colours  the arcs, four lists, each with its length
- * c, b                                the credit and the bound
- * p, q                                lengths of the plan's prefix and cycle
- * plan                                p + q arc numbers, with the list's length
+ * c, b   the credit and the bound
+ * p, q   lengths of the plan's prefix and cycle
+ * plan   p + q arc numbers
  *
  * Answers 0 for yes, else the first of 1 to 6 and 11 to 17 that applies. Any number may be given: none is cut down before it is
  * looked at.
  */
+static inline uint64_t chargeplan_model_judge(const struct chargeplan_model *m, uint32_t c, uint32_t b, uint32_t p, uint32_t q,
+    const uint8_t *plan);
+
+/*
+ * Search: a plan for the model, or that there is none.
+ *
+ * c, b   the credit and the bound
+ * work   working space: at least chargeplan_work_words(n, k, b) words; what stands in it does not matter
+ * plan   plan buffer: at least chargeplan_plan_bytes(n, k, b) bytes; what stands in it does not matter
+ *
+ * Answers 0 with p and q: the prefix is in plan[0] to plan[p - 1] and the cycle in plan[p] to plan[p + q - 1]; later bytes are
+ * as they were. Which feasible and accepted plan it is, is free. Answers 10 where no plan of any length is feasible and
+ * accepted: a larger b may help, another buffer will not. After either, every word of work is 0, and after 10 plan is as it
+ * was. Else answers the first of 1 to 9 that applies; work and plan are then as they were.
+ */
+static inline uint64_t chargeplan_model_search(const struct chargeplan_model *m, uint32_t c, uint32_t b, uint16_t *work,
+    size_t work_length, uint8_t *plan, size_t plan_length);
+
+/*
+ * Starting a gauge. The call is lent no gauge and hands back a new one, in the start mode with charge c and spill 0.
+ *
+ * Answers 0, or the first of 1 to 6 that applies and a gauge of zeros.
+ */
+static inline struct chargeplan_started chargeplan_model_gauge_start(const struct chargeplan_model *m, uint32_t c, uint32_t b);
+
+/*
+ * A step of a gauge on an arc of the model.
+ *
+ * gauge   lent to the call, which moves it on; not null, and no part of a list
+ * m, b    the model and the bound that the gauge was started with: the call cannot tell
+ * arc     the arc's number
+ *
+ * Answers 0 and moves the gauge on, or answers the first of 1 to 6, 12, 13 and 15 that applies and leaves it as it was.
+ */
+static inline uint64_t chargeplan_model_gauge_step(struct chargeplan_gauge *gauge, const struct chargeplan_model *m, uint32_t b,
+    uint32_t arc);
+
+/*
+ * The walk: judges a plan, then steps it from its beginning, the cycle repeating, until colour j is first met or the allowance is
+ * spent.
+ *
+ * c, b, p, q, plan   as in judging
+ * j                  the colour
+ * allowance          the steps that may be made, 0 to 65,535
+ *
+ * Answers 0 with the steps made: where the colour was met (chargeplan_met), the step that meets it counted; where it was not, the
+ * whole allowance. Else answers the first of 1 to 6 and 11 to 18 that applies, with 0 steps.
+ */
+static inline uint64_t chargeplan_model_walk(const struct chargeplan_model *m, uint32_t c, uint32_t b, uint32_t p, uint32_t q,
+    const uint8_t *plan, uint32_t j, uint16_t allowance);
+
+/* The library's entry for judging: each list, and the plan, with its own length. */
 uint64_t chargeplan_judge(
     uint32_t n, uint32_t start, uint32_t k,
     const uint8_t *sources, size_t sources_length,
@@ -127,18 +186,7 @@ uint64_t chargeplan_judge(
     uint32_t p, uint32_t q,
     const uint8_t *plan, size_t plan_length);
 
-/*
- * Search: a plan for the model, or that there is none.
- *
- * n to b as in judging.
- * work   working space: at least chargeplan_work_words(n, k, b) words; what stands in it does not matter
- * plan   plan buffer: at least chargeplan_plan_bytes(n, k, b) bytes; what stands in it does not matter
- *
- * Answers 0 with p and q: the prefix is in plan[0] to plan[p - 1] and the cycle in plan[p] to plan[p + q - 1]; later bytes are
- * as they were. Which feasible and accepted plan it is, is free. Answers 10 where no plan of any length is feasible and
- * accepted: a larger b may help, another buffer will not. After either, every word of work is 0, and after 10 plan is as it
- * was. Else answers the first of 1 to 9 that applies; work and plan are then as they were.
- */
+/* The library's entry for search. */
 uint64_t chargeplan_search(
     uint32_t n, uint32_t start, uint32_t k,
     const uint8_t *sources, size_t sources_length,
@@ -149,11 +197,7 @@ uint64_t chargeplan_search(
     uint16_t *work, size_t work_length,
     uint8_t *plan, size_t plan_length);
 
-/*
- * Starting a gauge: n to b as in judging. It is lent no gauge and hands back a new one, in the start mode with charge c and spill 0.
- *
- * Answers 0, or the first of 1 to 6 that applies and a gauge of zeros.
- */
+/* The library's entry for starting a gauge. */
 struct chargeplan_started chargeplan_gauge_start(
     uint32_t n, uint32_t start, uint32_t k,
     const uint8_t *sources, size_t sources_length,
@@ -162,15 +206,7 @@ struct chargeplan_started chargeplan_gauge_start(
     const uint8_t *colours, size_t colours_length,
     uint32_t c, uint32_t b);
 
-/*
- * A step of a gauge on an arc of the model.
- *
- * gauge   lent to the call, which moves it on; not null, and not part of a list
- * b       the bound; model and bound are those that the gauge was started with
- * arc     the arc's number
- *
- * Answers 0 and moves the gauge on, or answers the first of 1 to 6, 12, 13 and 15 that applies and leaves it as it was.
- */
+/* The library's entry for a step of a gauge. */
 uint64_t chargeplan_gauge_step(
     struct chargeplan_gauge *gauge,
     uint32_t n, uint32_t start, uint32_t k,
@@ -180,17 +216,7 @@ uint64_t chargeplan_gauge_step(
     const uint8_t *colours, size_t colours_length,
     uint32_t b, uint32_t arc);
 
-/*
- * The walk: judges a plan, then steps it from its beginning, the cycle repeating, until colour j is first met or the allowance is
- * spent.
- *
- * n to plan   as in judging
- * j           the colour
- * allowance   the steps that may be made, 0 to 65,535
- *
- * Answers 0 with the steps made: where the colour was met (chargeplan_met), the step that meets it counted; where it was not, they are
- * the whole allowance. Else answers the first of 1 to 6 and 11 to 18 that applies, with 0 steps.
- */
+/* The library's entry for the walk. */
 uint64_t chargeplan_walk(
     uint32_t n, uint32_t start, uint32_t k,
     const uint8_t *sources, size_t sources_length,
@@ -257,16 +283,6 @@ static inline size_t chargeplan_plan_bytes(uint32_t n, uint32_t k, uint32_t b)
     return chargeplan_unsearchable(n, k, b) ? 0 : (size_t)(k + 2) * n * (b + 1);
 }
 
-/* A model: its numbers, and its arcs as four lists of one length. */
-struct chargeplan_model {
-    uint32_t n, start, k;
-    const uint8_t *sources, *targets;
-    const int16_t *weights;
-    const uint8_t *colours;
-    size_t arcs;
-};
-
-/* chargeplan_judge of a model; plan has p + q arc numbers. */
 static inline uint64_t chargeplan_model_judge(const struct chargeplan_model *m, uint32_t c, uint32_t b, uint32_t p, uint32_t q,
     const uint8_t *plan)
 {
@@ -274,7 +290,6 @@ static inline uint64_t chargeplan_model_judge(const struct chargeplan_model *m, 
         c, b, p, q, plan, (size_t)p + q);
 }
 
-/* chargeplan_search of a model. */
 static inline uint64_t chargeplan_model_search(const struct chargeplan_model *m, uint32_t c, uint32_t b, uint16_t *work,
     size_t work_length, uint8_t *plan, size_t plan_length)
 {
@@ -282,14 +297,12 @@ static inline uint64_t chargeplan_model_search(const struct chargeplan_model *m,
         c, b, work, work_length, plan, plan_length);
 }
 
-/* chargeplan_gauge_start of a model. */
 static inline struct chargeplan_started chargeplan_model_gauge_start(const struct chargeplan_model *m, uint32_t c, uint32_t b)
 {
     return chargeplan_gauge_start(m->n, m->start, m->k, m->sources, m->arcs, m->targets, m->arcs, m->weights, m->arcs, m->colours,
         m->arcs, c, b);
 }
 
-/* chargeplan_gauge_step of a model. */
 static inline uint64_t chargeplan_model_gauge_step(struct chargeplan_gauge *gauge, const struct chargeplan_model *m, uint32_t b,
     uint32_t arc)
 {
@@ -297,7 +310,6 @@ static inline uint64_t chargeplan_model_gauge_step(struct chargeplan_gauge *gaug
         m->arcs, b, arc);
 }
 
-/* chargeplan_walk of a model; plan has p + q arc numbers. */
 static inline uint64_t chargeplan_model_walk(const struct chargeplan_model *m, uint32_t c, uint32_t b, uint32_t p, uint32_t q,
     const uint8_t *plan, uint32_t j, uint16_t allowance)
 {

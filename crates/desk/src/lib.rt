@@ -155,7 +155,18 @@ pub extern "C" fn chargeplan_gauge_step(
 ) -> u64
     ensures { λ r. ⌜ DeskStepped n start k (lists (now (sources .entry)) (now (targets .entry)) (now (weights .entry)) (now (colours .entry))) b arc (now (gauge .entry)) (now (gauge .exit)) r ⌝ }
 {
-    let answer = step(gauge, n, start, k, sources, targets, weights, colours, b, arc);
+    let answer = step(
+        gauge,
+        n,
+        start,
+        k,
+        sources,
+        targets,
+        weights,
+        colours,
+        b,
+        arc,
+    );
     pack_alone(answer)
 }
 

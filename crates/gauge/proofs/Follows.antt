@@ -3,10 +3,10 @@
 use mathlib.Core.Path.{_≡_, refl, sym, ap, _∙_}
 use mathlib.Core.List.{List, [], _∷_, _++_}
 use mathlib.Core.Logic.{_↔_}
-use Prim.Native.Nat.{ℕ, _+_, _≤_, _<_}
+use Prim.Native.Nat.{ℕ, _+_, _*_, _≤_, _<_}
 use native.Mathlib.Omega.{arith}
 use native.Mathlib.Decide.{decLe, ℕ-discrete}
-use lib.ListN.{length, take}
+use lib.ListN.{length, take, length-take}
 use Rattle.limits.specs.Ceilings.{boundMost, spillMost}
 use Rattle.walks.specs.declared.Step.{Step}
 use Rattle.walks.specs.declared.Step.the-variants.{To, Impossible}
@@ -15,7 +15,7 @@ use Rattle.walks.specs.Walk.{Ends, walked, times}
 use Rattle.walks.specs.Spill.{spilled}
 use Rattle.walks.proofs.Weights.{walked-cons}
 use Rattle.walks.proofs.Charges.{stepped-bound}
-use Rattle.walks.proofs.Spill.{step-loss, gain-most, spilled-cons}
+use Rattle.walks.proofs.Spill.{spilled-cons}
 use Rattle.refusals.specs.declared.Refusal.{Refusal}
 use Rattle.refusals.specs.declared.Refusal.the-variants.{ArcNumber, OtherMode, ImpossibleStep}
 use Rattle.refusals.specs.declared.Verdict.{Verdict}
@@ -29,7 +29,9 @@ use Rattle.model.proofs.Fitness.{fitness-yes, levels-yes}
 use Rattle.model.proofs.Plans.{serves-walked}
 use Rattle.gauge.specs.declared.Gauge.{Gauge}
 use Rattle.gauge.specs.declared.Gauged.{Gauged}
-use Rattle.gauge.specs.Gauge.{gauge, gauged, startedOf, landed, movedOf, movedLevelled, steppedOf, stopAt, afterGauged, stepsOf}
+use Rattle.gauge.specs.Gauge.{gauge, gauged, startedOf, landed, movedOf, movedLevelled, steppedOf, stopAt, afterGauged}
+use Rattle.gauge.specs.History.{calledAll, stepsOf}
+use Rattle.gauge.proofs.Losses.{lossMost, spilled-most}
 use Rattle.gauge.proofs.Gauges.{landed-full, landed-on, moved-number, moved-mode, moved-lands}
 
 -- two accepted gauges are equal exactly where their modes, their charges and their totals are
@@ -107,17 +109,6 @@ after-yes y f z = go (y .verdict) (y .gauge)
     go Yes x = (λ q. (x, refl, q), λ (u, p, q). ap {B = Gauged} (λ (t : Gauged). f (t .gauge)) p ∙ q)
     go (Refused r) x = (λ q. not-yes r x z q, λ (u, p, q). not-yes r x u p)
 
--- the most that a step of a fit model loses: the greatest weight
-abbrev pub lossMost : ℕ
-lossMost = 10000
-
-pub arc-loss : (n s k : ℕ) (l : Lists) (b a e x u : ℕ) → fitness n s k l ≡ Yes → e ≤ b → a < length (automatonOf n s k l .arcs)
-    → stepped b (arcAt (automatonOf n s k l) a .weight) e ≡ To x u → u ≤ lossMost
-arc-loss n s k l b a e x u fit h below to =
-    let w = arcAt (automatonOf n s k l) a .weight in
-    let most = gain-most w lossMost (fitness-yes n s k l .0 fit .1 .arcs-fit a below .weight-most) in
-    omega (arith, step-loss b w e x u h to)
-
 -- Stepped along the arcs w from mode m, charge e and total s, the gauge comes to mode t, charge x and total y, without a refusal, exactly
 -- where w leads from m to t, its walk from e ends at x, and s and what the walk lost make y, which is a number of 64 bits.
 module _ (n s k : ℕ) (l : Lists) (b : ℕ) (fit : fitness n s k l ≡ Yes) (hb : b ≤ boundMost) where
@@ -125,7 +116,7 @@ module _ (n s k : ℕ) (l : Lists) (b : ℕ) (fit : fitness n s k l ≡ Yes) (hb
       → (stepsOf n s k l b w (gauge m e i) ≡ gauged Yes (gauge t x y))
       ↔ (Leads (automatonOf n s k l) m w t × (walkedArcs (automatonOf n s k l) b w e ≡ Ends x)
       × (y ≡ i + spilled b (weights (automatonOf n s k l) w) e) × (y ≤ spillMost))
-  unfolding stepsOf walked spilled
+  unfolding calledAll walked spilled
   gauge-follows [] m e i t x y h hi =
       let same = same-gauge m e i t x y in (
         λ q. let (p, r, u) = same .0 q in (p, ap Ends r, omega arith, omega arith),
@@ -165,22 +156,31 @@ pub started-yes : (n s k : ℕ) (l : Lists) (b c : ℕ) → fitness n s k l ≡ 
 unfolding startedOf
 started-yes n s k l b c fit levels = rw (fit, levels) refl
 
--- Started, and stepped along a plan that serves, the gauge is refused only where the total would pass 64 bits, however often the cycle
--- repeats and wherever one stops: it has the mode that the arcs lead to, the charge of their walk, and what the walk lost.
+-- Started, and stepped along a plan that serves, however often the cycle repeats and wherever one stops, the gauge is refused only where the
+-- total would pass 64 bits: else it has the mode that the arcs lead to, the charge of their walk, and what the walk lost.
 pub plan-followed : (n s k : ℕ) (l : Lists) (b c : ℕ) (p : Plan) → fitness n s k l ≡ Yes → b ≤ boundMost → c ≤ b
     → Serves (automatonOf n s k l) b c p → (r i : ℕ) → let w = take i (p .prefix ++ times r (p .cycle)) in
+    let y = spilled b (weights (automatonOf n s k l) w) c in
     (t : ℕ) × (x : ℕ) × Leads (automatonOf n s k l) s w t × (walkedArcs (automatonOf n s k l) b w c ≡ Ends x)
-    × (spilled b (weights (automatonOf n s k l) w) c ≤ spillMost
-    → afterGauged (startedOf n s k l b c) (stepsOf n s k l b w) ≡ gauged Yes (gauge t x (spilled b (weights (automatonOf n s k l) w) c)))
+    × ((afterGauged (startedOf n s k l b c) (stepsOf n s k l b w) ≡ gauged Yes (gauge t x y)) ↔ (y ≤ spillMost))
 plan-followed n s k l b c p fit hb hc serves r i =
     let (t, x, leads, ends) = serves-walked (automatonOf n s k l) b c p serves r i in
     let w = take i (p .prefix ++ times r (p .cycle)) in
-    let y = spilled b (weights (automatonOf n s k l) w) c in (
+    let y = spilled b (weights (automatonOf n s k l) w) c in
+    let follows = gauge-follows n s k l b fit hb w s c 0 t x y hc (omega arith) in (
       t,
       x,
       leads,
       ends,
-      λ low.
-          rw (started-yes n s k l b c fit (levels-yes b c .1 (hb, hc)))
-          (gauge-follows n s k l b fit hb w s c 0 t x y hc (omega arith) .1 (leads, ends, omega arith, low)),
+      rw (started-yes n s k l b c fit (levels-yes b c .1 (hb, hc))) (λ q. follows .0 q .3, λ low. follows .1 (leads, ends, omega arith, low)),
     )
+
+-- .. which takes more than a million million steps
+pub plan-never-full : (n s k : ℕ) (l : Lists) (b c : ℕ) (p : Plan) → fitness n s k l ≡ Yes → b ≤ boundMost → c ≤ b
+    → Serves (automatonOf n s k l) b c p → (r i : ℕ) → i * lossMost ≤ spillMost → let w = take i (p .prefix ++ times r (p .cycle)) in
+    (x : Gauge) × (afterGauged (startedOf n s k l b c) (stepsOf n s k l b w) ≡ gauged Yes x)
+plan-never-full n s k l b c p fit hb hc serves r i few =
+    let (t, x, leads, ends, followed) = plan-followed n s k l b c p fit hb hc serves r i in
+    let all = p .prefix ++ times r (p .cycle) in
+    let most = spilled-most n s k l b fit (take i all) s c t x hc leads ends in
+    (gauge t x (spilled b (weights (automatonOf n s k l) (take i all)) c), followed .1 (omega (arith, length-take i all)))

@@ -1,4 +1,6 @@
--- Laws of the gauge: its rows, the call repeated, and the balance of a history.
+-- Laws of the gauge: what starting and stepping hand back (Gauges), how much is lost (Losses), that the gauge follows a walk (Follows), and the
+-- balance of a history (History).
 pub mod Gauges
+pub mod Losses
 pub mod Follows
 pub mod History

@@ -2,7 +2,6 @@
 -- call stops", the paragraph below the table. Document 02, Ask 2: "The gauge gains a spill total, kept as a 64-bit number."
 use Prim.Native.Nat.{ℕ, _+_}
 use mathlib.Core.Bool.{not}
-use mathlib.Core.List.{List, [], _∷_}
 use lib.Dec.{leb, ltb, eqb}
 use lib.ListN.{length}
 use Rattle.limits.specs.Ceilings.{spillMost}
@@ -67,8 +66,3 @@ steppedOf n s k l b a x = stopAt (fitness n s k l) x (movedLevelled (automatonOf
 -- what follows a start or a step goes on from its gauge, where it is accepted
 abbrev pub afterGauged : Gauged → (Gauge → Gauged) → Gauged
 afterGauged y f = stopAt (y .verdict) (y .gauge) (f (y .gauge))
-
--- the call repeated on the arcs of a list, up to the first refusal
-unfoldable pub stepsOf : ℕ → ℕ → ℕ → Lists → ℕ → List ℕ → Gauge → Gauged
-stepsOf n s k l b [] x = gauged Yes x
-stepsOf n s k l b (a ∷ w) x = afterGauged (steppedOf n s k l b a x) (stepsOf n s k l b w)

@@ -1,7 +1,7 @@
--- A history of steps, each a call with a model, a bound and an arc of its own. Document 02, Ask 2: "For any sequence of accepted steps from a
--- start, c plus the weights walked equals charge plus the sum, over the history, of what each step lost, and the gauge's total is that sum."
+-- Steps one after the other. Document 02, Ask 2: "For any sequence of accepted steps from a start, c plus the weights walked equals charge plus
+-- the sum, over the history, of what each step lost, and the gauge's total is that sum."
 use Prim.Native.Nat.{ℕ, _+_}
-use mathlib.Core.List.{List, [], _∷_}
+use mathlib.Core.List.{List, [], _∷_, map}
 use lib.IntN.{ℤ}
 use Rattle.walks.specs.declared.Step.{Step}
 use Rattle.walks.specs.declared.Step.the-variants.{To, Impossible}
@@ -13,7 +13,7 @@ use Rattle.gauge.specs.declared.Gauge.{Gauge}
 use Rattle.gauge.specs.declared.Gauged.{Gauged}
 use Rattle.gauge.specs.Gauge.{gauged, afterGauged, steppedOf}
 
--- a call of the step: what it takes beside the gauge
+-- a call of the step: what it takes beside the gauge, a model, a bound and an arc of its own
 pub record Call : Type 0 where
   pub modes : ℕ
   pub start : ℕ
@@ -29,6 +29,10 @@ called d x = steppedOf (d .modes) (d .start) (d .colours) (d .lists) (d .bound) 
 unfoldable pub calledAll : List Call → Gauge → Gauged
 calledAll [] x = gauged Yes x
 calledAll (d ∷ h) x = afterGauged (called d x) (calledAll h)
+
+-- the call repeated on the arcs of a list, with one model and bound
+abbrev pub stepsOf : ℕ → ℕ → ℕ → Lists → ℕ → List ℕ → Gauge → Gauged
+stepsOf n s k l b w = calledAll (map (λ a. record { modes = n; start = s; colours = k; lists = l; bound = b; arc = a }) w)
 
 -- the weight that a call walks
 abbrev pub weightOf : Call → ℤ

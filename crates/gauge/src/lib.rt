@@ -63,10 +63,12 @@ fn land(gauge: Gauge, mode: u8, charge: u16, lost: u32) -> Gauged
 {
     let spill = gauge.spill;
     let more = lost as u64;
-    if spill > Limits::SPILL - more {
+    let room = Limits::SPILL - more;
+    if spill > room {
         return refused(gauge, Refusal::ImpossibleStep(0));
     }
-    accepted(mode, charge, spill + more)
+    let total = spill + more;
+    accepted(mode, charge, total)
 }
 
 // Refusal 6, and the new gauge, where the model is fit.

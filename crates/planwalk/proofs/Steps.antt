@@ -4,7 +4,7 @@ use mathlib.Core.Path.{_≡_, refl, sym, ap, _∙_, subst}
 use mathlib.Core.Bool.{Bool, true, false, true≢false}
 use mathlib.Core.List.{List, [], _∷_, _++_, append-nil, append-assoc}
 use mathlib.Core.Logic.{_⊎_, inl, inr}
-use Prim.Native.Nat.{ℕ, zero, suc, _+_, _-_, _*_, _≤_, _<_}
+use Prim.Native.Nat.{ℕ, zero, suc, _+_, _-_, _≤_, _<_}
 use native.Mathlib.Omega.{arith}
 use native.Mathlib.Decide.{decLe}
 use lib.ListN.{length, take, drop, length-take, take-append-drop}
@@ -12,8 +12,10 @@ use lib.Seq.{take-add, take-append-seam}
 use borrow.Author.Tests.{lt-leb}
 use Rattle.limits.specs.Ceilings.{boundMost, planMost, spillMost}
 use Rattle.walks.specs.Walk.{Ends, times}
+use Rattle.walks.specs.Spill.{spilled}
 use Rattle.walks.proofs.Weights.{walked-cons}
 use Rattle.walks.proofs.Charges.{stepped-bound}
+use Rattle.walks.proofs.Spill.{spilled-cons}
 use Rattle.refusals.specs.declared.Verdict.the-variants.{Yes}
 use Rattle.model.specs.declared.Model.{Model}
 use Rattle.model.specs.Automaton.{Automaton, arcAt, meets, weights}
@@ -27,7 +29,8 @@ use Rattle.judge.specs.Shape.{planOf}
 use Rattle.judge.specs.Judged.{judged}
 use Rattle.judge.proofs.Judged.{judged-yes}
 use Rattle.gauge.specs.Gauge.{gauge, startedOf}
-use Rattle.gauge.proofs.Follows.{lossMost, arc-loss, moved-yes, step-moved, started-yes}
+use Rattle.gauge.proofs.Losses.{spilled-most}
+use Rattle.gauge.proofs.Follows.{moved-yes, step-moved, started-yes}
 use Rattle.planwalk.specs.declared.Walked.{Walked}
 use Rattle.planwalk.specs.Walked.{stepsOfPlan, metOr, walkOn, gaugeWalk, walkOf, firstMet}
 
@@ -39,10 +42,10 @@ met-or false Later End i (inl (inr met)) rest = rest (inl met)
 met-or false Later End i (inr end) rest = rest (inr end)
 
 module _ (n s k : ℕ) (l : Lists) (b : ℕ) (fit : fitness n s k l ≡ Yes) (low : b ≤ boundMost) (j : ℕ) where
-  -- Along arcs w that lead on and whose walk ends, the gauge walks to the least step that meets the colour, whatever arcs v stand behind them,
-  -- if one of w meets it or v has none; its total has room for what w may lose.
-  pub gauge-least : (w v : List ℕ) (m e y t x : ℕ) → e ≤ b → y + length w * lossMost ≤ spillMost → Leads (automatonOf n s k l) m w t
-      → walkedArcs (automatonOf n s k l) b w e ≡ Ends x → Meets (automatonOf n s k l) j w ⊎ (v ≡ []) → (i : ℕ)
+  -- Along arcs w that lead on, whose walk ends and for whose losses the total has room, the gauge walks to the least step that meets the
+  -- colour, whatever arcs v stand behind them, if one of w meets it or v has none.
+  pub gauge-least : (w v : List ℕ) (m e y t x : ℕ) → e ≤ b → y + spilled b (weights (automatonOf n s k l) w) e ≤ spillMost
+      → Leads (automatonOf n s k l) m w t → walkedArcs (automatonOf n s k l) b w e ≡ Ends x → Meets (automatonOf n s k l) j w ⊎ (v ≡ []) → (i : ℕ)
       → gaugeWalk n s k l b j (w ++ v) i (gauge m e y) ≡ firstMet (automatonOf n s k l) j (w ++ v) i
   unfolding gaugeWalk firstMet
   gauge-least [] v m e y t x h room leads q (inl none) i = absurd none
@@ -52,14 +55,14 @@ module _ (n s k : ℕ) (l : Lists) (b : ℕ) (fit : fitness n s k l ≡ Yes) (lo
       let f = arcAt g a .weight in
       let u = arcAt g a .target in
       let (z, lost, to, r) = walked-cons b f (weights g w) e x .0 q in
-      let little = arc-loss n s k l b a e z lost fit h below to in
+      let sum = spilled-cons b f (weights g w) e z lost to in
       let step =
       step-moved n s k l b a (gauge m e y) fit (levels-yes b e .1 (low, h))
-      ∙ moved-yes g b a m e y u z (y + lost) .1 (below, source, refl, (lost, to, refl, omega arith))
+      ∙ moved-yes g b a m e y u z (y + lost) .1 (below, source, refl, (lost, to, refl, omega (arith, sum)))
       in
       rw step
       (met-or (meets g j a) (Meets g j w) (v ≡ []) (suc i) last
-      (λ rest. gauge-least w v u z (y + lost) t x (stepped-bound b f e z lost h to) (omega arith) leads r rest (suc i)))
+      (λ rest. gauge-least w v u z (y + lost) t x (stepped-bound b f e z lost h to) (omega (arith, sum)) leads r rest (suc i)))
 
   -- the same of the first steps of a plan that serves, from the start: prefix and one round meet every colour
   plan-least : (c : ℕ) (p : Plan) → c ≤ b → Serves (automatonOf n s k l) b c p → length (p .prefix ++ p .cycle) ≤ planMost → j < k → (t : ℕ)
@@ -71,7 +74,7 @@ module _ (n s k : ℕ) (l : Lists) (b : ℕ) (fit : fitness n s k l ≡ Yes) (lo
             let (m, x, leads, ends) = serves-walked (automatonOf n s k l) b c p serves t t in
             let w = stepsOfPlan p t in
             subst (λ (u : List ℕ). gaugeWalk n s k l b j u 0 (gauge s c 0) ≡ firstMet (automatonOf n s k l) j u 0) (append-nil w)
-            (gauge-least w [] s c 0 m x h (omega (arith, length-take t (p .prefix ++ times t (p .cycle)))) leads ends (inr refl) 0)
+            (gauge-least w [] s c 0 m x h (room t m x leads ends q) leads ends (inr refl) 0)
         | no q ↦
             let d = length (p .prefix ++ p .cycle) in
             let all = p .prefix ++ times t (p .cycle) in
@@ -79,11 +82,19 @@ module _ (n s k : ℕ) (l : Lists) (b : ℕ) (fit : fitness n s k l ≡ Yes) (lo
             let whole : d + (t - d) ≡ t = omega arith in
             let e : take d all ++ take (t - d) (drop d all) ≡ take t all = sym (take-add d (t - d) all) ∙ ap (λ (i : ℕ). take i all) whole in
             subst (λ (u : List ℕ). gaugeWalk n s k l b j u 0 (gauge s c 0) ≡ firstMet (automatonOf n s k l) j u 0) e
-            (gauge-least (take d all) (take (t - d) (drop d all)) s c 0 m x h (omega (arith, length-take d all)) leads ends
+            (gauge-least (take d all) (take (t - d) (drop d all)) s c 0 m x h (room d m x leads ends (omega arith)) leads ends
             (inl (subst (Meets (automatonOf n s k l) j) (sym (once (p .prefix) (p .cycle) t (omega arith)))
             (some-right (meets (automatonOf n s k l) j) (p .prefix) (p .cycle) (serves .accepted j hj)))) 0)
       ])
     where
+      -- prefix and one round lose far less than the total takes
+      room : (i m x : ℕ) → let w = take i (p .prefix ++ times t (p .cycle)) in
+          Leads (automatonOf n s k l) s w m → walkedArcs (automatonOf n s k l) b w c ≡ Ends x → i ≤ length (p .prefix ++ p .cycle)
+          → 0 + spilled b (weights (automatonOf n s k l) w) c ≤ spillMost
+      room i m x leads ends few =
+          let w = take i (p .prefix ++ times t (p .cycle)) in
+          omega (arith, length-take i (p .prefix ++ times t (p .cycle)), spilled-most n s k l b fit w s c m x h leads ends)
+
       once : (u v : List ℕ) (t : ℕ) → 0 < t → take (length (u ++ v)) (u ++ times t v) ≡ u ++ v
       once u v zero h = absurd (omega arith)
       once u v (suc t) h = rw (sym (append-assoc u v (times t v))) (take-append-seam (u ++ v) (times t v))

@@ -31,7 +31,7 @@ pub fn gain(weight: i16) -> u16
     weight as u16
 }
 
-// A move from a charge: the draw first, then the gain, cut off at the bound.
+// A move from a charge: the draw first, then the gain, cut off at the bound, with what was cut off.
 pub fn bounded_move(charge: u16, draw: u16, gain: u16, bound: u16) -> Step
     ensures { λ r. ⌜ r ≡ moved bound (record { draw = draw; gain = gain }) charge ⌝ }
 {
@@ -40,9 +40,11 @@ pub fn bounded_move(charge: u16, draw: u16, gain: u16, bound: u16) -> Step
     }
     let sum = ((charge - draw) as u32) + (gain as u32);
     if sum < (bound as u32) {
-        return Step::To(sum as u16, 0);
+        let reached = sum as u16;
+        return Step::To(reached, 0);
     }
-    Step::To(bound, sum - (bound as u32))
+    let lost = sum - (bound as u32);
+    Step::To(bound, lost)
 }
 
 // The smaller of two numbers.

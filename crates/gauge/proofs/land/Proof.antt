@@ -6,8 +6,8 @@ use Rattle.gauge.proofs.Gauges.{landed-full, landed-on}
 use Rattle.gauge.proofs.land.Statement.{statement}
 use Rattle.gauge.proofs.land.Tie as tie
 
-sub-if1 : tie.Need-sub-if1
-sub-if1 c = search needs
+sub-room : tie.Need-sub-room
+sub-room c = search needs
 
 refused-requires : tie.Need-refused-requires
 refused-requires c κs = search needs
@@ -17,8 +17,8 @@ returns c =
     let a = c .before .before .args in
     c .refused .ensures ∙ sym (landed-full (a .gauge) (a .mode) (a .charge) (a .lost) (omega arith))
 
-add-accepted : tie.Need-add-accepted
-add-accepted c = search needs
+add-total : tie.Need-add-total
+add-total c = search needs
 
 accepted-requires : tie.Need-accepted-requires
 accepted-requires c κs = search needs
@@ -29,4 +29,4 @@ returns-2 c =
     c .accepted .ensures ∙ sym (landed-on (a .gauge) (a .mode) (a .charge) (a .lost) (omega arith))
 
 pub land-spec : {M : Type 1} → statement M
-land-spec = tie.close (tie.spec sub-if1 refused-requires returns add-accepted accepted-requires returns-2)
+land-spec = tie.close (tie.spec sub-room refused-requires returns add-total accepted-requires returns-2)

@@ -18,8 +18,8 @@ cast-sum c = search needs
 add-sum : tie.Need-add-sum
 add-sum c = search needs
 
-cast-t10 : tie.Need-cast-t10
-cast-t10 c = search needs
+cast-reached : tie.Need-cast-reached
+cast-reached c = search needs
 
 returns-2 : tie.Need-returns-2
 unfolding moved
@@ -29,8 +29,8 @@ returns-2 c =
     let l : a .charge - a .draw + a .gain - a .bound ≡ 0 = omega arith in
     simp (le-leb _ _ (c .before .if1 .left), m, l)
 
-sub-t8 : tie.Need-sub-t8
-sub-t8 c = search needs
+sub-lost : tie.Need-sub-lost
+sub-lost c = search needs
 
 returns-3 : tie.Need-returns-3
 unfolding moved
@@ -40,4 +40,4 @@ returns-3 c =
     simp (le-leb _ _ (c .before .if1 .left), m)
 
 pub bounded-move-spec : {M : Type 1} → statement M
-bounded-move-spec = tie.close (tie.spec returns cast-sum add-sum cast-t10 returns-2 sub-t8 returns-3)
+bounded-move-spec = tie.close (tie.spec returns cast-sum add-sum cast-reached returns-2 sub-lost returns-3)
