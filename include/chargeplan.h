@@ -23,13 +23,14 @@
  * cycle ends in the mode where it began. It is feasible where every step is possible in any number of rounds, and accepted
  * where each of the k colours stands on some arc of the cycle.
  *
- * LISTS AND BUFFERS. Each is a pointer and the number of its elements. The caller sees to three things: the memory is as long as
- * the call is told, it is aligned as its type asks, and no two lists or buffers of one call share memory. A list or buffer
- * without elements may be a null pointer with length 0. The lists are only read.
+ * LISTS, BUFFERS AND THE GAUGE. A list or buffer is a pointer, and a call is told the number of its elements. The caller sees to
+ * three things: the memory is as long as the call is told, it is aligned as its type asks, and no two lists or buffers of one call,
+ * nor a gauge, share memory. A list or buffer without elements may be a null pointer; a gauge may not. The lists are only read.
  *
  * THE ANSWER. One word of 64 bits: bits 0 to 7 the number, 8 to 31 the detail; with a plan found 32 to 47 p, 48 to 63 q; with a
- * walk 32 to 47 the steps made, 48 whether the colour was met. Number 0 is yes; every other number is a refusal (below), the first
- * that applies, top to bottom. The detail is 0 where none is named below, and all bits that are not named are 0.
+ * walk 32 to 47 the steps made, 48 whether the colour was met. (Starting a gauge answers a struct with that word and the gauge.)
+ * Number 0 is yes; every other number is a refusal (below), the first that applies, top to bottom. The detail is 0 where none is
+ * named below, and all bits that are not named are 0.
  *
  * THE CALLS. First the calls over a struct chargeplan_model, which have the model in one argument. They are inline functions over the
  * library's own entries, which come after them and take each list with a length of its own.
@@ -61,8 +62,10 @@ extern "C" {
 #define CHARGEPLAN_WORK_WORDS_MOST (4u * (CHARGEPLAN_COLOURS_MOST + 1u) * CHARGEPLAN_PRODUCT_MOST)
 #define CHARGEPLAN_PLAN_BYTES_MOST ((CHARGEPLAN_COLOURS_MOST + 2u) * CHARGEPLAN_PRODUCT_MOST)
 
-/* The numbers. Search answers 0 to 10; judging 0 to 6 and 11 to 17; starting a gauge 0 to 6; a step of a gauge 0 to 6, 12, 13 and 15,
-   the last three with detail 0; the walk 0 to 6 and 11 to 18. */
+/*
+ * The numbers. Search answers 0 to 10; judging 0 to 6 and 11 to 17; starting a gauge 0 to 6; a step of a gauge 0 to 6, 12, 13 and 15,
+ * the last three with detail 0; the walk 0 to 6 and 11 to 18.
+ */
 enum {
     CHARGEPLAN_YES = 0,              /* judging: the plan is feasible and accepted; search: a plan is in the buffer; gauge: it is
                                         started, or has moved on; walk: the steps are made */
@@ -152,7 +155,7 @@ static inline struct chargeplan_started chargeplan_model_gauge_start(const struc
 /*
  * A step of a gauge on an arc of the model.
  *
- * gauge   lent to the call, which moves it on; not null, and no part of a list
+ * gauge   lent to the call, which moves it on
  * m, b    the model and the bound that the gauge was started with: the call cannot tell
  * arc     the arc's number
  *
@@ -170,7 +173,8 @@ static inline uint64_t chargeplan_model_gauge_step(struct chargeplan_gauge *gaug
  * allowance          the steps that may be made, 0 to 65,535
  *
  * Answers 0 with the steps made: where the colour was met (chargeplan_met), the step that meets it counted; where it was not, the
- * whole allowance. Else answers the first of 1 to 6 and 11 to 18 that applies, with 0 steps.
+ * whole allowance. An allowance of p + q steps or more meets the colour. Else answers the first of 1 to 6 and 11 to 18 that
+ * applies, with 0 steps.
  */
 static inline uint64_t chargeplan_model_walk(const struct chargeplan_model *m, uint32_t c, uint32_t b, uint32_t p, uint32_t q,
     const uint8_t *plan, uint32_t j, uint16_t allowance);

@@ -1,6 +1,7 @@
 /*
- * The fitting desk: reads a mission (the model of a knee, battery size and charge on arrival), searches a plan for it, prints the
- * plan step by step and judges it.
+ * The fitting desk: reads a mission (the model of a knee, battery size and charge on arrival), searches a plan for it, judges it, and
+ * runs it on the bench: a gauge is stepped through the prefix and two rounds of the cycle, and shows what each step loses at the bound;
+ * a walk tells at which step each colour is first met.
  *
  *     desk MISSION
  *
@@ -11,6 +12,7 @@
  */
 #include "chargeplan.h"
 
+#include <inttypes.h>
 #include <stdio.h>
 #include <stdlib.h>
 #include <string.h>
@@ -61,6 +63,7 @@ static const struct {
     {"a step is impossible", "step"},
     {"the first and the second round each end lower than they began", NULL},
     {"a colour is missing from the cycle", "colour"},
+    {"there is no such colour", NULL},
 };
 
 /* A refusal in words: its number, its sentence and its detail. */
@@ -78,6 +81,15 @@ static void print_refusal(const char *call, uint64_t answer)
     if (meanings[number].detail != NULL)
         printf(" (%s %u)", meanings[number].detail, (unsigned)detail);
     printf("\n");
+}
+
+/* Whether an answer is yes; a refusal is printed. */
+static int is_yes(const char *call, uint64_t answer)
+{
+    if (chargeplan_number(answer) == CHARGEPLAN_YES)
+        return 1;
+    print_refusal(call, answer);
+    return 0;
 }
 
 /* Whether nothing but blanks is left of a line. */
@@ -193,79 +205,96 @@ static int read_mission(const char *name, struct mission *m)
     return fine;
 }
 
-/* A walk: where it stands. */
-struct place {
-    uint8_t mode;
-    int32_t charge;
-};
-
-/* Some arcs of the plan, with mode and charge after each. */
-static void print_steps(const struct mission *m, const char *title, const uint8_t *arcs, uint32_t count, struct place *at)
+/* The mission's model, whose lists stay in the mission. */
+static struct chargeplan_model model_of(const struct mission *m)
 {
+    struct chargeplan_model model = {m->numbers[MODES], m->numbers[START], m->numbers[COLOURS], m->sources, m->targets, m->weights, m->met,
+        m->arcs};
+
+    return model;
+}
+
+/*
+ * Steps the gauge over some arcs of the plan, and prints it after each with the step's spill; at the end the charge and the spill of
+ * them all. The answer is 0 where a step is refused.
+ */
+static int run_arcs(const struct chargeplan_model *model, uint32_t b, const char *title, const uint8_t *arcs, uint32_t count,
+    struct chargeplan_gauge *gauge)
+{
+    uint64_t at_first = gauge->spill;
     uint32_t i;
 
     printf("%s, %u %s\n", title, (unsigned)count, count == 1 ? "arc" : "arcs");
     for (i = 0; i < count; i++) {
-        int32_t charge = at->charge + m->weights[arcs[i]];
+        uint64_t before = gauge->spill;
 
-        at->charge = charge < (int32_t)m->numbers[BOUND] ? charge : (int32_t)m->numbers[BOUND];
-        at->mode = m->targets[arcs[i]];
-        printf("  arc %3u  mode %2u  charge %4ld\n", (unsigned)arcs[i], (unsigned)at->mode, (long)at->charge);
+        if (!is_yes("the gauge refuses", chargeplan_model_gauge_step(gauge, model, b, arcs[i])))
+            return 0;
+        printf("  arc %3u  mode %2u  charge %4u  spill %4" PRIu64 "\n", (unsigned)arcs[i], (unsigned)gauge->mode, (unsigned)gauge->charge,
+            gauge->spill - before);
     }
+    printf("  ends with charge %u; spill %" PRIu64 "\n", (unsigned)gauge->charge, gauge->spill - at_first);
+    return 1;
 }
 
-/* The plan found, walked through its prefix and two rounds of its cycle. */
-static void print_plan(const struct mission *m, const uint8_t *plan, uint32_t p, uint32_t q)
+/* The plan on the bench: its prefix and two rounds of its cycle. The answer is 0 where the gauge refuses. */
+static int run_plan(const struct chargeplan_model *model, uint32_t c, uint32_t b, const uint8_t *plan, uint32_t p, uint32_t q)
 {
-    struct place at = {(uint8_t)m->numbers[START], (int32_t)m->numbers[CREDIT]};
+    struct chargeplan_started started = chargeplan_model_gauge_start(model, c, b);
+    struct chargeplan_gauge *gauge = &started.gauge;
 
-    printf("plan: prefix %u, cycle %u; from mode %u with charge %u\n", (unsigned)p, (unsigned)q, (unsigned)m->numbers[START],
-        (unsigned)m->numbers[CREDIT]);
-    print_steps(m, "prefix", plan, p, &at);
-    print_steps(m, "first round", plan + p, q, &at);
-    print_steps(m, "second round", plan + p, q, &at);
+    if (!is_yes("the gauge does not start", started.answer) || !run_arcs(model, b, "prefix", plan, p, gauge)
+        || !run_arcs(model, b, "first round", plan + p, q, gauge) || !run_arcs(model, b, "second round", plan + p, q, gauge))
+        return 0;
+    printf("spill in all: %" PRIu64 "\n", gauge->spill);
+    return 1;
 }
 
-static uint64_t search(const struct mission *m, uint16_t *work, size_t words, uint8_t *plan, size_t bytes)
+/* The step, counted from 1, at which each colour is first met. The answer is 0 where the walk refuses. */
+static int print_colours(const struct chargeplan_model *model, uint32_t c, uint32_t b, const uint8_t *plan, uint32_t p, uint32_t q)
 {
-    return chargeplan_search(m->numbers[MODES], m->numbers[START], m->numbers[COLOURS], m->sources, m->arcs, m->targets, m->arcs, m->weights, m->arcs,
-        m->met, m->arcs, m->numbers[CREDIT], m->numbers[BOUND], work, words, plan, bytes);
-}
+    uint32_t j;
 
-static uint64_t judge(const struct mission *m, const uint8_t *plan, uint32_t p, uint32_t q)
-{
-    return chargeplan_judge(m->numbers[MODES], m->numbers[START], m->numbers[COLOURS], m->sources, m->arcs, m->targets, m->arcs, m->weights, m->arcs,
-        m->met, m->arcs, m->numbers[CREDIT], m->numbers[BOUND], p, q, plan, (size_t)p + q);
+    for (j = 0; j < model->k; j++) {
+        uint64_t answer = chargeplan_model_walk(model, c, b, p, q, plan, j, UINT16_MAX);
+
+        if (!is_yes("the walk refuses", answer))
+            return 0;
+        if (chargeplan_met(answer))
+            printf("colour %u is first met at step %u\n", (unsigned)j, (unsigned)chargeplan_steps(answer));
+        else
+            printf("colour %u is not met in %u steps\n", (unsigned)j, (unsigned)chargeplan_steps(answer));
+    }
+    return 1;
 }
 
 /* Searches, and tells what came of it. */
-static int plan_mission(const struct mission *m, uint16_t *work, size_t words, uint8_t *plan, size_t bytes)
+static int plan_mission(const struct chargeplan_model *model, uint32_t c, uint32_t b, uint16_t *work, size_t words, uint8_t *plan,
+    size_t bytes)
 {
-    uint64_t answer = search(m, work, words, plan, bytes);
+    uint64_t answer = chargeplan_model_search(model, c, b, work, words, plan, bytes);
     uint32_t p = chargeplan_prefix(answer);
     uint32_t q = chargeplan_cycle(answer);
 
     if (chargeplan_number(answer) == CHARGEPLAN_NO_PLAN) {
-        printf("no plan exists for this model with bound %u and credit %u\n", (unsigned)m->numbers[BOUND], (unsigned)m->numbers[CREDIT]);
+        printf("no plan exists for this model with bound %u and credit %u\n", (unsigned)b, (unsigned)c);
         return NO_PLAN;
     }
-    if (chargeplan_number(answer) != CHARGEPLAN_YES) {
-        print_refusal("search refuses", answer);
+    if (!is_yes("search refuses", answer))
         return REFUSED;
-    }
-    print_plan(m, plan, p, q);
-    answer = judge(m, plan, p, q);
-    if (chargeplan_number(answer) != CHARGEPLAN_YES) {
-        print_refusal("judging refuses", answer);
+    printf("plan: prefix %u, cycle %u; from mode %u with charge %u\n", (unsigned)p, (unsigned)q, (unsigned)model->start, (unsigned)c);
+    if (!is_yes("judging refuses", chargeplan_model_judge(model, c, b, p, q, plan)))
         return REFUSED;
-    }
     printf("judged: feasible and accepted\n");
-    return PLAN;
+    /* A plan so judged is refused neither by the gauge nor by the walk. */
+    return run_plan(model, c, b, plan, p, q) && print_colours(model, c, b, plan, p, q) ? PLAN : REFUSED;
 }
 
 int main(int argc, char **argv)
 {
     struct mission m;
+    struct chargeplan_model model;
+    uint32_t bound;
     size_t words, bytes;
     uint16_t *work;
     uint8_t *plan;
@@ -277,15 +306,17 @@ int main(int argc, char **argv)
     }
     if (!read_mission(argv[1], &m))
         return FAILED;
+    model = model_of(&m);
+    bound = m.numbers[BOUND];
     /* Where the numbers are refused in any case, no buffer is needed: both sizes are 0. */
-    words = chargeplan_work_words(m.numbers[MODES], m.numbers[COLOURS], m.numbers[BOUND]);
-    bytes = chargeplan_plan_bytes(m.numbers[MODES], m.numbers[COLOURS], m.numbers[BOUND]);
+    words = chargeplan_work_words(model.n, model.k, bound);
+    bytes = chargeplan_plan_bytes(model.n, model.k, bound);
     work = malloc(words * sizeof *work);
     plan = malloc(bytes);
     if (words > 0 && (work == NULL || plan == NULL))
         fprintf(stderr, "no memory for %lu words and %lu bytes\n", (unsigned long)words, (unsigned long)bytes);
     else
-        status = plan_mission(&m, work, words, plan, bytes);
+        status = plan_mission(&model, m.numbers[CREDIT], bound, work, words, plan, bytes);
     free(work);
     free(plan);
     return status;

@@ -1,5 +1,6 @@
 #include "calls.h"
 
+#include <inttypes.h>
 #include <stdio.h>
 #include <stdlib.h>
 #include <string.h>
@@ -30,8 +31,30 @@ void check_answer(const char *what, uint64_t answer, uint32_t number, uint32_t d
             (unsigned)number, (unsigned)detail);
 }
 
-/* A block of its own with the same content; null where it has none. */
-static void *copied(const void *from, size_t bytes)
+void check_outcome(const char *what, uint64_t answer, struct outcome expected)
+{
+    struct verdict v = expected.verdict;
+    int right = chargeplan_number(answer) == v.number && chargeplan_detail(answer) == v.detail
+        && chargeplan_steps(answer) == expected.steps && chargeplan_met(answer) == expected.met && answer >> 49 == 0;
+
+    check(right, what);
+    if (!right && failures <= PRINTED_MOST)
+        printf("  number %u detail %u steps %u met %u above %u, not %u %u %u %u 0\n", (unsigned)chargeplan_number(answer),
+            (unsigned)chargeplan_detail(answer), (unsigned)chargeplan_steps(answer), (unsigned)chargeplan_met(answer),
+            (unsigned)(answer >> 49), (unsigned)v.number, (unsigned)v.detail, (unsigned)expected.steps, (unsigned)expected.met);
+}
+
+void check_gauge(const char *what, const struct gauge *g, uint32_t mode, uint32_t charge, uint64_t spill)
+{
+    int right = g->mode == mode && g->charge == charge && g->spill == spill;
+
+    check(right, what);
+    if (!right && failures <= PRINTED_MOST)
+        printf("  mode %u charge %u spill %" PRIu64 ", not %u %u %" PRIu64 "\n", (unsigned)g->mode, (unsigned)g->charge, g->spill,
+            (unsigned)mode, (unsigned)charge, spill);
+}
+
+void *copied(const void *from, size_t bytes)
 {
     void *to;
 
@@ -52,13 +75,7 @@ static int same(const void *x, const void *y, size_t bytes)
     return bytes == 0 || memcmp(x, y, bytes) == 0;
 }
 
-/* The model with its lists in blocks of their own. */
-struct lent {
-    uint8_t *sources, *targets, *colours;
-    int16_t *weights;
-};
-
-static struct lent lend(const struct model *m)
+struct lent lend(const struct model *m)
 {
     struct lent l;
 
@@ -69,8 +86,7 @@ static struct lent lend(const struct model *m)
     return l;
 }
 
-/* Takes the lists back; they are as they were. */
-static void take_back(const struct model *m, struct lent l, const char *what)
+void take_back(const struct model *m, struct lent l, const char *what)
 {
     check(same(l.sources, m->sources, m->sources_length) && same(l.targets, m->targets, m->targets_length)
             && same(l.weights, m->weights, m->weights_length * sizeof *m->weights)
@@ -103,6 +119,12 @@ void judged(const char *what, const struct model *m, uint32_t c, uint32_t b, uin
 
     check_answer(what, answer, number, detail);
     check(v.number == number && v.detail == detail, what);
+    if (number == CHARGEPLAN_YES) {
+        walked(what, m, c, b, p, q, plan, length, UINT32_MAX, UINT16_MAX, walk_refused(CHARGEPLAN_NO_SUCH_COLOUR, 0));
+    } else {
+        walked(what, m, c, b, p, q, plan, length, UINT32_MAX, UINT16_MAX, walk_refused(number, detail));
+        walked(what, m, c, b, p, q, plan, length, 0, UINT16_MAX, walk_refused(number, detail));
+    }
 }
 
 /* Two buffers with junk, and what stood in them. */
@@ -154,7 +176,9 @@ static void check_found(const char *what, const struct model *m, uint32_t c, uin
     check(judge(what, m, c, b, p, q, s->plan, (size_t)p + q) == 0, what);
 }
 
-uint64_t search(const char *what, const struct model *m, uint32_t c, uint32_t b, size_t words, size_t bytes, unsigned junk)
+/* Search; a plan found is copied to `to`, unless that is null. */
+static uint64_t search_to(const char *what, const struct model *m, uint32_t c, uint32_t b, size_t words, size_t bytes, unsigned junk,
+    uint8_t *to)
 {
     struct lent l = lend(m);
     struct buffers s = lend_buffers(words, bytes, junk);
@@ -165,6 +189,8 @@ uint64_t search(const char *what, const struct model *m, uint32_t c, uint32_t b,
     if (number == CHARGEPLAN_YES) {
         check(is_cleared(&s), what);
         check_found(what, m, c, b, &s, answer);
+        if (to != NULL)
+            memcpy(to, s.plan, bytes);
     } else {
         check(same(s.plan, s.plan_before, bytes), what);
         check(number == CHARGEPLAN_NO_PLAN ? is_cleared(&s) : same(s.work, s.work_before, words * sizeof *s.work), what);
@@ -177,10 +203,15 @@ uint64_t search(const char *what, const struct model *m, uint32_t c, uint32_t b,
     return answer;
 }
 
-uint64_t search_exactly(const char *what, const struct model *m, uint32_t c, uint32_t b)
+uint64_t search(const char *what, const struct model *m, uint32_t c, uint32_t b, size_t words, size_t bytes, unsigned junk)
+{
+    return search_to(what, m, c, b, words, bytes, junk, NULL);
+}
+
+uint64_t search_exactly(const char *what, const struct model *m, uint32_t c, uint32_t b, uint8_t *plan)
 {
     size_t words = chargeplan_work_words(m->n, m->k, b), bytes = chargeplan_plan_bytes(m->n, m->k, b);
-    uint64_t answer = search(what, m, c, b, words, bytes, 0);
+    uint64_t answer = search_to(what, m, c, b, words, bytes, 0, plan);
 
     check(search(what, m, c, b, words, bytes, 0xffffu) == answer, what);
     check(search(what, m, c, b, words + 5, bytes + 7, 0xa5a5u) == answer, what);
@@ -189,20 +220,123 @@ uint64_t search_exactly(const char *what, const struct model *m, uint32_t c, uin
 
 void found(const char *what, const struct model *m, uint32_t c, uint32_t b)
 {
-    check(chargeplan_number(search_exactly(what, m, c, b)) == CHARGEPLAN_YES, what);
+    check(chargeplan_number(search_exactly(what, m, c, b, NULL)) == CHARGEPLAN_YES, what);
 }
 
 void refused(const char *what, const struct model *m, uint32_t c, uint32_t b, uint32_t number, uint32_t detail)
 {
-    check_answer(what, search_exactly(what, m, c, b), number, detail);
+    check_answer(what, search_exactly(what, m, c, b, NULL), number, detail);
 }
 
-void both_refused(const char *what, const struct model *m, uint32_t c, uint32_t b, uint32_t number, uint32_t detail)
+uint64_t start_gauge(const char *what, struct gauge *g, const struct model *m, uint32_t c, uint32_t b)
+{
+    struct lent l = lend(m);
+    struct chargeplan_started s = chargeplan_gauge_start(m->n, m->start, m->k, l.sources, m->sources_length, l.targets,
+        m->targets_length, l.weights, m->weights_length, l.colours, m->colours_length, c, b);
+
+    g->mode = s.gauge.mode;
+    g->charge = s.gauge.charge;
+    g->spill = s.gauge.spill;
+    take_back(m, l, what);
+    return s.answer;
+}
+
+void started(const char *what, struct gauge *g, const struct model *m, uint32_t c, uint32_t b, uint32_t number, uint32_t detail)
+{
+    struct gauge plain;
+    struct verdict v = plain_start(&plain, m, c, b);
+
+    check_answer(what, start_gauge(what, g, m, c, b), number, detail);
+    check(v.number == number && v.detail == detail, what);
+    check_gauge(what, g, plain.mode, plain.charge, plain.spill);
+    if (number != CHARGEPLAN_YES)
+        check_gauge(what, g, 0, 0, 0);
+}
+
+uint64_t step_gauge(const char *what, struct gauge *g, const struct model *m, uint32_t b, uint32_t arc)
+{
+    struct lent l = lend(m);
+    struct chargeplan_gauge *lent = copied(NULL, sizeof *lent);
+    struct gauge before = *g;
+    uint64_t answer;
+
+    lent->mode = g->mode;
+    lent->charge = g->charge;
+    lent->spill = g->spill;
+    answer = chargeplan_gauge_step(lent, m->n, m->start, m->k, l.sources, m->sources_length, l.targets, m->targets_length,
+        l.weights, m->weights_length, l.colours, m->colours_length, b, arc);
+    g->mode = lent->mode;
+    g->charge = lent->charge;
+    g->spill = lent->spill;
+    if (chargeplan_number(answer) != CHARGEPLAN_YES)
+        check_gauge(what, g, before.mode, before.charge, before.spill);
+    free(lent);
+    take_back(m, l, what);
+    return answer;
+}
+
+void stepped(const char *what, struct gauge *g, const struct model *m, uint32_t b, uint32_t arc, uint32_t number, uint32_t detail)
+{
+    struct gauge plain = *g;
+    struct verdict v = plain_step(&plain, m, b, arc);
+
+    check_answer(what, step_gauge(what, g, m, b, arc), number, detail);
+    check(v.number == number && v.detail == detail, what);
+    check_gauge(what, g, plain.mode, plain.charge, plain.spill);
+}
+
+uint64_t walk(const char *what, const struct model *m, uint32_t c, uint32_t b, uint32_t p, uint32_t q, const uint8_t *plan,
+    size_t length, uint32_t j, uint16_t allowance)
+{
+    struct lent l = lend(m);
+    uint8_t *bytes = copied(plan, length);
+    uint64_t answer = chargeplan_walk(m->n, m->start, m->k, l.sources, m->sources_length, l.targets, m->targets_length,
+        l.weights, m->weights_length, l.colours, m->colours_length, c, b, p, q, bytes, length, j, allowance);
+
+    check(same(bytes, plan, length), what);
+    free(bytes);
+    take_back(m, l, what);
+    return answer;
+}
+
+void walked(const char *what, const struct model *m, uint32_t c, uint32_t b, uint32_t p, uint32_t q, const uint8_t *plan,
+    size_t length, uint32_t j, uint16_t allowance, struct outcome expected)
+{
+    struct outcome o = plain_walk(m, c, b, p, q, plan, length, j, allowance);
+
+    check_outcome(what, walk(what, m, c, b, p, q, plan, length, j, allowance), expected);
+    check(o.verdict.number == expected.verdict.number && o.verdict.detail == expected.verdict.detail && o.steps == expected.steps
+            && o.met == expected.met, what);
+}
+
+struct outcome met(uint32_t steps)
+{
+    struct outcome o = {{CHARGEPLAN_YES, 0}, steps, 1};
+    return o;
+}
+
+struct outcome spent(uint32_t steps)
+{
+    struct outcome o = {{CHARGEPLAN_YES, 0}, steps, 0};
+    return o;
+}
+
+struct outcome walk_refused(uint32_t number, uint32_t detail)
+{
+    struct outcome o = {{number, detail}, 0, 0};
+    return o;
+}
+
+void all_refused(const char *what, const struct model *m, uint32_t c, uint32_t b, uint32_t number, uint32_t detail)
 {
     static const uint8_t round[] = {0};
+    struct gauge g = {255, (uint16_t)(c < UINT16_MAX ? c : UINT16_MAX), UINT64_MAX}, fresh;
 
     judged(what, m, c, b, 0, 1, round, 1, number, detail);
     judged(what, m, c, b, 0, 0, NULL, 0, number, detail);
     check_answer(what, search(what, m, c, b, 0, 0, 0), number, detail);
     check_answer(what, search(what, m, c, b, 4096, 4096, 0x5au), number, detail);
+    started(what, &fresh, m, c, b, number, detail);
+    stepped(what, &g, m, b, 0, number, detail);
+    stepped(what, &g, m, b, UINT32_MAX, number, detail);
 }

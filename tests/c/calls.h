@@ -1,6 +1,6 @@
 /*
- * The calls of the C tests: each is made with lists and buffers in blocks of their own, exactly as long as the call is told, so that
- * valgrind sees an access beside them, and checked for what it must leave as it was.
+ * The calls of the C tests: each is made with lists, buffers and gauge in blocks of their own, exactly as long as the call is told, so
+ * that valgrind sees an access beside them, and checked for what it must leave as it was.
  */
 #ifndef CALLS_H
 #define CALLS_H
@@ -13,22 +13,45 @@ extern unsigned long checks, failures;
 /* Counts a check, and prints what failed. */
 void check(int holds, const char *what);
 
-/* An answer has this number and detail, and p and q are 0. */
+/* An answer has this number and detail, and every other bit is 0. */
 void check_answer(const char *what, uint64_t answer, uint32_t number, uint32_t detail);
+
+/* An answer of the walk has this number and detail, these steps and whether the colour was met, and every other bit is 0. */
+void check_outcome(const char *what, uint64_t answer, struct outcome expected);
+
+/* A gauge has this mode, charge and spill. */
+void check_gauge(const char *what, const struct gauge *g, uint32_t mode, uint32_t charge, uint64_t spill);
+
+/* A block of its own with the same content, or without one where `from` is null; null where it has no bytes. */
+void *copied(const void *from, size_t bytes);
+
+/* The lists of a model in blocks of their own. */
+struct lent {
+    uint8_t *sources, *targets, *colours;
+    int16_t *weights;
+};
+
+struct lent lend(const struct model *m);
+
+/* Takes the lists back; they are as they were. */
+void take_back(const struct model *m, struct lent l, const char *what);
 
 /* Judging; the lists and the plan are as they were. */
 uint64_t judge(const char *what, const struct model *m, uint32_t c, uint32_t b, uint32_t p, uint32_t q, const uint8_t *plan,
     size_t length);
 
-/* Judging against what it should answer, and against the plain reading. */
+/* Judging against what it should answer, and against the plain reading. The walk is refused likewise, and by 18 only after a yes. */
 void judged(const char *what, const struct model *m, uint32_t c, uint32_t b, uint32_t p, uint32_t q, const uint8_t *plan,
     size_t length, uint32_t number, uint32_t detail);
 
 /* Search with junk in buffers of these sizes; what it leaves in them is checked by its answer, and a plan is judged. */
 uint64_t search(const char *what, const struct model *m, uint32_t c, uint32_t b, size_t words, size_t bytes, unsigned junk);
 
-/* Search with buffers exactly as long as they must be, and longer, with different junk: the answer is the same. */
-uint64_t search_exactly(const char *what, const struct model *m, uint32_t c, uint32_t b);
+/*
+ * Search with buffers exactly as long as they must be, and longer, with different junk: the answer is the same. A plan found is copied
+ * to `plan`, unless that is null.
+ */
+uint64_t search_exactly(const char *what, const struct model *m, uint32_t c, uint32_t b, uint8_t *plan);
 
 /* Search finds a plan. */
 void found(const char *what, const struct model *m, uint32_t c, uint32_t b);
@@ -36,8 +59,33 @@ void found(const char *what, const struct model *m, uint32_t c, uint32_t b);
 /* Search is refused, with buffers as long as they must be. */
 void refused(const char *what, const struct model *m, uint32_t c, uint32_t b, uint32_t number, uint32_t detail);
 
-/* Both calls are refused, whatever the plan and the buffers are. */
-void both_refused(const char *what, const struct model *m, uint32_t c, uint32_t b, uint32_t number, uint32_t detail);
+/* Starting a gauge, which is handed back in g; the lists are as they were. */
+uint64_t start_gauge(const char *what, struct gauge *g, const struct model *m, uint32_t c, uint32_t b);
+
+/* Starting a gauge against what it should answer, and against the plain gauge. */
+void started(const char *what, struct gauge *g, const struct model *m, uint32_t c, uint32_t b, uint32_t number, uint32_t detail);
+
+/* A step of a gauge; the lists are as they were, and so is the gauge where the step is refused. */
+uint64_t step_gauge(const char *what, struct gauge *g, const struct model *m, uint32_t b, uint32_t arc);
+
+/* A step of a gauge against what it should answer, and against the plain gauge. */
+void stepped(const char *what, struct gauge *g, const struct model *m, uint32_t b, uint32_t arc, uint32_t number, uint32_t detail);
+
+/* The walk; the lists and the plan are as they were. */
+uint64_t walk(const char *what, const struct model *m, uint32_t c, uint32_t b, uint32_t p, uint32_t q, const uint8_t *plan,
+    size_t length, uint32_t j, uint16_t allowance);
+
+/* The walk against what it should answer, and against the plain walk. */
+void walked(const char *what, const struct model *m, uint32_t c, uint32_t b, uint32_t p, uint32_t q, const uint8_t *plan,
+    size_t length, uint32_t j, uint16_t allowance, struct outcome expected);
+
+/* What a walk should answer: the colour is met, the allowance is spent, or it is refused. */
+struct outcome met(uint32_t steps);
+struct outcome spent(uint32_t steps);
+struct outcome walk_refused(uint32_t number, uint32_t detail);
+
+/* Every call is refused by one of 1 to 6, whatever plan, colour, allowance, buffers and gauge are. A step reads c from its gauge. */
+void all_refused(const char *what, const struct model *m, uint32_t c, uint32_t b, uint32_t number, uint32_t detail);
 
 /* A model with start mode 0 and lists of one length. */
 struct model model(uint32_t n, uint32_t k, size_t arcs, const uint8_t *sources, const uint8_t *targets, const int16_t *weights,
@@ -77,7 +125,18 @@ void test_search(void);
 void test_long_plans(void);
 void test_ring(void);
 void test_groups(void);
+void test_start(void);
+void test_steps(void);
+void test_extreme_steps(void);
+void test_step_refusals(void);
+void test_totals(void);
+void test_walk(void);
+void test_walk_colours(void);
+void test_no_such_colour(void);
+void test_long_walks(void);
+void test_header(void);
 void test_random(unsigned long models);
 void test_random_large(unsigned long models);
+void test_random_weights(unsigned long models);
 
 #endif

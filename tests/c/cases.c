@@ -73,24 +73,24 @@ void test_numbers(void)
     for (i = 0; i < sizeof modes / sizeof modes[0]; i++) {
         m = model_g();
         m.n = modes[i];
-        both_refused("1: modes", &m, 0, 5, CHARGEPLAN_MODE_COUNT, 0);
+        all_refused("1: modes", &m, 0, 5, CHARGEPLAN_MODE_COUNT, 0);
     }
     for (i = 0; i < sizeof starts / sizeof starts[0]; i++) {
         m = model_g();
         m.start = starts[i];
-        both_refused("2: start mode", &m, 0, 5, CHARGEPLAN_START_MODE, 0);
+        all_refused("2: start mode", &m, 0, 5, CHARGEPLAN_START_MODE, 0);
     }
     for (i = 0; i < sizeof colours / sizeof colours[0]; i++) {
         m = model_g();
         m.k = colours[i];
-        both_refused("4: colours", &m, 0, 5, CHARGEPLAN_COLOUR_COUNT, 0);
+        all_refused("4: colours", &m, 0, 5, CHARGEPLAN_COLOUR_COUNT, 0);
     }
     m = model_g();
     m.start = m.n;
     m.k = 5;
-    both_refused("N: start mode n and k 5 together", &m, 0, 5, CHARGEPLAN_START_MODE, 0);
+    all_refused("N: start mode n and k 5 together", &m, 0, 5, CHARGEPLAN_START_MODE, 0);
     m.n = 0;
-    both_refused("1 before 2", &m, 0, 5, CHARGEPLAN_MODE_COUNT, 0);
+    all_refused("1 before 2", &m, 0, 5, CHARGEPLAN_MODE_COUNT, 0);
 }
 
 /* 3, and that it comes before 4. */
@@ -99,28 +99,28 @@ void test_lists(void)
     struct model m = model_g();
 
     m.sources_length--;
-    both_refused("3: sources one short", &m, 0, 5, CHARGEPLAN_ARC_LISTS, 0);
+    all_refused("3: sources one short", &m, 0, 5, CHARGEPLAN_ARC_LISTS, 0);
     m = model_g();
     m.targets_length--;
-    both_refused("3: targets one short", &m, 0, 5, CHARGEPLAN_ARC_LISTS, 0);
+    all_refused("3: targets one short", &m, 0, 5, CHARGEPLAN_ARC_LISTS, 0);
     m = model_g();
     m.weights_length--;
-    both_refused("3: weights one short", &m, 0, 5, CHARGEPLAN_ARC_LISTS, 0);
+    all_refused("3: weights one short", &m, 0, 5, CHARGEPLAN_ARC_LISTS, 0);
     m = model_g();
     m.colours_length--;
-    both_refused("3: colours one short", &m, 0, 5, CHARGEPLAN_ARC_LISTS, 0);
+    all_refused("3: colours one short", &m, 0, 5, CHARGEPLAN_ARC_LISTS, 0);
     m = model_g();
     m.weights = NULL;
     m.weights_length = 0;
-    both_refused("3: no weights", &m, 0, 5, CHARGEPLAN_ARC_LISTS, 0);
+    all_refused("3: no weights", &m, 0, 5, CHARGEPLAN_ARC_LISTS, 0);
     m = model_g();
     m.sources = NULL;
     m.sources_length = 0;
-    both_refused("3: no sources", &m, 0, 5, CHARGEPLAN_ARC_LISTS, 0);
+    all_refused("3: no sources", &m, 0, 5, CHARGEPLAN_ARC_LISTS, 0);
     m.k = 5;
-    both_refused("3 before 4", &m, 0, 5, CHARGEPLAN_ARC_LISTS, 0);
+    all_refused("3 before 4", &m, 0, 5, CHARGEPLAN_ARC_LISTS, 0);
     m = model(1, 0, CHARGEPLAN_ARCS_MOST + 1, zeros, zeros, flat, zeros);
-    both_refused("3: 256 arcs", &m, 0, 5, CHARGEPLAN_ARC_LISTS, 0);
+    all_refused("3: 256 arcs", &m, 0, 5, CHARGEPLAN_ARC_LISTS, 0);
     m = model(1, 0, CHARGEPLAN_ARCS_MOST, zeros, zeros, flat, zeros);
     found("255 arcs", &m, 0, 5);
 }
@@ -141,12 +141,12 @@ static void unfit_arc(const char *what, size_t at, uint8_t source, uint8_t targe
     weights[at] = weight;
     met[at] = colours;
     if (number != 0)
-        both_refused(what, &m, 0, 5, number, (uint32_t)at);
+        all_refused(what, &m, 0, 5, number, (uint32_t)at);
     else
         found(what, &m, 0, 5);
     if (number != 0 && at > 0) {
         sources[2] = 255;
-        both_refused("5: the lowest unfit arc", &m, 0, 5, number, (uint32_t)at);
+        all_refused("5: the lowest unfit arc", &m, 0, 5, number, (uint32_t)at);
     }
 }
 
@@ -178,13 +178,13 @@ void test_levels(void)
     size_t i;
 
     for (i = 0; i < sizeof bounds / sizeof bounds[0]; i++)
-        both_refused("6: bound", &m, 0, bounds[i], CHARGEPLAN_LEVELS, 0);
+        all_refused("6: bound", &m, 0, bounds[i], CHARGEPLAN_LEVELS, 0);
     for (i = 0; i < sizeof credits / sizeof credits[0]; i++)
-        both_refused("6: credit", &m, credits[i], 5, CHARGEPLAN_LEVELS, 0);
+        all_refused("6: credit", &m, credits[i], 5, CHARGEPLAN_LEVELS, 0);
     m.colours = ones;
     m.k = 0;
-    both_refused("5 before 6", &m, 6, 5, CHARGEPLAN_UNFIT_ARC, 0);
-    both_refused("N: n 1, b 8,192", &a, 0, 8192, CHARGEPLAN_LEVELS, 0);
+    all_refused("5 before 6", &m, 6, 5, CHARGEPLAN_UNFIT_ARC, 0);
+    all_refused("N: n 1, b 8,192", &a, 0, 8192, CHARGEPLAN_LEVELS, 0);
     found("N: n 1, b 8,191", &a, CHARGEPLAN_BOUND_MOST, CHARGEPLAN_BOUND_MOST);
     found("credit 0, b 8,191", &a, 0, CHARGEPLAN_BOUND_MOST);
 }

@@ -140,7 +140,7 @@ static void test_last_mode(void)
     in_any_order("arcs only from the last mode", &m, 0, 1, 1);
     m.n = MODES - 1;
     m.start = 0;
-    both_refused("arcs only from a mode after the last", &m, 0, 1, CHARGEPLAN_UNFIT_ARC, 0);
+    all_refused("arcs only from a mode after the last", &m, 0, 1, CHARGEPLAN_UNFIT_ARC, 0);
 }
 
 /* A loop of the last mode beside 254 arcs that lead there from mode 0. */

@@ -106,6 +106,60 @@ struct verdict plain_judge(const struct model *m, uint32_t c, uint32_t b, uint32
     return v;
 }
 
+struct verdict plain_start(struct gauge *g, const struct model *m, uint32_t c, uint32_t b)
+{
+    struct verdict v = plain_fitness(m, c, b);
+
+    g->mode = v.number == 0 ? (uint8_t)m->start : 0;
+    g->charge = v.number == 0 ? (uint16_t)c : 0;
+    g->spill = 0;
+    return v;
+}
+
+struct verdict plain_step(struct gauge *g, const struct model *m, uint32_t b, uint32_t arc)
+{
+    struct verdict v = plain_fitness(m, g->charge, b);
+    int32_t charge;
+    uint32_t lost;
+
+    if (v.number != 0)
+        return v;
+    if (arc >= m->sources_length)
+        return verdict(12, 0);
+    if (m->sources[arc] != g->mode)
+        return verdict(13, 0);
+    charge = (int32_t)g->charge + m->weights[arc];
+    if (charge < 0)
+        return verdict(15, 0);
+    lost = (uint32_t)charge > b ? (uint32_t)charge - b : 0;
+    if (UINT64_MAX - g->spill < lost)
+        return verdict(15, 0);
+    g->mode = m->targets[arc];
+    g->charge = (uint16_t)((uint32_t)charge - lost);
+    g->spill += lost;
+    return v;
+}
+
+struct outcome plain_walk(const struct model *m, uint32_t c, uint32_t b, uint32_t p, uint32_t q, const uint8_t *plan, size_t length,
+    uint32_t j, uint16_t allowance)
+{
+    struct outcome o = {plain_judge(m, c, b, p, q, plan, length), 0, 0};
+    struct gauge g;
+
+    if (o.verdict.number == 0 && j >= m->k)
+        o.verdict = verdict(18, 0);
+    if (o.verdict.number == 0)
+        o.verdict = plain_start(&g, m, c, b);
+    while (o.verdict.number == 0 && o.steps < allowance && !o.met) {
+        uint8_t arc = plan[o.steps < p ? o.steps : p + (o.steps - p) % q];
+
+        o.verdict = plain_step(&g, m, b, arc);
+        o.met = m->colours[arc] >> j & 1;
+        o.steps++;
+    }
+    return o;
+}
+
 /* The pair of a mode and a charge after an arc, or -1 where the arc does not leave the pair or is not possible there. */
 static int pair_after(const struct model *m, uint32_t b, uint32_t pair, size_t a)
 {

@@ -1,6 +1,6 @@
 /*
- * Judging and the existence of a plan, as plainly as document 01 has them and with no code of the library: what the C tests compare
- * with.
+ * Judging, the existence of a plan, gauge and walk, as plainly as document 01 and Ask 2 of document 02 have them and with no code of
+ * the library: what the C tests compare with.
  */
 #ifndef PLAIN_H
 #define PLAIN_H
@@ -31,6 +31,29 @@ struct verdict plain_fitness(const struct model *m, uint32_t c, uint32_t b);
 
 /* 1 to 6 and 11 to 17; number 0 is yes. */
 struct verdict plain_judge(const struct model *m, uint32_t c, uint32_t b, uint32_t p, uint32_t q, const uint8_t *plan, size_t length);
+
+/* Where a walk stands: mode, charge, and the sum of what its steps lost at the bound. */
+struct gauge {
+    uint8_t mode;
+    uint16_t charge;
+    uint64_t spill;
+};
+
+/* 1 to 6 and a gauge of zeros; number 0 and a new gauge. */
+struct verdict plain_start(struct gauge *g, const struct model *m, uint32_t c, uint32_t b);
+
+/* 1 to 6, 12, 13 and 15 and the gauge as it was; number 0 and the gauge moved on. */
+struct verdict plain_step(struct gauge *g, const struct model *m, uint32_t b, uint32_t arc);
+
+/* What comes of a walk: with number 0 the steps made, and 1 where the colour was met; else 0 and 0. */
+struct outcome {
+    struct verdict verdict;
+    uint32_t steps, met;
+};
+
+/* 1 to 6 and 11 to 18, or the steps of a plain gauge. */
+struct outcome plain_walk(const struct model *m, uint32_t c, uint32_t b, uint32_t p, uint32_t q, const uint8_t *plan, size_t length,
+    uint32_t j, uint16_t allowance);
 
 /* The most pairs of a mode and a charge that plain_has_plan takes: n * (b + 1). */
 enum { PLAIN_PAIRS_MOST = 64 };

@@ -2,6 +2,9 @@
 
 #include <string.h>
 
+/* The longest plan that is found where there are few pairs. */
+enum { FOUND_MOST = (CHARGEPLAN_COLOURS_MOST + 2) * PLAIN_PAIRS_MOST };
+
 /* Random numbers, the same in every run. */
 static uint64_t random_state = 88172645463325252u;
 
@@ -51,31 +54,125 @@ static struct model random_model(uint8_t *sources, uint8_t *targets, int16_t *we
     return m;
 }
 
+/* A number below n or, in one of so many calls, up to n. */
+static uint32_t up_to(uint32_t n, uint32_t calls)
+{
+    return below(n + (n == 0 || below(calls) == 0));
+}
+
+/* An arc that leaves the mode, most of the time; a few are not of the model. */
+static uint8_t random_arc(const struct model *m, uint32_t mode)
+{
+    uint32_t arcs = (uint32_t)m->sources_length, arc = up_to(arcs, 50), tries;
+
+    for (tries = 0; tries < 30 && arc < arcs && m->sources[arc] != mode; tries++)
+        arc = below(arcs);
+    return (uint8_t)arc;
+}
+
 /* A plan that follows the arcs as far as it can, most of the time. */
 static size_t random_plan(const struct model *m, uint8_t *plan, size_t most)
 {
-    size_t length = below((uint32_t)most + 1), i, tries;
-    uint32_t mode = m->start, arcs = (uint32_t)m->sources_length;
+    size_t length = below((uint32_t)most + 1), i;
+    uint32_t mode = m->start;
 
     for (i = 0; i < length; i++) {
-        uint8_t arc = (uint8_t)below(arcs + (below(50) == 0));
-
-        for (tries = 0; tries < 30 && arc < arcs && m->sources[arc] != mode; tries++)
-            arc = (uint8_t)below(arcs);
-        plan[i] = arc;
-        mode = arc < arcs && arc < m->targets_length ? m->targets[arc] : mode;
+        plan[i] = random_arc(m, mode);
+        mode = plan[i] < m->sources_length && plan[i] < m->targets_length ? m->targets[plan[i]] : mode;
     }
     return length;
 }
 
-static void test_random_judging(const struct model *m, uint32_t c, uint32_t b)
+/* A random plan judged and walked, for a colour that may be none. */
+static void test_random_plan(const struct model *m, uint32_t c, uint32_t b)
 {
     uint8_t plan[12];
     size_t length = m->sources_length == 0 ? 0 : random_plan(m, plan, sizeof plan);
-    uint32_t p = length == 0 ? 0 : below((uint32_t)length), q = (uint32_t)length - p + (below(20) == 0);
+    uint32_t p = length == 0 ? 0 : below((uint32_t)length), q = (uint32_t)length - p + (below(20) == 0), j = below(6);
+    uint16_t allowance = (uint16_t)below(16);
     struct verdict v = plain_judge(m, c, b, p, q, plan, length);
 
     check_answer("random plan", judge("random plan", m, c, b, p, q, plan, length), v.number, v.detail);
+    check_outcome("random plan walked", walk("random plan walked", m, c, b, p, q, plan, length, j, allowance),
+        plain_walk(m, c, b, p, q, plan, length, j, allowance));
+}
+
+/* The plan found walked, for each colour and for one that is none. */
+static void test_random_walks(const struct model *m, uint32_t c, uint32_t b, uint64_t answer, const uint8_t *plan)
+{
+    uint32_t p = chargeplan_prefix(answer), q = chargeplan_cycle(answer), length = p + q, j;
+
+    for (j = 0; j <= m->k; j++) {
+        uint16_t allowance = (uint16_t)below(below(2) ? length + 2 : UINT16_MAX + 1);
+
+        check_outcome("random walk", walk("random walk", m, c, b, p, q, plan, length, j, allowance),
+            plain_walk(m, c, b, p, q, plan, length, j, allowance));
+    }
+}
+
+/* The gauge follows the plan found through its prefix and two rounds of its cycle. */
+static void test_random_rounds(const struct model *m, uint32_t c, uint32_t b, uint64_t answer, const uint8_t *plan)
+{
+    uint32_t p = chargeplan_prefix(answer), q = chargeplan_cycle(answer), i;
+    struct gauge g;
+
+    check_answer("random rounds", start_gauge("random rounds", &g, m, c, b), CHARGEPLAN_YES, 0);
+    for (i = 0; i < p + 2 * q; i++)
+        check_answer("random rounds", step_gauge("random rounds", &g, m, b, plan[i < p + q ? i : i - q]), CHARGEPLAN_YES, 0);
+}
+
+/* What search found, if it did; a plan longer than the buffer has failed before. */
+static void test_random_found(const struct model *m, uint32_t c, uint32_t b, uint64_t answer, const uint8_t *plan)
+{
+    if (chargeplan_number(answer) != CHARGEPLAN_YES || chargeplan_prefix(answer) + chargeplan_cycle(answer) > FOUND_MOST)
+        return;
+    test_random_walks(m, c, b, answer, plan);
+    if (below(16) == 0)
+        test_random_rounds(m, c, b, answer, plan);
+}
+
+/* A gauge made by hand, with a spill near 2^64; it may be in no mode of the model, or charged above the bound. */
+static struct gauge random_gauge(uint32_t n, uint32_t b)
+{
+    struct gauge g;
+
+    g.mode = (uint8_t)up_to(n, 8);
+    g.charge = (uint16_t)up_to(b + 1, 8);
+    g.spill = UINT64_MAX - below(10);
+    return g;
+}
+
+/* Steps of a gauge on random arcs. At each: the charge at first + the weights walked = the charge + the spill since then. */
+static void random_steps(struct gauge g, const struct model *m, uint32_t b, uint32_t steps)
+{
+    struct gauge plain = g;
+    int64_t balance = g.charge;
+    uint64_t spill = g.spill;
+
+    for (; steps > 0; steps--) {
+        uint8_t arc = random_arc(m, g.mode);
+        struct verdict v = plain_step(&plain, m, b, arc);
+        uint64_t answer = step_gauge("random step", &g, m, b, arc);
+
+        check_answer("random step", answer, v.number, v.detail);
+        check_gauge("random step", &g, plain.mode, plain.charge, plain.spill);
+        if (chargeplan_number(answer) == CHARGEPLAN_YES)
+            balance += m->weights[arc];
+        check(balance == (int64_t)(g.charge + (g.spill - spill)), "balance");
+    }
+}
+
+/* A gauge started and stepped, and now and then one made by hand. */
+static void test_random_gauges(const struct model *m, uint32_t c, uint32_t b, uint32_t steps)
+{
+    struct gauge g, plain;
+    struct verdict v = plain_start(&plain, m, c, b);
+
+    check_answer("random start", start_gauge("random start", &g, m, c, b), v.number, v.detail);
+    check_gauge("random start", &g, plain.mode, plain.charge, plain.spill);
+    random_steps(g, m, b, below(steps + 1));
+    if (below(4) == 0)
+        random_steps(random_gauge(m->n, b), m, b, steps);
 }
 
 /* With the arcs in another order search answers with the same number, and with the same detail unless that is an arc. */
@@ -103,7 +200,7 @@ static void test_random_order(const struct model *m, uint32_t c, uint32_t b, uin
 
 void test_random(unsigned long models)
 {
-    uint8_t sources[9], targets[9], colours[9];
+    uint8_t sources[9], targets[9], colours[9], plan[FOUND_MOST];
     int16_t weights[9];
     unsigned long i;
 
@@ -115,9 +212,11 @@ void test_random(unsigned long models)
         struct model m = random_model(sources, targets, weights, colours);
         uint32_t b = below(16), c = below(b + 1) + (below(40) == 0 ? 16 : 0);
         struct verdict v = plain_fitness(&m, c, b);
-        uint64_t answer = search_exactly("random model", &m, c, b);
+        uint64_t answer = search_exactly("random model", &m, c, b, plan);
 
-        test_random_judging(&m, c, b);
+        test_random_plan(&m, c, b);
+        test_random_found(&m, c, b, answer, plan);
+        test_random_gauges(&m, c, b, 4);
         test_random_order(&m, c, b, answer);
         if (v.number != 0)
             check_answer("random unfit model", answer, v.number, v.detail);
@@ -145,14 +244,34 @@ static struct model random_large_model(struct lists *lists)
 void test_random_large(unsigned long models)
 {
     struct lists lists;
+    uint8_t plan[FOUND_MOST];
     unsigned long i;
 
     for (i = 0; i < models; i++) {
         struct model m = random_large_model(&lists);
         uint32_t b = below(PLAIN_PAIRS_MOST / m.n), c = below(b + 1);
-        uint64_t answer = search_exactly("random large model", &m, c, b);
+        uint64_t answer = search_exactly("random large model", &m, c, b, plan);
 
+        test_random_found(&m, c, b, answer, plan);
+        test_random_gauges(&m, c, b, 10);
         check(chargeplan_number(answer) == (plain_has_plan(&m, c, b) ? CHARGEPLAN_YES : CHARGEPLAN_NO_PLAN), "random large model");
         test_random_order(&m, c, b, answer);
+    }
+}
+
+/* Gauges of models with weights and bounds of every size. */
+void test_random_weights(unsigned long models)
+{
+    struct lists lists;
+    unsigned long i;
+
+    for (i = 0; i < models; i++) {
+        struct model m = random_large_model(&lists);
+        uint32_t b = below(CHARGEPLAN_BOUND_MOST + 1), c = below(b + 1);
+        size_t a;
+
+        for (a = 0; a < m.sources_length; a++)
+            lists.weights[a] = (int16_t)((int)below(CHARGEPLAN_WEIGHT_MOST - CHARGEPLAN_WEIGHT_LEAST + 1) + CHARGEPLAN_WEIGHT_LEAST);
+        test_random_gauges(&m, c, b, 100);
     }
 }

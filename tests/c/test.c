@@ -22,6 +22,11 @@ static void test_random_large_models(void)
     test_random_large(random_models / 200);
 }
 
+static void test_random_large_weights(void)
+{
+    test_random_weights(random_models / 200);
+}
+
 static const struct {
     const char *name;
     void (*run)(void);
@@ -39,8 +44,19 @@ static const struct {
     {"search, long plans", test_long_plans},
     {"search, a ring of 64 modes", test_ring},
     {"search, arcs in any order", test_groups},
+    {"gauge, starting", test_start},
+    {"gauge, document 01's examples", test_steps},
+    {"gauge, the greatest gain and draw", test_extreme_steps},
+    {"gauge, 6, 12, 13 and 15", test_step_refusals},
+    {"gauge, 15 by the total", test_totals},
+    {"walk", test_walk},
+    {"walk, colours", test_walk_colours},
+    {"walk, 18", test_no_such_colour},
+    {"walk, long plans", test_long_walks},
+    {"header", test_header},
     {"random models and plans", test_random_models},
     {"random models with many arcs", test_random_large_models},
+    {"random gauges, weights of every size", test_random_large_weights},
 };
 
 int main(int argc, char **argv)

@@ -1,0 +1,156 @@
+/* What the header alone has: numbers, layout of the structs, parts of an answer, and the functions over a struct chargeplan_model. */
+#include "calls.h"
+
+#include <stdlib.h>
+#include <string.h>
+
+/* The numbers of document 01's table, in its order. */
+static void test_constants(void)
+{
+    static const unsigned numbers[] = {CHARGEPLAN_YES, CHARGEPLAN_MODE_COUNT, CHARGEPLAN_START_MODE, CHARGEPLAN_ARC_LISTS,
+        CHARGEPLAN_COLOUR_COUNT, CHARGEPLAN_UNFIT_ARC, CHARGEPLAN_LEVELS, CHARGEPLAN_PRODUCT, CHARGEPLAN_WORKING_SPACE,
+        CHARGEPLAN_PLAN_BUFFER, CHARGEPLAN_NO_PLAN, CHARGEPLAN_PLAN_LENGTH, CHARGEPLAN_ARC_NUMBER, CHARGEPLAN_OTHER_MODE,
+        CHARGEPLAN_OPEN_CYCLE, CHARGEPLAN_IMPOSSIBLE_STEP, CHARGEPLAN_FALLING_CYCLE, CHARGEPLAN_MISSING_COLOUR,
+        CHARGEPLAN_NO_SUCH_COLOUR};
+    unsigned i;
+
+    check(sizeof numbers / sizeof numbers[0] == 19, "the numbers 0 to 18");
+    for (i = 0; i < sizeof numbers / sizeof numbers[0]; i++)
+        check(numbers[i] == i, "a number of the header");
+}
+
+/* Where the library reads and writes. */
+static void test_layout(void)
+{
+    check(sizeof(struct chargeplan_gauge) == 16 && offsetof(struct chargeplan_gauge, mode) == 0
+            && offsetof(struct chargeplan_gauge, charge) == 2 && offsetof(struct chargeplan_gauge, spill) == 8, "a gauge");
+    check(sizeof(struct chargeplan_started) == 24 && offsetof(struct chargeplan_started, answer) == 0
+            && offsetof(struct chargeplan_started, gauge) == 8, "what a start hands back");
+}
+
+/* The functions that take an answer apart: each reads its own bits. */
+static void test_parts(void)
+{
+    uint64_t number = 0xff, detail = (uint64_t)0xffffff << 8, low = (uint64_t)0xffff << 32, high = (uint64_t)0xffff << 48;
+    uint64_t met_bit = (uint64_t)1 << 48;
+
+    check(chargeplan_number(number) == 0xff && chargeplan_number(~number) == 0, "the number's bits");
+    check(chargeplan_detail(detail) == 0xffffff && chargeplan_detail(~detail) == 0, "the detail's bits");
+    check(chargeplan_prefix(low) == 0xffff && chargeplan_prefix(~low) == 0, "p's bits");
+    check(chargeplan_cycle(high) == 0xffff && chargeplan_cycle(~high) == 0, "q's bits");
+    check(chargeplan_steps(low) == 0xffff && chargeplan_steps(~low) == 0, "the steps' bits");
+    check(chargeplan_met(met_bit) == 1 && chargeplan_met(~met_bit) == 0, "the bit of a colour met");
+}
+
+/* A model with lists of one length, as the header has it. */
+static struct chargeplan_model in_one(const struct model *m, struct lent l)
+{
+    struct chargeplan_model one = {m->n, m->start, m->k, l.sources, l.targets, l.weights, l.colours, m->sources_length};
+    return one;
+}
+
+/* Judging and walking a plan of a model. */
+static void same_plan(const char *what, const struct model *m, uint32_t c, uint32_t b, uint32_t p, uint32_t q, const uint8_t *plan)
+{
+    struct lent l = lend(m);
+    struct chargeplan_model one = in_one(m, l);
+    size_t length = (size_t)p + q;
+    uint8_t *bytes = copied(plan, length);
+    uint32_t j;
+
+    check(chargeplan_model_judge(&one, c, b, p, q, bytes) == judge(what, m, c, b, p, q, plan, length), what);
+    for (j = 0; j <= 2; j++) {
+        check(chargeplan_model_walk(&one, c, b, p, q, bytes, j, 7) == walk(what, m, c, b, p, q, plan, length, j, 7), what);
+        check(chargeplan_model_walk(&one, c, b, p, q, bytes, j, 3) == walk(what, m, c, b, p, q, plan, length, j, 3), what);
+    }
+    free(bytes);
+    take_back(m, l, what);
+}
+
+/* Search of a model with buffers of these sizes: the answer, and the plan buffer, which held zeros. */
+static void same_search(const char *what, const struct model *m, uint32_t c, uint32_t b, size_t words, size_t bytes)
+{
+    struct lent l = lend(m);
+    struct chargeplan_model one = in_one(m, l);
+    uint16_t *work = copied(NULL, words * sizeof *work);
+    uint8_t *plan = copied(NULL, bytes), *expected = copied(NULL, bytes);
+    uint64_t answer;
+
+    memset(plan, 0, bytes);
+    memset(expected, 0, bytes);
+    answer = chargeplan_search(m->n, m->start, m->k, l.sources, m->sources_length, l.targets, m->targets_length, l.weights,
+        m->weights_length, l.colours, m->colours_length, c, b, work, words, expected, bytes);
+    check(chargeplan_model_search(&one, c, b, work, words, plan, bytes) == answer, what);
+    check(memcmp(plan, expected, bytes) == 0, what);
+    free(work);
+    free(plan);
+    free(expected);
+    take_back(m, l, what);
+}
+
+/* Search with buffers as long as they must be, and with either one too short. */
+static void same_searches(const char *what, const struct model *m, uint32_t c, uint32_t b)
+{
+    size_t words = chargeplan_work_words(m->n, m->k, b), bytes = chargeplan_plan_bytes(m->n, m->k, b);
+
+    same_search(what, m, c, b, words, bytes);
+    same_search(what, m, c, b, words - 1, bytes);
+    same_search(what, m, c, b, words, bytes - 1);
+}
+
+/* A gauge of a model started, and stepped on each arc and one more. */
+static void same_gauge(const char *what, const struct model *m, uint32_t c, uint32_t b)
+{
+    struct lent l = lend(m);
+    struct chargeplan_model one = in_one(m, l);
+    struct chargeplan_started s = chargeplan_model_gauge_start(&one, c, b);
+    struct gauge g;
+    uint32_t arc;
+
+    check(start_gauge(what, &g, m, c, b) == s.answer, what);
+    check_gauge(what, &g, s.gauge.mode, s.gauge.charge, s.gauge.spill);
+    for (arc = 0; arc <= m->sources_length; arc++) {
+        uint64_t answer = chargeplan_model_gauge_step(&s.gauge, &one, b, arc);
+
+        check(step_gauge(what, &g, m, b, arc) == answer, what);
+        check_gauge(what, &g, s.gauge.mode, s.gauge.charge, s.gauge.spill);
+    }
+    take_back(m, l, what);
+}
+
+/* Every function over a struct chargeplan_model does what its entry does. */
+static void same_calls(const char *what, const struct model *m, uint32_t c, uint32_t b, uint32_t p, uint32_t q, const uint8_t *plan)
+{
+    same_plan(what, m, c, b, p, q, plan);
+    same_searches(what, m, c, b);
+    same_gauge(what, m, c, b);
+}
+
+static void test_model_functions(void)
+{
+    static const uint8_t plan_i[] = {0, 0, 0, 0, 0, 1, 2}, plan_j[] = {1, 0};
+    struct model g = model_g(), j = model_j(), e = model_e(), many = model(1, 0, CHARGEPLAN_ARCS_MOST + 1, zeros, zeros, flat, zeros);
+
+    same_calls("example I", &g, 0, 5, 6, 1, plan_i);
+    same_calls("example I, another cut", &g, 0, 5, 5, 2, plan_i);
+    same_calls("example I, another bound", &g, 0, 4, 6, 1, plan_i);
+    same_calls("example E", &e, 10, 10, 0, 2, plan_i + 4);
+    same_calls("example J", &j, 0, 2, 0, 2, plan_j);
+    same_calls("3: 256 arcs", &many, 0, 2, 0, 2, plan_j);
+    same_calls("6: credit", &j, 3, 2, 0, 2, plan_j);
+    g.start = 1;
+    same_calls("another start mode", &g, 4, 5, 0, 1, plan_i + 6);
+    g.start = 2;
+    same_calls("2: start mode", &g, 4, 5, 0, 1, plan_i + 6);
+    g.start = 0;
+    g.k = 0;
+    same_calls("5: colour bit k", &g, 0, 5, 6, 1, plan_i);
+}
+
+void test_header(void)
+{
+    test_constants();
+    test_layout();
+    test_parts();
+    test_model_functions();
+}
