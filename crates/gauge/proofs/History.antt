@@ -3,10 +3,9 @@
 -- its own. Assumes nothing.
 use mathlib.Core.Path.{_≡_, refl, ap}
 use mathlib.Core.List.{List, [], _∷_, map}
-use Prim.Native.Nat.{ℕ, _+_, _≤_}
+use Prim.Native.Nat.{ℕ, _+_}
 use native.Mathlib.Omega.{arith}
 use lib.IntN.{ℤ, pos, _+ℤ_}
-use Rattle.limits.specs.Ceilings.{spillMost}
 use Rattle.walks.specs.declared.Step.the-variants.{To}
 use Rattle.walks.specs.BoundedStep.{stepped}
 use Rattle.walks.specs.Walk.{total}

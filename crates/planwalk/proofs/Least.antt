@@ -6,7 +6,7 @@ use mathlib.Core.Logic.{_↔_, _⊎_, inl, inr, ⊎-elim}
 use Prim.Native.Nat.{ℕ, zero, suc, _+_, _≤_, _<_}
 use native.Mathlib.Omega.{arith}
 use native.Mathlib.Decide.{decLe}
-use lib.ListN.{length, getD, length-append}
+use lib.ListN.{length, getD, length-append, take-append-drop}
 use lib.Seq.{length-take-le}
 use Rattle.walks.specs.Walk.{times}
 use Rattle.refusals.specs.declared.Refusal.{Refusal}
@@ -18,14 +18,15 @@ use Rattle.refusals.proofs.Verdicts.{clash}
 use Rattle.refusals.proofs.Scan.{FirstOf}
 use Rattle.model.specs.Automaton.{Automaton, meets}
 use Rattle.model.specs.Lists.{Lists, automatonOf}
-use Rattle.model.specs.Plans.{Plan}
+use Rattle.model.specs.Plans.{Plan, Meets}
 use Rattle.model.proofs.Plans.{times-length}
+use Rattle.model.proofs.SomeArc.{some-right}
 use Rattle.judge.specs.Shape.{planOf}
 use Rattle.judge.specs.Judged.{judged}
 use Rattle.judge.proofs.Judged.{judged-yes}
 use Rattle.planwalk.specs.declared.Walked.the-variants.{Met, Spent, Refused}
-use Rattle.planwalk.specs.Walked.{stepsOfPlan, walkOf, firstMet}
-use Rattle.planwalk.proofs.Steps.{walk-least}
+use Rattle.planwalk.specs.Walked.{stepsOfPlan, metOr, walkOf, firstMet}
+use Rattle.planwalk.proofs.Steps.{steps-whole, walk-least}
 use Rattle.planwalk.proofs.Refused.{walk-refused, walk-no-colour}
 
 -- of n places one is the first that passes the test, or none passes
@@ -80,6 +81,18 @@ module _ (g : Automaton) (j : ℕ) where
           (first-or-none (λ d. meets g j (getD w d 0)) (length w)),
       λ (q, none). none-met w i none ∙ ap Spent (sym q),
     )
+
+  -- where an arc of the list meets the colour, "met" is answered, whatever stands behind the list
+  meets-met : (w v : List ℕ) (i : ℕ) → Meets g j w → (x : ℕ) × (firstMet g j (w ++ v) i ≡ Met x)
+  unfolding firstMet
+  meets-met [] v i none = absurd none
+  meets-met (a ∷ w) v i m = go (meets g j a) m (meets-met w v (suc i))
+    where
+      go : (b : Bool) → (b ≡ true) ⊎ Meets g j w → (Meets g j w → (x : ℕ) × (firstMet g j (w ++ v) (suc i) ≡ Met x))
+          → (x : ℕ) × (metOr b (suc i) (firstMet g j (w ++ v) (suc i)) ≡ Met x)
+      go true m rest = (suc i, refl)
+      go false (inl met) rest = clash (cc)
+      go false (inr later) rest = rest later
 
   -- no refusal is answered
   first-not-refused : {X : Type 0} (w : List ℕ) (i : ℕ) (r : Refusal) → firstMet g j w i ≡ Refused r → X
@@ -163,3 +176,14 @@ module _ (n s k : ℕ) (l : Lists) (b c p q : ℕ) (w : List ℕ) (j t : ℕ) wh
         λ (accepted, h, i, none).
             walk-least n s k l b c p q w accepted j t h ∙ first .1 (omega (arith, long accepted), λ a f. none a (omega (arith, long accepted))),
       )
+
+  -- An allowance of p + q steps or more meets the colour: an accepted plan has it on some arc of its cycle.
+  pub walk-meets : judged n s k l b c p q w ≡ Yes → j < k → p + q ≤ t → (x : ℕ) × (walkOf n s k l b c p q w j t ≡ Met x)
+  walk-meets accepted h enough =
+      let right = judged-yes n s k l b c p q w .0 accepted in
+      let g = automatonOf n s k l in
+      let m = planOf p w in
+      let parts = ap {B = ℕ} length (take-append-drop p w) in
+      let (v, e) = steps-whole m t (omega (arith, right .lengths .some-arc)) (omega (arith, parts, right .lengths .parts)) in
+      let (x, met) = meets-met g j (m .prefix ++ m .cycle) v 0 (some-right (meets g j) (m .prefix) (m .cycle) (right .serves .accepted j h)) in
+      (x, walk-least n s k l b c p q w accepted j t h ∙ ap (λ (u : List ℕ). firstMet g j u 0) e ∙ met)

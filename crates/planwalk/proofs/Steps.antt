@@ -18,7 +18,7 @@ use Rattle.walks.proofs.Charges.{stepped-bound}
 use Rattle.walks.proofs.Spill.{spilled-cons}
 use Rattle.refusals.specs.declared.Verdict.the-variants.{Yes}
 use Rattle.model.specs.declared.Model.{Model}
-use Rattle.model.specs.Automaton.{Automaton, arcAt, meets, weights}
+use Rattle.model.specs.Automaton.{arcAt, meets, weights}
 use Rattle.model.specs.Lists.{Lists, automatonOf, held}
 use Rattle.model.specs.Fitness.{fitness}
 use Rattle.model.specs.Plans.{Plan, Leads, walkedArcs, Meets, Serves}
@@ -40,6 +40,21 @@ met-or true Later End i last rest = refl
 met-or false Later End i (inl (inl met)) rest = absurd (true≢false (sym met))
 met-or false Later End i (inl (inr met)) rest = rest (inl met)
 met-or false Later End i (inr end) rest = rest (inr end)
+
+-- as many steps of a plan as it has arcs are its prefix and its cycle
+steps-once : (p : Plan) (t : ℕ) → 0 < t → take (length (p .prefix ++ p .cycle)) (p .prefix ++ times t (p .cycle)) ≡ p .prefix ++ p .cycle
+steps-once p zero h = absurd (omega arith)
+steps-once p (suc t) h =
+    rw (sym (append-assoc (p .prefix) (p .cycle) (times t (p .cycle)))) (take-append-seam (p .prefix ++ p .cycle) (times t (p .cycle)))
+
+-- and more steps begin with them
+pub steps-whole : (p : Plan) (t : ℕ) → 0 < t → length (p .prefix ++ p .cycle) ≤ t → (v : List ℕ) × (stepsOfPlan p t ≡ (p .prefix ++ p .cycle) ++ v)
+steps-whole p t some h =
+    let d = length (p .prefix ++ p .cycle) in
+    let all = p .prefix ++ times t (p .cycle) in
+    let sum : t ≡ d + (t - d) = omega arith in
+    let v = take (t - d) (drop d all) in
+    (v, ap (λ (i : ℕ). take i all) sum ∙ take-add d (t - d) all ∙ ap (λ (u : List ℕ). u ++ v) (steps-once p t some))
 
 module _ (n s k : ℕ) (l : Lists) (b : ℕ) (fit : fitness n s k l ≡ Yes) (low : b ≤ boundMost) (j : ℕ) where
   -- Along arcs w that lead on, whose walk ends and for whose losses the total has room, the gauge walks to the least step that meets the
@@ -64,40 +79,31 @@ module _ (n s k : ℕ) (l : Lists) (b : ℕ) (fit : fitness n s k l ≡ Yes) (lo
       (met-or (meets g j a) (Meets g j w) (v ≡ []) (suc i) last
       (λ rest. gauge-least w v u z (y + lost) t x (stepped-bound b f e z lost h to) (omega (arith, sum)) leads r rest (suc i)))
 
-  -- the same of the first steps of a plan that serves, from the start: prefix and one round meet every colour
+  -- the same of the first steps of a plan that serves, from the start: prefix and one round meet every colour, and lose far less than the
+  -- total takes
   plan-least : (c : ℕ) (p : Plan) → c ≤ b → Serves (automatonOf n s k l) b c p → length (p .prefix ++ p .cycle) ≤ planMost → j < k → (t : ℕ)
       → walkOn (startedOf n s k l b c) (gaugeWalk n s k l b j (stepsOfPlan p t) 0) ≡ firstMet (automatonOf n s k l) j (stepsOfPlan p t) 0
   plan-least c p h serves short hj t =
+      let g = automatonOf n s k l in
+      let whole = p .prefix ++ p .cycle in
       rw (started-yes n s k l b c fit (levels-yes b c .1 (low, h)))
-      (elim (decLe t (length (p .prefix ++ p .cycle))) [
+      (elim (decLe t (length whole)) [
         | yes q ↦
-            let (m, x, leads, ends) = serves-walked (automatonOf n s k l) b c p serves t t in
+            let (m, x, leads, ends) = serves-walked g b c p serves t t in
             let w = stepsOfPlan p t in
-            subst (λ (u : List ℕ). gaugeWalk n s k l b j u 0 (gauge s c 0) ≡ firstMet (automatonOf n s k l) j u 0) (append-nil w)
-            (gauge-least w [] s c 0 m x h (room t m x leads ends q) leads ends (inr refl) 0)
+            subst (λ (u : List ℕ). gaugeWalk n s k l b j u 0 (gauge s c 0) ≡ firstMet g j u 0) (append-nil w)
+            (gauge-least w [] s c 0 m x h (room w m x (omega (arith, length-take t (p .prefix ++ times t (p .cycle)))) leads ends) leads ends (inr refl) 0)
         | no q ↦
-            let d = length (p .prefix ++ p .cycle) in
-            let all = p .prefix ++ times t (p .cycle) in
-            let (m, x, leads, ends) = serves-walked (automatonOf n s k l) b c p serves t d in
-            let whole : d + (t - d) ≡ t = omega arith in
-            let e : take d all ++ take (t - d) (drop d all) ≡ take t all = sym (take-add d (t - d) all) ∙ ap (λ (i : ℕ). take i all) whole in
-            subst (λ (u : List ℕ). gaugeWalk n s k l b j u 0 (gauge s c 0) ≡ firstMet (automatonOf n s k l) j u 0) e
-            (gauge-least (take d all) (take (t - d) (drop d all)) s c 0 m x h (room d m x leads ends (omega arith)) leads ends
-            (inl (subst (Meets (automatonOf n s k l) j) (sym (once (p .prefix) (p .cycle) t (omega arith)))
-            (some-right (meets (automatonOf n s k l) j) (p .prefix) (p .cycle) (serves .accepted j hj)))) 0)
+            let (v, e) = steps-whole p t (omega arith) (omega arith) in
+            let (m, x, leads, ends) = rw (steps-once p t (omega arith)) at (serves-walked g b c p serves t (length whole)) in
+            subst (λ (u : List ℕ). gaugeWalk n s k l b j u 0 (gauge s c 0) ≡ firstMet g j u 0) (sym e)
+            (gauge-least whole v s c 0 m x h (room whole m x short leads ends) leads ends
+            (inl (some-right (meets g j) (p .prefix) (p .cycle) (serves .accepted j hj))) 0)
       ])
     where
-      -- prefix and one round lose far less than the total takes
-      room : (i m x : ℕ) → let w = take i (p .prefix ++ times t (p .cycle)) in
-          Leads (automatonOf n s k l) s w m → walkedArcs (automatonOf n s k l) b w c ≡ Ends x → i ≤ length (p .prefix ++ p .cycle)
+      room : (w : List ℕ) (m x : ℕ) → length w ≤ planMost → Leads (automatonOf n s k l) s w m → walkedArcs (automatonOf n s k l) b w c ≡ Ends x
           → 0 + spilled b (weights (automatonOf n s k l) w) c ≤ spillMost
-      room i m x leads ends few =
-          let w = take i (p .prefix ++ times t (p .cycle)) in
-          omega (arith, length-take i (p .prefix ++ times t (p .cycle)), spilled-most n s k l b fit w s c m x h leads ends)
-
-      once : (u v : List ℕ) (t : ℕ) → 0 < t → take (length (u ++ v)) (u ++ times t v) ≡ u ++ v
-      once u v zero h = absurd (omega arith)
-      once u v (suc t) h = rw (sym (append-assoc u v (times t v))) (take-append-seam (u ++ v) (times t v))
+      room w m x few leads ends = omega (arith, spilled-most n s k l b fit w s c m x h leads ends)
 
 module _ (n s k : ℕ) (l : Lists) (b c p q : ℕ) (w : List ℕ) (yes : judged n s k l b c p q w ≡ Yes) (j t : ℕ) (h : j < k) where
   -- the call, for a plan that judging accepts and a colour of the model

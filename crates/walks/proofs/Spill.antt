@@ -7,7 +7,7 @@ use native.Mathlib.Omega.{arith}
 use lib.Dec.{leb→le}
 use lib.Signed.{_≤ℤ_}
 use lib.IntN.{ℤ, pos, negsuc, _+ℤ_, +ℤ-assoc, pos-+ℤ-pos}
-use Rattle.walks.specs.declared.Step.the-variants.{To, Impossible}
+use Rattle.walks.specs.declared.Step.the-variants.{To}
 use Rattle.walks.specs.BoundedStep.{clipped, stepped}
 use Rattle.walks.specs.Walk.{Ends, walked, total}
 use Rattle.walks.specs.Moves.{gainOf}
