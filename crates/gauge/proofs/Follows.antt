@@ -109,8 +109,8 @@ after-yes y f z = go (y .verdict) (y .gauge)
     go Yes x = (λ q. (x, refl, q), λ (u, p, q). ap {B = Gauged} (λ (t : Gauged). f (t .gauge)) p ∙ q)
     go (Refused r) x = (λ q. not-yes r x z q, λ (u, p, q). not-yes r x u p)
 
--- Stepped along the arcs w from mode m, charge e and total s, the gauge comes to mode t, charge x and total y, without a refusal, exactly
--- where w leads from m to t, its walk from e ends at x, and s and what the walk lost make y, which is a number of 64 bits.
+-- Stepped along the arcs w from mode m, charge e and total i, the gauge comes to mode t, charge x and total y, without a refusal, exactly
+-- where w leads from m to t, its walk from e ends at x, and i and what the walk lost make y, which does not pass 64 bits.
 module _ (n s k : ℕ) (l : Lists) (b : ℕ) (fit : fitness n s k l ≡ Yes) (hb : b ≤ boundMost) where
   pub gauge-follows : (w : List ℕ) (m e i t x y : ℕ) → e ≤ b → i ≤ spillMost
       → (stepsOf n s k l b w (gauge m e i) ≡ gauged Yes (gauge t x y))
@@ -175,7 +175,7 @@ plan-followed n s k l b c p fit hb hc serves r i =
       rw (started-yes n s k l b c fit (levels-yes b c .1 (hb, hc))) (λ q. follows .0 q .3, λ low. follows .1 (leads, ends, omega arith, low)),
     )
 
--- .. which takes more than a million million steps
+-- .. so not within the first 1,844,674,407,370,955 steps: none loses more than 10,000
 pub plan-never-full : (n s k : ℕ) (l : Lists) (b c : ℕ) (p : Plan) → fitness n s k l ≡ Yes → b ≤ boundMost → c ≤ b
     → Serves (automatonOf n s k l) b c p → (r i : ℕ) → i * lossMost ≤ spillMost → let w = take i (p .prefix ++ times r (p .cycle)) in
     (x : Gauge) × (afterGauged (startedOf n s k l b c) (stepsOf n s k l b w) ≡ gauged Yes x)
