@@ -159,7 +159,8 @@ static inline struct chargeplan_started chargeplan_model_gauge_start(const struc
  * m, b    the model and the bound that the gauge was started with: the call cannot tell
  * arc     the arc's number
  *
- * Answers 0 and moves the gauge on, or answers the first of 1 to 6, 12, 13 and 15 that applies and leaves it as it was.
+ * Answers 0 and moves the gauge on, or answers the first of 1 to 6, 12, 13 and 15 that applies and leaves its three fields as they
+ * were. What stands between the fields may change.
  */
 static inline uint64_t chargeplan_model_gauge_step(struct chargeplan_gauge *gauge, const struct chargeplan_model *m, uint32_t b,
     uint32_t arc);

@@ -3,13 +3,13 @@
 use mathlib.Core.Path.{_≡_, refl}
 use mathlib.Core.Bool.{Bool, true, false, not, _&&_, _||_}
 use mathlib.Core.List.{List, [], _∷_}
-use mathlib.Core.Logic.{⊎-elim}
+use mathlib.Core.Logic.{inl, inr, ⊎-elim}
 use Prim.Native.Nat.{ℕ, zero, suc, _+_, _*_, _^_, _≤_, _<_}
 use native.Mathlib.Nat.{sub-zero}
 use native.Mathlib.Omega.{arith}
 use lib.Dec.{leb, ltb, eqb}
 use lib.ListN.{length, take, length-drop, length-take}
-use Rattle.limits.specs.Ceilings.{modesMost, arcsMost, coloursMost, boundMost, productMost, planMost, spillMost, workSpace, planBuffer}
+use Rattle.limits.specs.Ceilings.{modesMost, arcsMost, coloursMost, boundMost, productMost, planMost, workSpace, planBuffer}
 use Rattle.walks.specs.declared.Step.{Step}
 use Rattle.walks.specs.declared.Step.the-variants.{To, Impossible}
 use Rattle.walks.specs.BoundedStep.{stepped}
@@ -33,8 +33,8 @@ use Rattle.judge.specs.Judged.{servesOf, judgedPlan, judgedLevels, judged}
 use Rattle.judge.proofs.Firsts.{numbers-scan, chain-scan, missing-scan}
 use Rattle.judge.proofs.Shapes.{length-yes, shape-yes}
 use Rattle.gauge.specs.declared.Gauge.{Gauge}
-use Rattle.gauge.specs.declared.Gauged.{Gauged}
-use Rattle.gauge.specs.Gauge.{gauge, gauged, noGauge, stopAt, landed, startedOf, movedOf, movedLevelled, steppedOf}
+use Rattle.gauge.specs.Gauge.{gauge, gauged, noGauge, stopAt, startedOf, steppedOf}
+use Rattle.gauge.proofs.Stops.{StepRefusal, step-stops}
 use Rattle.planwalk.specs.declared.Walked.the-variants as outcome
 use Rattle.planwalk.specs.Walked.{walkOf}
 use Rattle.planwalk.proofs.Least.{walk-refused-by}
@@ -193,40 +193,30 @@ pub walked-within : (n s k : ℕ) (l : Lists) (b c p q : ℕ) (w : List ℕ) (j 
 walked-within n s k l b c p q w j t r e =
     ⊎-elim (λ z. rw z at (judged-within n s k l b c p q w)) (λ (_, _, z). rw z (omega arith)) (walk-refused-by n s k l b c p q w j t r .0 e)
 
--- a gauge: the largest are those of 5, an arc; 12, 13 and 15 have detail 0
-module _ {d : ℕ} where
-  stop-within : (v : Verdict) (x : Gauge) (y : Gauged) → Within d v → Within d (y .verdict) → Within d (stopAt v x y .verdict)
-  stop-within Yes x y first second = second
-  stop-within (Refused r) x y first second = first
-
-  landed-within : (x : Gauge) (t : ℕ) (s : Step) → Within d (landed x t s .verdict)
-  landed-within x t (To e l) =
-      stop-within (refuse (ltb spillMost (x .spill + l)) (ImpossibleStep 0) Yes) x (gauged Yes (gauge t e (x .spill + l)))
-      (refuse-within (ltb spillMost (x .spill + l)) (ImpossibleStep 0) (omega arith) yes-within) yes-within
-  landed-within x t Impossible = omega arith
-
-  moved-within : (g : Automaton) (b a : ℕ) (x : Gauge) → Within d (movedOf g b a x .verdict)
-  unfolding movedOf
-  moved-within g b a x =
-      let lands = landed x (arcAt g a .target) (stepped b (arcAt g a .weight) (x .charge)) in
-      stop-within
-      (refuse (leb (length (g .arcs)) a) (ArcNumber 0) (refuse (not (eqb (arcAt g a .source) (x .mode))) (OtherMode 0) Yes)) x lands
-      (refuse-within (leb (length (g .arcs)) a) (ArcNumber 0) (omega arith)
-      (refuse-within (not (eqb (arcAt g a .source) (x .mode))) (OtherMode 0) (omega arith) yes-within))
-      (landed-within x (arcAt g a .target) (stepped b (arcAt g a .weight) (x .charge)))
-
+-- a gauge: the largest are those of 5, an arc
 pub started-within : (n s k : ℕ) (l : Lists) (b c : ℕ) → Within arcsMost (startedOf n s k l b c .verdict)
 unfolding startedOf
 started-within n s k l b c =
-    stop-within (andThen (fitness n s k l) (levelsOf b c)) noGauge (gauged Yes (gauge s c 0))
-    (then-within (fitness n s k l) (fitness-within n s k l (omega arith)) λ _. levels-within b c) yes-within
+    go (andThen (fitness n s k l) (levelsOf b c)) (then-within (fitness n s k l) (fitness-within n s k l (omega arith)) λ _. levels-within b c)
+  where
+    go : (v : Verdict) → Within arcsMost v → Within arcsMost (stopAt v noGauge (gauged Yes (gauge s c 0)) .verdict)
+    go Yes within = yes-within
+    go (Refused r) within = within
 
+-- 12, 13 and 15 of a step have detail 0
 pub stepped-within : (n s k : ℕ) (l : Lists) (b a : ℕ) (x : Gauge) → Within arcsMost (steppedOf n s k l b a x .verdict)
-unfolding steppedOf movedLevelled
-stepped-within n s k l b a x =
-    let g = automatonOf n s k l in
-    stop-within (fitness n s k l) x (movedLevelled g b a x) (fitness-within n s k l (omega arith))
-    (stop-within (levelsOf b (x .charge)) x (movedOf g b a x) (levels-within b (x .charge)) (moved-within g b a x))
+stepped-within n s k l b a x = go (steppedOf n s k l b a x .verdict) refl
+  where
+    by : (r : Refusal) → StepRefusal n s k l b x r → Within arcsMost (Refused r)
+    by r (inl e) = rw e at (fitness-within {d = arcsMost} n s k l (omega arith))
+    by r (inr (inl e)) = rw e at (levels-within {d = arcsMost} b (x .charge))
+    by r (inr (inr (inl e))) = rw e (omega arith)
+    by r (inr (inr (inr (inl e)))) = rw e (omega arith)
+    by r (inr (inr (inr (inr e)))) = rw e (omega arith)
+
+    go : (v : Verdict) → steppedOf n s k l b a x .verdict ≡ v → Within arcsMost (steppedOf n s k l b a x .verdict)
+    go Yes e = rw e yes-within
+    go (Refused r) e = rw e (by r (step-stops n s k l b a x r e .1))
 
 -- 1 to 9 of search: the largest are those of 5, an arc
 pub searchable-within : (n s k : ℕ) (l : Lists) (b c words bytes : ℕ) → Within arcsMost (searchable n s k l b c words bytes)

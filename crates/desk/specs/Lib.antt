@@ -1,3 +1,3 @@
--- What a reader must believe of the C entries: how an answer is packed in one word (Packing), and what the two calls promise (Desk).
+-- What a reader must believe of the C entries: how an answer is packed in one word (Packing), and what each entry promises (Desk).
 pub mod Packing
 pub mod Desk

@@ -1,5 +1,5 @@
--- The call repeated: stepped along a list of arcs, the gauge has at each point the mode and the charge of the definition of a walk, and
--- along a plan that serves it is never refused. Assumes nothing.
+-- The call repeated: stepped along a list of arcs, the gauge has at each point the mode and the charge of the definition of a walk and the
+-- total of what the walk lost, and along a plan that serves it is refused only where that total would pass 64 bits. Assumes nothing.
 use mathlib.Core.Path.{_≡_, refl, sym, ap, _∙_}
 use mathlib.Core.List.{List, [], _∷_, _++_}
 use mathlib.Core.Logic.{_↔_}
@@ -108,6 +108,12 @@ after-yes y f z = go (y .verdict) (y .gauge)
     go : (v : Verdict) (x : Gauge) → (stopAt v x (f x) ≡ gauged Yes z) ↔ ((u : Gauge) × (gauged v x ≡ gauged Yes u) × (f u ≡ gauged Yes z))
     go Yes x = (λ q. (x, refl, q), λ (u, p, q). ap {B = Gauged} (λ (t : Gauged). f (t .gauge)) p ∙ q)
     go (Refused r) x = (λ q. not-yes r x z q, λ (u, p, q). not-yes r x u p)
+
+-- .. and a refusal ends what follows, with the gauge that goes with it
+pub after-refused : (y : Gauged) (f : Gauge → Gauged) (r : Refusal) → y .verdict ≡ Refused r → afterGauged y f ≡ y
+after-refused y f r e =
+    let ends : afterGauged y f ≡ gauged (Refused r) (y .gauge) = rw e refl in
+    ends ∙ ap {B = Gauged} (λ (v : Verdict). gauged v (y .gauge)) (sym e)
 
 -- Stepped along the arcs w from mode m, charge e and total i, the gauge comes to mode t, charge x and total y, without a refusal, exactly
 -- where w leads from m to t, its walk from e ends at x, and i and what the walk lost make y, which does not pass 64 bits.

@@ -1,25 +1,29 @@
 -- The balance of a history of steps. Document 02, Ask 2: "For any sequence of accepted steps from a start, c plus the weights walked equals
 -- charge plus the sum, over the history, of what each step lost, and the gauge's total is that sum." Each step may have a model and a bound of
 -- its own. Assumes nothing.
-use mathlib.Core.Path.{_≡_, refl, ap}
+use mathlib.Core.Path.{_≡_, ap}
 use mathlib.Core.List.{List, [], _∷_, map}
-use Prim.Native.Nat.{ℕ, _+_}
+use Prim.Native.Nat.{ℕ, _+_, _≤_}
 use native.Mathlib.Omega.{arith}
 use lib.IntN.{ℤ, pos, _+ℤ_}
+use Rattle.limits.specs.Ceilings.{boundMost, spillMost}
 use Rattle.walks.specs.declared.Step.the-variants.{To}
 use Rattle.walks.specs.BoundedStep.{stepped}
 use Rattle.walks.specs.Walk.{total}
+use Rattle.walks.specs.Spill.{spilled}
 use Rattle.walks.proofs.Spill.{step-balance, then-balance}
+use Rattle.refusals.specs.declared.Refusal.{Refusal}
 use Rattle.refusals.specs.declared.Verdict.{Verdict}
 use Rattle.refusals.specs.declared.Verdict.the-variants.{Yes, Refused}
 use Rattle.refusals.specs.Refusals.{andThen}
+use Rattle.model.specs.Automaton.{weights}
 use Rattle.model.specs.Lists.{Lists, automatonOf}
 use Rattle.model.specs.Fitness.{fitness, levelsOf}
 use Rattle.gauge.specs.declared.Gauge.{Gauge}
 use Rattle.gauge.specs.declared.Gauged.{Gauged}
 use Rattle.gauge.specs.Gauge.{gauge, gauged, noGauge, stopAt, startedOf, movedOf, movedLevelled, steppedOf, afterGauged}
-use Rattle.gauge.specs.History.{Call, called, calledAll, weightOf, lostBy}
-use Rattle.gauge.proofs.Follows.{Spills, not-yes, moved-yes, after-yes}
+use Rattle.gauge.specs.History.{Call, called, calledAll, callsOf, stepsOf, weightOf, lostBy}
+use Rattle.gauge.proofs.Follows.{Spills, not-yes, moved-yes, after-yes, after-refused, gauge-follows}
 
 -- a check that lets through what is accepted
 stop-yes : (v : Verdict) (x : Gauge) (y : Gauged) (z : Gauge) → stopAt v x y ≡ gauged Yes z → y ≡ gauged Yes z
@@ -40,7 +44,12 @@ called-spills d x y q =
 lost-cons : (d : Call) (h : List Call) (x u : Gauge) (e l : ℕ) → stepped (d .bound) (weightOf d) (x .charge) ≡ To e l → called d x ≡ gauged Yes u
     → lostBy (d ∷ h) x ≡ l + lostBy h u
 unfolding lostBy
-lost-cons d h x u e l to p = rw (to, p) refl
+lost-cons d h x u e l to p = rw (to, p) (omega arith)
+
+-- "up to the first refusal": a refused call ends the history, with the gauge that goes with it
+pub calls-stop : (d : Call) (h : List Call) (x : Gauge) (r : Refusal) → called d x .verdict ≡ Refused r → calledAll (d ∷ h) x ≡ called d x
+unfolding calledAll
+calls-stop d h x r e = after-refused (called d x) (calledAll h) r e
 
 -- what is lost and gained over a history of accepted steps, from any gauge
 pub history-balance : (h : List Call) (x y : Gauge) → calledAll h x ≡ gauged Yes y
@@ -71,3 +80,10 @@ start-balance n s k l b c h y q = go (andThen (fitness n s k l) (levelsOf b c)) 
         → (pos c +ℤ total (map weightOf h) ≡ pos (y .charge + lostBy h (gauge s c 0))) × (y .spill ≡ lostBy h (gauge s c 0))
     go Yes q = let (i, j) = history-balance h (gauge s c 0) y q in (i, omega arith)
     go (Refused r) q = not-yes r noGauge y q
+
+-- on the arcs of one model that is what its walk lost
+pub lost-spilled : (n s k : ℕ) (l : Lists) (b : ℕ) → fitness n s k l ≡ Yes → b ≤ boundMost → (w : List ℕ) (x y : Gauge) → x .charge ≤ b → x .spill ≤ spillMost
+    → stepsOf n s k l b w x ≡ gauged Yes y → lostBy (callsOf n s k l b w) x ≡ spilled b (weights (automatonOf n s k l) w) (x .charge)
+lost-spilled n s k l b fit hb w x y h hi q =
+    let (_, _, total, _) = gauge-follows n s k l b fit hb w (x .mode) (x .charge) (x .spill) (y .mode) (y .charge) (y .spill) h hi .0 q in
+    omega (arith, history-balance (callsOf n s k l b w) x y q .1)

@@ -3,9 +3,8 @@
 use Prim.Native.Nat.{ℕ, _+_}
 use mathlib.Core.List.{List, [], _∷_, map}
 use lib.IntN.{ℤ}
-use Rattle.walks.specs.declared.Step.{Step}
-use Rattle.walks.specs.declared.Step.the-variants.{To, Impossible}
 use Rattle.walks.specs.BoundedStep.{stepped}
+use Rattle.walks.specs.Spill.{lostIn}
 use Rattle.refusals.specs.declared.Verdict.the-variants.{Yes}
 use Rattle.model.specs.Automaton.{arcAt}
 use Rattle.model.specs.Lists.{Lists, automatonOf}
@@ -30,18 +29,16 @@ unfoldable pub calledAll : List Call → Gauge → Gauged
 calledAll [] x = gauged Yes x
 calledAll (d ∷ h) x = afterGauged (called d x) (calledAll h)
 
--- the call repeated on the arcs of a list, with one model and bound
+-- the calls on the arcs of a list, with one model and bound
+abbrev pub callsOf : ℕ → ℕ → ℕ → Lists → ℕ → List ℕ → List Call
+callsOf n s k l b w = map (λ a. record { modes = n; start = s; colours = k; lists = l; bound = b; arc = a }) w
+
 abbrev pub stepsOf : ℕ → ℕ → ℕ → Lists → ℕ → List ℕ → Gauge → Gauged
-stepsOf n s k l b w = calledAll (map (λ a. record { modes = n; start = s; colours = k; lists = l; bound = b; arc = a }) w)
+stepsOf n s k l b w = calledAll (callsOf n s k l b w)
 
 -- the weight that a call walks
 abbrev pub weightOf : Call → ℤ
 weightOf d = arcAt (automatonOf (d .modes) (d .start) (d .colours) (d .lists)) (d .arc) .weight
-
--- what a step lost
-abbrev pub lostIn : Step → ℕ
-lostIn (To e l) = l
-lostIn Impossible = 0
 
 -- "the sum, over the history, of what each step lost"
 unfoldable pub lostBy : List Call → Gauge → ℕ

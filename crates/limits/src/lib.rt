@@ -1,5 +1,5 @@
-// Every ceiling of document 01 ("Ceilings"), each under its name. Code cites the constants; definitions cite the numerals of
-// specs/Ceilings; `Limits::agree` ties each constant to its numeral.
+// Every ceiling of document 01 ("Ceilings") and of the requests of document 02, each under its name. Code cites the constants; definitions cite
+// the numerals of specs/Ceilings; `Limits::agree` ties each constant to its numeral.
 ghost use mathlib.Core.Path.{_≡_};
 ghost use mathlib.Core.Bool.{true};
 ghost use Rattle.limits.specs.Ceilings.{

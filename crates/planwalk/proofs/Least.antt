@@ -26,7 +26,7 @@ use Rattle.judge.specs.Judged.{judged}
 use Rattle.judge.proofs.Judged.{judged-yes}
 use Rattle.planwalk.specs.declared.Walked.the-variants.{Met, Spent, Refused}
 use Rattle.planwalk.specs.Walked.{stepsOfPlan, metOr, walkOf, firstMet}
-use Rattle.planwalk.proofs.Steps.{steps-whole, walk-least}
+use Rattle.planwalk.proofs.Steps.{steps-begin, walk-least}
 use Rattle.planwalk.proofs.Refused.{walk-refused, walk-no-colour}
 
 -- of n places one is the first that passes the test, or none passes
@@ -59,28 +59,24 @@ module _ (g : Automaton) (j : ℕ) where
   none-met [] i none = ap Spent (omega arith)
   none-met (b ∷ w) i none = rw (none 0 (omega arith)) (none-met w (suc i) (λ a q. none (suc a) (omega arith)) ∙ ap Spent (omega arith))
 
-  module _ (w : List ℕ) (i x : ℕ) where
+  module _ (w : List ℕ) (i : ℕ) where
+    -- so "met" is answered, or "spent"
+    first-ends : ((a : ℕ) × FirstOf (λ d. meets g j (getD w d 0)) (length w) a × (firstMet g j w i ≡ Met (suc (i + a))))
+        ⊎ (((a : ℕ) → a < length w → meets g j (getD w a 0) ≡ false) × (firstMet g j w i ≡ Spent (i + length w)))
+    first-ends =
+        ⊎-elim (λ (a, f). inl (a, f, least-met w i a f)) (λ none. inr (none, none-met w i none)) (first-or-none (λ d. meets g j (getD w d 0)) (length w))
+
     -- "met" is answered for the first step that meets the colour, counted from 1 on behind the i steps before the list
-    pub first-met : (firstMet g j w i ≡ Met x) ↔ ((a : ℕ) × (x ≡ suc (i + a)) × FirstOf (λ d. meets g j (getD w d 0)) (length w) a)
-    first-met = (
-      λ q.
-          ⊎-elim
-          (λ (a, f). (a, cc (least-met w i a f), f))
-          (λ none. clash (cc (none-met w i none)))
-          (first-or-none (λ d. meets g j (getD w d 0)) (length w)),
-      λ (a, q, f). least-met w i a f ∙ ap Met (sym q),
-    )
+    pub first-met : (x : ℕ) → (firstMet g j w i ≡ Met x) ↔ ((a : ℕ) × (x ≡ suc (i + a)) × FirstOf (λ d. meets g j (getD w d 0)) (length w) a)
+    first-met x = (λ q. ⊎-elim (λ (a, f, e). (a, cc, f)) (λ (none, e). clash (cc)) first-ends, λ (a, q, f). least-met w i a f ∙ ap Met (sym q))
 
     -- "spent" is answered where no step meets the colour, and all are counted
-    pub first-spent : (firstMet g j w i ≡ Spent x) ↔ ((x ≡ i + length w) × ((a : ℕ) → a < length w → meets g j (getD w a 0) ≡ false))
-    first-spent = (
-      λ q.
-          ⊎-elim
-          (λ (a, f). clash (cc (least-met w i a f)))
-          (λ none. (cc (none-met w i none), none))
-          (first-or-none (λ d. meets g j (getD w d 0)) (length w)),
-      λ (q, none). none-met w i none ∙ ap Spent (sym q),
-    )
+    pub first-spent : (x : ℕ) → (firstMet g j w i ≡ Spent x) ↔ ((x ≡ i + length w) × ((a : ℕ) → a < length w → meets g j (getD w a 0) ≡ false))
+    first-spent x = (λ q. ⊎-elim (λ (a, f, e). clash (cc)) (λ (none, e). (cc, none)) first-ends, λ (q, none). none-met w i none ∙ ap Spent (sym q))
+
+    -- no refusal is answered
+    first-not-refused : {X : Type 0} (r : Refusal) → firstMet g j w i ≡ Refused r → X
+    first-not-refused r q = ⊎-elim (λ (a, f, e). clash (cc)) (λ (none, e). clash (cc)) first-ends
 
   -- where an arc of the list meets the colour, "met" is answered, whatever stands behind the list
   meets-met : (w v : List ℕ) (i : ℕ) → Meets g j w → (x : ℕ) × (firstMet g j (w ++ v) i ≡ Met x)
@@ -94,14 +90,6 @@ module _ (g : Automaton) (j : ℕ) where
       go false (inl met) rest = clash (cc)
       go false (inr later) rest = rest later
 
-  -- no refusal is answered
-  first-not-refused : {X : Type 0} (w : List ℕ) (i : ℕ) (r : Refusal) → firstMet g j w i ≡ Refused r → X
-  first-not-refused w i r q =
-      ⊎-elim
-      (λ (a, f). clash (cc (least-met w i a f)))
-      (λ none. clash (cc (none-met w i none)))
-      (first-or-none (λ d. meets g j (getD w d 0)) (length w))
-
 -- the first t steps of a plan are t, where its cycle has an arc
 pub steps-length : (p : Plan) (t : ℕ) → 0 < length (p .cycle) → length (stepsOfPlan p t) ≡ t
 steps-length p t h =
@@ -113,36 +101,38 @@ module _ (n s k : ℕ) (l : Lists) (b c p q : ℕ) (w : List ℕ) (j t : ℕ) wh
   abbrev meetsAt : ℕ → Bool
   meetsAt a = meets (automatonOf n s k l) j (getD (stepsOfPlan (planOf p w) t) a 0)
 
+  -- judging refuses the plan, or the model has no such colour, or the plan is walked
+  walk-cases : ((r : Refusal) × (judged n s k l b c p q w ≡ verdict.Refused r)) ⊎ (judged n s k l b c p q w ≡ Yes) × ((k ≤ j) ⊎ (j < k))
+  walk-cases = go (judged n s k l b c p q w) refl
+    where
+      go : (v : Verdict) → judged n s k l b c p q w ≡ v
+          → ((r : Refusal) × (judged n s k l b c p q w ≡ verdict.Refused r)) ⊎ (judged n s k l b c p q w ≡ Yes) × ((k ≤ j) ⊎ (j < k))
+      go (verdict.Refused r) e = inl (r, e)
+      go Yes e = inr (e, elim (decLe k j) [ yes h ↦ inl h | no h ↦ inr (omega arith) ])
+
   -- a plan is walked only where judging accepts it and the model has the colour
   walked-only : ((r : Refusal) → walkOf n s k l b c p q w j t ≡ Refused r → ⊥) → (judged n s k l b c p q w ≡ Yes) × (j < k)
-  walked-only through = go (judged n s k l b c p q w) refl
-    where
-      go : (v : Verdict) → judged n s k l b c p q w ≡ v → (judged n s k l b c p q w ≡ Yes) × (j < k)
-      go (verdict.Refused r) e = absurd (through r (walk-refused n s k l b c p q w j t r e))
-      go Yes e =
-          elim (decLe k j) [
-            | yes h ↦ absurd (through NoSuchColour (walk-no-colour n s k l b c p q w j t e h))
-            | no h ↦ (e, omega arith)
-          ]
+  walked-only through =
+      ⊎-elim
+      (λ (r, e). absurd (through r (walk-refused n s k l b c p q w j t r e)))
+      (λ (e, colour). (e, ⊎-elim (λ h. absurd (through NoSuchColour (walk-no-colour n s k l b c p q w j t e h))) (λ h. h) colour))
+      walk-cases
 
   -- the call is refused exactly by what judging refuses the plan by, or by 18 where judging accepts it
   pub walk-refused-by : (r : Refusal) → (walkOf n s k l b c p q w j t ≡ Refused r)
       ↔ ((judged n s k l b c p q w ≡ verdict.Refused r) ⊎ ((judged n s k l b c p q w ≡ Yes) × (k ≤ j) × (r ≡ NoSuchColour)))
   walk-refused-by r = (
-    λ e. go e (judged n s k l b c p q w) refl,
+    λ z.
+        ⊎-elim
+        (λ (x, e). let same : x ≡ r = cc (walk-refused n s k l b c p q w j t x e) in inl (e ∙ rw same refl))
+        (λ (e, colour).
+        ⊎-elim
+        (λ h. inr (e, h, cc (walk-no-colour n s k l b c p q w j t e h)))
+        (λ h. first-not-refused (automatonOf n s k l) j (stepsOfPlan (planOf p w) t) 0 r (sym (walk-least n s k l b c p q w e j t h) ∙ z))
+        colour)
+        walk-cases,
     ⊎-elim (walk-refused n s k l b c p q w j t r) (λ (e, h, same). rw same (walk-no-colour n s k l b c p q w j t e h)),
   )
-    where
-      go : walkOf n s k l b c p q w j t ≡ Refused r → (v : Verdict) → judged n s k l b c p q w ≡ v
-          → (judged n s k l b c p q w ≡ verdict.Refused r) ⊎ ((judged n s k l b c p q w ≡ Yes) × (k ≤ j) × (r ≡ NoSuchColour))
-      go e (verdict.Refused x) z = let same : x ≡ r = cc (walk-refused n s k l b c p q w j t x z) in inl (z ∙ rw same refl)
-      go e Yes z =
-          elim (decLe k j) [
-            | yes h ↦ inr (z, h, cc (walk-no-colour n s k l b c p q w j t z h))
-            | no h ↦
-                first-not-refused (automatonOf n s k l) j (stepsOfPlan (planOf p w) t) 0 r
-                (sym (walk-least n s k l b c p q w z j t (omega arith)) ∙ e)
-          ]
 
   module _ (accepted : judged n s k l b c p q w ≡ Yes) where
     -- the walk of a plan has as many steps as the allowance
@@ -184,6 +174,6 @@ module _ (n s k : ℕ) (l : Lists) (b c p q : ℕ) (w : List ℕ) (j t : ℕ) wh
       let g = automatonOf n s k l in
       let m = planOf p w in
       let parts = ap {B = ℕ} length (take-append-drop p w) in
-      let (v, e) = steps-whole m t (omega (arith, right .lengths .some-arc)) (omega (arith, parts, right .lengths .parts)) in
+      let (v, e) = steps-begin m t (omega (arith, right .lengths .some-arc)) (omega (arith, parts, right .lengths .parts)) in
       let (x, met) = meets-met g j (m .prefix ++ m .cycle) v 0 (some-right (meets g j) (m .prefix) (m .cycle) (right .serves .accepted j h)) in
       (x, walk-least n s k l b c p q w accepted j t h ∙ ap (λ (u : List ℕ). firstMet g j u 0) e ∙ met)

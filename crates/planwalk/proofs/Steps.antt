@@ -48,8 +48,8 @@ steps-once p (suc t) h =
     rw (sym (append-assoc (p .prefix) (p .cycle) (times t (p .cycle)))) (take-append-seam (p .prefix ++ p .cycle) (times t (p .cycle)))
 
 -- and more steps begin with them
-pub steps-whole : (p : Plan) (t : ℕ) → 0 < t → length (p .prefix ++ p .cycle) ≤ t → (v : List ℕ) × (stepsOfPlan p t ≡ (p .prefix ++ p .cycle) ++ v)
-steps-whole p t some h =
+pub steps-begin : (p : Plan) (t : ℕ) → 0 < t → length (p .prefix ++ p .cycle) ≤ t → (v : List ℕ) × (stepsOfPlan p t ≡ (p .prefix ++ p .cycle) ++ v)
+steps-begin p t some h =
     let d = length (p .prefix ++ p .cycle) in
     let all = p .prefix ++ times t (p .cycle) in
     let sum : t ≡ d + (t - d) = omega arith in
@@ -94,7 +94,7 @@ module _ (n s k : ℕ) (l : Lists) (b : ℕ) (fit : fitness n s k l ≡ Yes) (lo
             subst (λ (u : List ℕ). gaugeWalk n s k l b j u 0 (gauge s c 0) ≡ firstMet g j u 0) (append-nil w)
             (gauge-least w [] s c 0 m x h (room w m x (omega (arith, length-take t (p .prefix ++ times t (p .cycle)))) leads ends) leads ends (inr refl) 0)
         | no q ↦
-            let (v, e) = steps-whole p t (omega arith) (omega arith) in
+            let (v, e) = steps-begin p t (omega arith) (omega arith) in
             let (m, x, leads, ends) = rw (steps-once p t (omega arith)) at (serves-walked g b c p serves t (length whole)) in
             subst (λ (u : List ℕ). gaugeWalk n s k l b j u 0 (gauge s c 0) ≡ firstMet g j u 0) (sym e)
             (gauge-least whole v s c 0 m x h (room whole m x short leads ends) leads ends

@@ -7,7 +7,7 @@ use native.Mathlib.Omega.{arith}
 use lib.Dec.{leb→le}
 use lib.Signed.{_≤ℤ_}
 use lib.IntN.{ℤ, pos, negsuc, _+ℤ_, +ℤ-assoc, pos-+ℤ-pos}
-use Rattle.walks.specs.declared.Step.the-variants.{To}
+use Rattle.walks.specs.declared.Step.the-variants.{To, Impossible}
 use Rattle.walks.specs.BoundedStep.{clipped, stepped}
 use Rattle.walks.specs.Walk.{Ends, walked, total}
 use Rattle.walks.specs.Moves.{gainOf}
@@ -36,6 +36,11 @@ gain-most (negsuc x) m h = omega arith
 pub spilled-cons : (b : ℕ) (w : ℤ) (ws : List ℤ) (e x l : ℕ) → stepped b w e ≡ To x l → spilled b (w ∷ ws) e ≡ l + spilled b ws x
 unfolding spilled
 spilled-cons b w ws e x l q = rw q refl
+
+-- where the first step is not possible, nothing is lost
+pub spilled-off : (b : ℕ) (w : ℤ) (ws : List ℤ) (e : ℕ) → stepped b w e ≡ Impossible → spilled b (w ∷ ws) e ≡ 0
+unfolding spilled
+spilled-off b w ws e q = rw q refl
 
 -- the charge moved on by one step, and then by more
 pub then-balance : (e y l x s : ℕ) (w W : ℤ) → pos e +ℤ w ≡ pos (y + l) → pos y +ℤ W ≡ pos (x + s) → pos e +ℤ (w +ℤ W) ≡ pos (x + (l + s))

@@ -92,21 +92,15 @@ cut-fits b (negsuc n) f h = absurd (true≢false h)
 cut-rest : (b n : ℕ) → pos n -ℤ pos (min n b) ≡ pos (n - b)
 cut-rest b n = difference n (min n b) (omega arith) ∙ ap {B = ℤ} pos (omega arith)
 
--- .. is a word of 32 bits, signed or unsigned
-pub lost-sfits : (b e : ℕ) (z : ℤ) → Fits w16 e → SFits w16 z → ltZ (cutOff b (pos e +ℤ z)) (pos 0) ≡ false
-    → SFits w32 ((pos e +ℤ z) -ℤ cutOff b (pos e +ℤ z))
-lost-sfits b e z f g h = go (pos e +ℤ z) (sum-sfits e z f (omega (arith, g .sfits))) h
-  where
-    go : (s : ℤ) → SFits w32 s → ltZ (cutOff b s) (pos 0) ≡ false → SFits w32 (s -ℤ cutOff b s)
-    go (pos n) k h = rw (cut-rest b n) (record { sfits = omega (arith, k .sfits) })
-    go (negsuc n) k h = absurd (true≢false h)
-
+-- .. is a word of 32 bits, signed and unsigned
 pub lost-fits : (b e : ℕ) (z : ℤ) → Fits w16 e → SFits w16 z → ltZ (cutOff b (pos e +ℤ z)) (pos 0) ≡ false
-    → T (nonNeg ((pos e +ℤ z) -ℤ cutOff b (pos e +ℤ z))) × Fits w32 (natAbs ((pos e +ℤ z) -ℤ cutOff b (pos e +ℤ z)))
+    → let d = (pos e +ℤ z) -ℤ cutOff b (pos e +ℤ z) in SFits w32 d × (T (nonNeg d) × Fits w32 (natAbs d))
 lost-fits b e z f g h = go (pos e +ℤ z) (sum-sfits e z f (omega (arith, g .sfits))) h
   where
-    go : (s : ℤ) → SFits w32 s → ltZ (cutOff b s) (pos 0) ≡ false → T (nonNeg (s -ℤ cutOff b s)) × Fits w32 (natAbs (s -ℤ cutOff b s))
-    go (pos n) k h = rw (cut-rest b n) (tt, record { fits = omega (arith, k .sfits) })
+    go : (s : ℤ) → SFits w32 s → ltZ (cutOff b s) (pos 0) ≡ false
+        → SFits w32 (s -ℤ cutOff b s) × (T (nonNeg (s -ℤ cutOff b s)) × Fits w32 (natAbs (s -ℤ cutOff b s)))
+    go (pos n) k h =
+        rw (cut-rest b n) (record { sfits = omega (arith, k .sfits) }, (tt, record { fits = omega (arith, k .sfits) }))
     go (negsuc n) k h = absurd (true≢false h)
 
 -- .. and the charge that the step leads to, with what is cut off

@@ -6,10 +6,14 @@ use Rattle.walks.specs.declared.Step.{Step}
 use Rattle.walks.specs.declared.Step.the-variants.{To, Impossible}
 use Rattle.walks.specs.BoundedStep.{stepped}
 
--- what a step lost, and what follows it goes on from the charge that it leads to
+-- what a step lost, and what is lost from the charge on that it leads to; a step that is not possible is not made, and nothing is lost
 abbrev pub spilledOn : Step → (ℕ → ℕ) → ℕ
 spilledOn (To e l) f = l + f e
 spilledOn Impossible f = 0
+
+-- what a step lost
+abbrev pub lostIn : Step → ℕ
+lostIn s = spilledOn s (λ e. 0)
 
 -- the sum of what each step lost, of the weights walked one after the other from charge e
 unfoldable pub spilled : ℕ → List ℤ → ℕ → ℕ

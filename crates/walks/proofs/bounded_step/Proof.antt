@@ -2,15 +2,16 @@
 use mathlib.Core.Path.{_≡_, refl}
 use mathlib.Core.Bool.{false}
 use native.Mathlib.Omega.{arith}
-use lib.IntN.{ℤ, pos, _+ℤ_, _-ℤ_}
-use lib.Signed.{ltZ}
+use lib.Dec.{T}
+use lib.IntN.{ℤ, pos, natAbs, _+ℤ_, _-ℤ_}
+use lib.Signed.{ltZ, nonNeg}
 use mir.Facts.{toZ-ofZ, sfits-widen}
 use mir.Syntax.{w16, w32}
-use mir.Val.{SFits, toZ, ofZ}
+use mir.Val.{Fits, SFits, toZ, ofZ}
 use borrow.Author.Needs.{needs, sfits-of}
 use Rattle.walks.specs.BoundedStep.{stepped}
 use Rattle.walks.proofs.Signs.{unsigned-widened, signed-widened}
-use Rattle.walks.proofs.Sums.{cutOff, smaller-sum, difference-sfits, sum-sfits, cut-sum-sfits, lost-sfits, lost-fits, cut-fits, cut-leads, cut-impossible}
+use Rattle.walks.proofs.Sums.{cutOff, smaller-sum, difference-sfits, sum-sfits, cut-sum-sfits, lost-fits, cut-fits, cut-leads, cut-impossible}
 use Rattle.walks.proofs.bounded_step.Statement.{statement}
 use Rattle.walks.proofs.bounded_step.Tie as tie
 
@@ -74,10 +75,13 @@ returns : tie.Need-returns
 unfolding stepped
 returns c = let s = c .before .before in cut-impossible (s .args .bound) (sum s) (rw (word-cut (c .before)) at (c .if1 .taken))
 
--- what is lost
+-- what is lost, as a word
+abbrev lost : tie.After-smaller → ℤ
+lost c = sum (c .before) -ℤ cutOff (c .before .args .bound) (sum (c .before))
+
 lost-word : (c : tie.After-smaller) → ltZ (cutOff (c .before .args .bound) (sum (c .before))) (pos 0) ≡ false
-    → SFits w32 (sum (c .before) -ℤ cutOff (c .before .args .bound) (sum (c .before)))
-lost-word c h = let s = c .before in lost-sfits (s .args .bound) (s .args .charge) (s .args .weight) (s .fits .charge) (s .fits .weight) h
+    → SFits w32 (lost c) × (T (nonNeg (lost c)) × Fits w32 (natAbs (lost c)))
+lost-word c h = let s = c .before in lost-fits (s .args .bound) (s .args .charge) (s .args .weight) (s .fits .charge) (s .fits .weight) h
 
 cast-whole : tie.Need-cast-whole
 cast-whole c = search needs
@@ -91,21 +95,19 @@ cast-reached c =
     rw (word-cut (c .before)) (cut-fits (s .args .bound) (sum s) (s .fits .bound) (rw (word-cut (c .before)) at (c .if1 .left)))
 
 sub-lost : tie.Need-sub-lost
-sub-lost c = rw (word-sum (c .before), word-cut (c .before)) (lost-word (c .before) (rw (word-cut (c .before)) at (c .if1 .left)))
+sub-lost c = rw (word-sum (c .before), word-cut (c .before)) (lost-word (c .before) (rw (word-cut (c .before)) at (c .if1 .left)) .0)
 
 cast-lost : tie.Need-cast-lost
 cast-lost c =
-    let s = c .before .before in
-    let h = rw (word-cut (c .before)) at (c .if1 .left) in
-    rw (word-sum (c .before), word-cut (c .before), toZ-ofZ (lost-word (c .before) h))
-    (lost-fits (s .args .bound) (s .args .charge) (s .args .weight) (s .fits .charge) (s .fits .weight) h)
+    let (signed, unsigned) = lost-word (c .before) (rw (word-cut (c .before)) at (c .if1 .left)) in
+    rw (word-sum (c .before), word-cut (c .before), toZ-ofZ signed) unsigned
 
 returns-2 : tie.Need-returns-2
 unfolding stepped
 returns-2 c =
     let s = c .before .before in
     let h = rw (word-cut (c .before)) at (c .if1 .left) in
-    rw (word-sum (c .before), word-cut (c .before), toZ-ofZ (lost-word (c .before) h)) (cut-leads (s .args .bound) (sum s) h)
+    rw (word-sum (c .before), word-cut (c .before), toZ-ofZ (lost-word (c .before) h .0)) (cut-leads (s .args .bound) (sum s) h)
 
 pub bounded-step-spec : {M : Type 1} → statement M
 bounded-step-spec =

@@ -1,0 +1,2 @@
+-- Laws of the ceilings.
+pub mod Widths
