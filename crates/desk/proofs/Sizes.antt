@@ -50,28 +50,32 @@ bit-met true = refl
 bit-met false = refl
 
 -- what the walk answers, with an allowance of 16 bits
-pub walk-fields : (n s k : ℕ) (l : Lists) (b c p q : ℕ) (w : List ℕ) (j t : ℕ) → t < 2 ^ 16 → let x = walkAnswer (walkOf n s k l b c p q w j t) in
-    Fields (x .answer) (x .steps) (cond (x .met) 1 0)
+abbrev WalkFields : Walked → Type 0
+WalkFields y = Fields (walkAnswer y .answer) (walkAnswer y .steps) (cond (walkAnswer y .met) 1 0)
+
+pub walk-fields : (n s k : ℕ) (l : Lists) (b c p q : ℕ) (w : List ℕ) (j t : ℕ) → t < 2 ^ 16 → WalkFields (walkOf n s k l b c p q w j t)
 walk-fields n s k l b c p q w j t low = go (walkOf n s k l b c p q w j t) refl
   where
-    go : (y : Walked) → walkOf n s k l b c p q w j t ≡ y → Fields (walkAnswer y .answer) (walkAnswer y .steps) (cond (walkAnswer y .met) 1 0)
+    go : (y : Walked) → walkOf n s k l b c p q w j t ≡ y → WalkFields y
     go (outcome.Met x) e = let (_, _, (a, z, f)) = walk-met n s k l b c p q w j t x .0 e in omega (arith, f .within)
     go (outcome.Spent x) e = let (_, _, z, _) = walk-spent n s k l b c p q w j t x .0 e in omega arith
     go (outcome.Refused r) e = omega (arith, refusal-number r, walked-within n s k l b c p q w j t r e .detail)
 
--- what search answers where none of 1 to 9 applies
-answered-fields : {g : Automaton} {b c : ℕ} {plan plan′ : List ℕ} {r : Searched} → Answered g b c plan plan′ r
-    → Fields (searchAnswer r .answer) (searchAnswer r .p) (searchAnswer r .q)
+-- what search answers
+abbrev SearchFields : Searched → Type 0
+SearchFields r = Fields (searchAnswer r .answer) (searchAnswer r .p) (searchAnswer r .q)
+
+-- where none of 1 to 9 applies
+answered-fields : {g : Automaton} {b c : ℕ} {plan plan′ : List ℕ} {r : Searched} → Answered g b c plan plan′ r → SearchFields r
 answered-fields (none e) = omega arith
 answered-fields (found f) = omega (arith, f .short)
 
--- what search answers
+-- on all inputs
 pub search-fields : (n s k : ℕ) (l : Lists) (b c : ℕ) {work plan work′ plan′ : List ℕ} {r : Searched}
-    → SearchOf n s k l b c work plan work′ plan′ r → Fields (searchAnswer r .answer) (searchAnswer r .p) (searchAnswer r .q)
+    → SearchOf n s k l b c work plan work′ plan′ r → SearchFields r
 search-fields n s k l b c {work} {plan} {r = r} h = go (searchable n s k l b c (length work) (length plan)) refl
   where
-    go : (v : Verdict) → searchable n s k l b c (length work) (length plan) ≡ v
-        → Fields (searchAnswer r .answer) (searchAnswer r .p) (searchAnswer r .q)
+    go : (v : Verdict) → searchable n s k l b c (length work) (length plan) ≡ v → SearchFields r
     go Yes e = answered-fields (h .decided e .answered)
     go (Refused x) e =
         let small = rw e at (searchable-within n s k l b c (length work) (length plan)) in

@@ -6,7 +6,7 @@ use mathlib.Core.Logic.{_↔_, _⊎_, inl, inr, ⊎-elim}
 use Prim.Native.Nat.{ℕ, zero, suc, _+_, _≤_, _<_}
 use native.Mathlib.Omega.{arith}
 use native.Mathlib.Decide.{decLe}
-use lib.ListN.{length, getD, length-append, take-append-drop}
+use lib.ListN.{length, getD, length-append}
 use lib.Seq.{length-take-le}
 use Rattle.walks.specs.Walk.{times}
 use Rattle.refusals.specs.declared.Refusal.{Refusal}
@@ -20,13 +20,12 @@ use Rattle.model.specs.Automaton.{Automaton, meets}
 use Rattle.model.specs.Lists.{Lists, automatonOf}
 use Rattle.model.specs.Plans.{Plan, Meets}
 use Rattle.model.proofs.Plans.{times-length}
-use Rattle.model.proofs.SomeArc.{some-right}
 use Rattle.judge.specs.Shape.{planOf}
 use Rattle.judge.specs.Judged.{judged}
 use Rattle.judge.proofs.Judged.{judged-yes}
 use Rattle.planwalk.specs.declared.Walked.the-variants.{Met, Spent, Refused}
 use Rattle.planwalk.specs.Walked.{stepsOfPlan, metOr, walkOf, firstMet}
-use Rattle.planwalk.proofs.Steps.{steps-begin, walk-least}
+use Rattle.planwalk.proofs.Steps.{bytes-meet, steps-begin, walk-least}
 use Rattle.planwalk.proofs.Refused.{walk-refused, walk-no-colour}
 
 -- of n places one is the first that passes the test, or none passes
@@ -171,9 +170,8 @@ module _ (n s k : ℕ) (l : Lists) (b c p q : ℕ) (w : List ℕ) (j t : ℕ) wh
   pub walk-meets : judged n s k l b c p q w ≡ Yes → j < k → p + q ≤ t → (x : ℕ) × (walkOf n s k l b c p q w j t ≡ Met x)
   walk-meets accepted h enough =
       let right = judged-yes n s k l b c p q w .0 accepted in
+      let lengths = right .lengths in
       let g = automatonOf n s k l in
-      let m = planOf p w in
-      let parts = ap {B = ℕ} length (take-append-drop p w) in
-      let (v, e) = steps-begin m t (omega (arith, right .lengths .some-arc)) (omega (arith, parts, right .lengths .parts)) in
-      let (x, met) = meets-met g j (m .prefix ++ m .cycle) v 0 (some-right (meets g j) (m .prefix) (m .cycle) (right .serves .accepted j h)) in
+      let (v, e) = steps-begin p w (omega (arith, lengths .parts, lengths .some-arc)) t (omega (arith, lengths .parts)) in
+      let (x, met) = meets-met g j w v 0 (bytes-meet g b c p w (right .serves) j h) in
       (x, walk-least n s k l b c p q w accepted j t h ∙ ap (λ (u : List ℕ). firstMet g j u 0) e ∙ met)

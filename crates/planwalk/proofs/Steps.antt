@@ -2,13 +2,13 @@
 -- Assumes nothing.
 use mathlib.Core.Path.{_≡_, refl, sym, ap, _∙_, subst}
 use mathlib.Core.Bool.{Bool, true, false, true≢false}
-use mathlib.Core.List.{List, [], _∷_, _++_, append-nil, append-assoc}
+use mathlib.Core.List.{List, [], _∷_, _++_, append-nil}
 use mathlib.Core.Logic.{_⊎_, inl, inr}
-use Prim.Native.Nat.{ℕ, zero, suc, _+_, _-_, _≤_, _<_}
+use Prim.Native.Nat.{ℕ, suc, _+_, _-_, _≤_, _<_}
 use native.Mathlib.Omega.{arith}
 use native.Mathlib.Decide.{decLe}
 use lib.ListN.{length, take, drop, length-take, take-append-drop}
-use lib.Seq.{take-add, take-append-seam}
+use lib.Seq.{take-append-seam, take-append-add}
 use borrow.Author.Tests.{lt-leb}
 use Rattle.limits.specs.Ceilings.{boundMost, planMost, spillMost}
 use Rattle.walks.specs.Walk.{Ends, times}
@@ -18,10 +18,10 @@ use Rattle.walks.proofs.Charges.{stepped-bound}
 use Rattle.walks.proofs.Spill.{spilled-cons}
 use Rattle.refusals.specs.declared.Verdict.the-variants.{Yes}
 use Rattle.model.specs.declared.Model.{Model}
-use Rattle.model.specs.Automaton.{arcAt, meets, weights}
+use Rattle.model.specs.Automaton.{Automaton, arcAt, meets, weights}
 use Rattle.model.specs.Lists.{Lists, automatonOf, held}
 use Rattle.model.specs.Fitness.{fitness}
-use Rattle.model.specs.Plans.{Plan, Leads, walkedArcs, Meets, Serves}
+use Rattle.model.specs.Plans.{Leads, walkedArcs, Meets, Serves}
 use Rattle.model.proofs.Fitness.{fitness-yes, levels-yes}
 use Rattle.model.proofs.Plans.{serves-walked}
 use Rattle.model.proofs.SomeArc.{some-right}
@@ -33,6 +33,7 @@ use Rattle.gauge.proofs.Losses.{spilled-most}
 use Rattle.gauge.proofs.Follows.{moved-yes, step-moved, started-yes}
 use Rattle.planwalk.specs.declared.Walked.{Walked}
 use Rattle.planwalk.specs.Walked.{stepsOfPlan, metOr, walkOn, gaugeWalk, walkOf, firstMet}
+use Rattle.planwalk.proofs.Walking.{steps-whole}
 
 -- two walks that go on alike where the step does not meet the colour, and one later does or there is no more
 met-or : {A B : Walked} (m : Bool) (Later End : Type 0) (i : ℕ) → ((m ≡ true) ⊎ Later) ⊎ End → (Later ⊎ End → A ≡ B) → metOr m i A ≡ metOr m i B
@@ -41,20 +42,17 @@ met-or false Later End i (inl (inl met)) rest = absurd (true≢false (sym met))
 met-or false Later End i (inl (inr met)) rest = rest (inl met)
 met-or false Later End i (inr end) rest = rest (inr end)
 
--- as many steps of a plan as it has arcs are its prefix and its cycle
-steps-once : (p : Plan) (t : ℕ) → 0 < t → take (length (p .prefix ++ p .cycle)) (p .prefix ++ times t (p .cycle)) ≡ p .prefix ++ p .cycle
-steps-once p zero h = absurd (omega arith)
-steps-once p (suc t) h =
-    rw (sym (append-assoc (p .prefix) (p .cycle) (times t (p .cycle)))) (take-append-seam (p .prefix ++ p .cycle) (times t (p .cycle)))
+-- the bytes of a plan that serves meet every colour: some arc of its cycle does
+pub bytes-meet : (g : Automaton) (b c p : ℕ) (w : List ℕ) → Serves g b c (planOf p w) → (j : ℕ) → j < g .colours → Meets g j w
+bytes-meet g b c p w serves j h =
+    subst (Meets g j) (take-append-drop p w) (some-right (meets g j) (take p w) (drop p w) (serves .accepted j h))
 
--- and more steps begin with them
-pub steps-begin : (p : Plan) (t : ℕ) → 0 < t → length (p .prefix ++ p .cycle) ≤ t → (v : List ℕ) × (stepsOfPlan p t ≡ (p .prefix ++ p .cycle) ++ v)
-steps-begin p t some h =
-    let d = length (p .prefix ++ p .cycle) in
-    let all = p .prefix ++ times t (p .cycle) in
-    let sum : t ≡ d + (t - d) = omega arith in
-    let v = take (t - d) (drop d all) in
-    (v, ap (λ (i : ℕ). take i all) sum ∙ take-add d (t - d) all ∙ ap (λ (u : List ℕ). u ++ v) (steps-once p t some))
+-- at least as many steps of a plan as it has bytes begin with all of them
+pub steps-begin : (p : ℕ) (w : List ℕ) → p < length w → (t : ℕ) → length w ≤ t → (v : List ℕ) × (stepsOfPlan (planOf p w) t ≡ w ++ v)
+steps-begin p w cycle t h =
+    let rest = times t (drop p w) in
+    let sum : t ≡ length w + (t - length w) = omega arith in
+    (take (t - length w) rest, steps-whole p w cycle t ∙ ap (λ (i : ℕ). take i (w ++ rest)) sum ∙ take-append-add w rest (t - length w))
 
 module _ (n s k : ℕ) (l : Lists) (b : ℕ) (fit : fitness n s k l ≡ Yes) (low : b ≤ boundMost) (j : ℕ) where
   -- Along arcs w that lead on, whose walk ends and for whose losses the total has room, the gauge walks to the least step that meets the
@@ -79,31 +77,30 @@ module _ (n s k : ℕ) (l : Lists) (b : ℕ) (fit : fitness n s k l ≡ Yes) (lo
       (met-or (meets g j a) (Meets g j w) (v ≡ []) (suc i) last
       (λ rest. gauge-least w v u z (y + lost) t x (stepped-bound b f e z lost h to) (omega (arith, sum)) leads r rest (suc i)))
 
-  -- the same of the first steps of a plan that serves, from the start: prefix and one round meet every colour, and lose far less than the
-  -- total takes
-  plan-least : (c : ℕ) (p : Plan) → c ≤ b → Serves (automatonOf n s k l) b c p → length (p .prefix ++ p .cycle) ≤ planMost → j < k → (t : ℕ)
-      → walkOn (startedOf n s k l b c) (gaugeWalk n s k l b j (stepsOfPlan p t) 0) ≡ firstMet (automatonOf n s k l) j (stepsOfPlan p t) 0
-  plan-least c p h serves short hj t =
+  -- the same of the first steps of a plan that serves, from the start: its bytes, prefix and one round, meet every colour, and lose far less
+  -- than the total takes
+  plan-least : (c p : ℕ) (w : List ℕ) → c ≤ b → Serves (automatonOf n s k l) b c (planOf p w) → p < length w → length w ≤ planMost → j < k → (t : ℕ)
+      → walkOn (startedOf n s k l b c) (gaugeWalk n s k l b j (stepsOfPlan (planOf p w) t) 0) ≡ firstMet (automatonOf n s k l) j (stepsOfPlan (planOf p w) t) 0
+  plan-least c p w h serves cycle short hj t =
       let g = automatonOf n s k l in
-      let whole = p .prefix ++ p .cycle in
       rw (started-yes n s k l b c fit (levels-yes b c .1 (low, h)))
-      (elim (decLe t (length whole)) [
+      (elim (decLe t (length w)) [
         | yes q ↦
-            let (m, x, leads, ends) = serves-walked g b c p serves t t in
-            let w = stepsOfPlan p t in
-            subst (λ (u : List ℕ). gaugeWalk n s k l b j u 0 (gauge s c 0) ≡ firstMet g j u 0) (append-nil w)
-            (gauge-least w [] s c 0 m x h (room w m x (omega (arith, length-take t (p .prefix ++ times t (p .cycle)))) leads ends) leads ends (inr refl) 0)
+            let (m, x, leads, ends) = serves-walked g b c (planOf p w) serves t t in
+            let u = stepsOfPlan (planOf p w) t in
+            subst (λ (u : List ℕ). gaugeWalk n s k l b j u 0 (gauge s c 0) ≡ firstMet g j u 0) (append-nil u)
+            (gauge-least u [] s c 0 m x h (room u m x (omega (arith, length-take t (take p w ++ times t (drop p w)))) leads ends) leads ends (inr refl) 0)
         | no q ↦
-            let (v, e) = steps-begin p t (omega arith) (omega arith) in
-            let (m, x, leads, ends) = rw (steps-once p t (omega arith)) at (serves-walked g b c p serves t (length whole)) in
+            let (v, e) = steps-begin p w cycle t (omega arith) in
+            let bytes = steps-whole p w cycle (length w) ∙ take-append-seam w (times (length w) (drop p w)) in
+            let (m, x, leads, ends) = rw bytes at (serves-walked g b c (planOf p w) serves (length w) (length w)) in
             subst (λ (u : List ℕ). gaugeWalk n s k l b j u 0 (gauge s c 0) ≡ firstMet g j u 0) (sym e)
-            (gauge-least whole v s c 0 m x h (room whole m x short leads ends) leads ends
-            (inl (some-right (meets g j) (p .prefix) (p .cycle) (serves .accepted j hj))) 0)
+            (gauge-least w v s c 0 m x h (room w m x short leads ends) leads ends (inl (bytes-meet g b c p w serves j hj)) 0)
       ])
     where
-      room : (w : List ℕ) (m x : ℕ) → length w ≤ planMost → Leads (automatonOf n s k l) s w m → walkedArcs (automatonOf n s k l) b w c ≡ Ends x
-          → 0 + spilled b (weights (automatonOf n s k l) w) c ≤ spillMost
-      room w m x few leads ends = omega (arith, spilled-most n s k l b fit w s c m x h leads ends)
+      room : (u : List ℕ) (m x : ℕ) → length u ≤ planMost → Leads (automatonOf n s k l) s u m → walkedArcs (automatonOf n s k l) b u c ≡ Ends x
+          → 0 + spilled b (weights (automatonOf n s k l) u) c ≤ spillMost
+      room u m x few leads ends = omega (arith, spilled-most n s k l b fit u s c m x h leads ends)
 
 module _ (n s k : ℕ) (l : Lists) (b c p q : ℕ) (w : List ℕ) (yes : judged n s k l b c p q w ≡ Yes) (j t : ℕ) (h : j < k) where
   -- the call, for a plan that judging accepts and a colour of the model
@@ -113,8 +110,8 @@ module _ (n s k : ℕ) (l : Lists) (b c p q : ℕ) (w : List ℕ) (yes : judged 
       let right = judged-yes n s k l b c p q w .0 yes in
       let fit = fitness-yes n s k l .1 (right .equal, right .fit) in
       rw (yes, lt-leb k j h)
-      (plan-least n s k l b fit (right .bound) j c (planOf p w) (right .credit) (right .serves)
-      (omega (arith, right .lengths .short, ap {B = ℕ} length (take-append-drop p w))) h t)
+      (plan-least n s k l b fit (right .bound) j c p w (right .credit) (right .serves)
+      (omega (arith, right .lengths .parts, right .lengths .some-arc)) (right .lengths .short) h t)
 
   -- the same of the model as the code holds it
   pub held-least : (g : Model) → held g ≡ automatonOf n s k l → firstMet (held g) j (stepsOfPlan (planOf p w) t) 0 ≡ walkOf n s k l b c p q w j t

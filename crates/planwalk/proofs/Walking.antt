@@ -51,7 +51,7 @@ module _ (p : ℕ) (w : List ℕ) (cycle : p < length w) where
   some-arc = rw (length-drop p w) (omega arith)
 
   -- the steps of a plan are those from position 0
-  steps-whole : (t : ℕ) → stepsOfPlan (planOf p w) t ≡ stepsFrom p w t 0
+  pub steps-whole : (t : ℕ) → stepsOfPlan (planOf p w) t ≡ stepsFrom p w t 0
   steps-whole t =
       let c = drop p w in
       let whole : take p w ++ times (suc t) c ≡ w ++ times t c =

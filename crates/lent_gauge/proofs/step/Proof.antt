@@ -73,13 +73,13 @@ module _ {M : Type 1} (𝓤 : URA M) (H : Heap 𝓤) (A : Atoms 𝓤) (W : Given
     (κs : Lfts 5) (qs : Shares 5) (a : Args f.signature κs) where
   -- where the gauge lies, and the gauge at entry
   abbrev p : ℕ
-  p = a .0 .ptr .0
+  p = lent.p κs a
 
   abbrev o : ℕ
-  o = a .0 .ptr .1
+  o = lent.o κs a
 
   abbrev x : Gauge
-  x = a .0 .now
+  x = lent.x κs a
 
   -- what the callee gives
   abbrev found : Moved
