@@ -14,7 +14,7 @@ use Rattle.walks.specs.declared.Step.{Step}
 use Rattle.walks.specs.declared.Step.the-variants.{To, Impossible}
 use Rattle.walks.specs.BoundedStep.{stepped}
 use Rattle.refusals.specs.declared.Refusal.{Refusal}
-use Rattle.refusals.specs.declared.Refusal.the-variants.{ModeCount, StartMode, ArcLists, ColourCount, UnfitArc, Levels, Product, WorkingSpace, PlanBuffer, NoPlan, PlanLength, ArcNumber, OtherMode, OpenCycle, ImpossibleStep, FallingCycle, MissingColour, NoSuchColour}
+use Rattle.refusals.specs.declared.Refusal.the-variants.{ModeCount, StartMode, ArcLists, ColourCount, UnfitArc, Levels, Product, WorkingSpace, PlanBuffer, NoPlan, PlanLength, ArcNumber, OtherMode, OpenCycle, ImpossibleStep, FallingCycle, MissingColour, NoSuchColour, MixedGauge}
 use Rattle.refusals.specs.declared.Verdict.{Verdict}
 use Rattle.refusals.specs.declared.Verdict.the-variants.{Yes, Refused}
 use Rattle.refusals.specs.Refusals.{numbered, answerOf, refuse, andThen}
@@ -33,7 +33,7 @@ use Rattle.judge.specs.Judged.{servesOf, judgedPlan, judgedLevels, judged}
 use Rattle.judge.proofs.Firsts.{numbers-scan, chain-scan, missing-scan}
 use Rattle.judge.proofs.Shapes.{length-yes, shape-yes}
 use Rattle.gauge.specs.declared.Gauge.{Gauge}
-use Rattle.gauge.specs.Gauge.{gauge, gauged, noGauge, stopAt, startedOf, steppedOf}
+use Rattle.gauge.specs.Gauge.{newGauge, gauged, noGauge, stopAt, startedOf, steppedOf}
 use Rattle.gauge.proofs.Stops.{StepRefusal, step-stops}
 use Rattle.planwalk.specs.declared.Walked.the-variants as outcome
 use Rattle.planwalk.specs.Walked.{walkOf}
@@ -60,6 +60,7 @@ refusal-number (ImpossibleStep d) = omega arith
 refusal-number FallingCycle = omega arith
 refusal-number (MissingColour d) = omega arith
 refusal-number NoSuchColour = omega arith
+refusal-number MixedGauge = omega arith
 
 -- the detail of a verdict is at most d
 pub record Within (d : ℕ) (v : Verdict) : Type 0 where
@@ -199,20 +200,21 @@ unfolding startedOf
 started-within n s k l b c =
     go (andThen (fitness n s k l) (levelsOf b c)) (then-within (fitness n s k l) (fitness-within n s k l (omega arith)) λ _. levels-within b c)
   where
-    go : (v : Verdict) → Within arcsMost v → Within arcsMost (stopAt v noGauge (gauged Yes (gauge s c 0)) .verdict)
+    go : (v : Verdict) → Within arcsMost v → Within arcsMost (stopAt v noGauge (gauged Yes (newGauge (automatonOf n s k l) b c)) .verdict)
     go Yes within = yes-within
     go (Refused r) within = within
 
--- 12, 13 and 15 of a step have detail 0
+-- 22, 12, 13 and 15 of a step have detail 0
 pub stepped-within : (n s k : ℕ) (l : Lists) (b a : ℕ) (x : Gauge) → Within arcsMost (steppedOf n s k l b a x .verdict)
 stepped-within n s k l b a x = go (steppedOf n s k l b a x .verdict) refl
   where
     by : (r : Refusal) → StepRefusal n s k l b x r → Within arcsMost (Refused r)
     by r (inl e) = rw e at (fitness-within {d = arcsMost} n s k l (omega arith))
     by r (inr (inl e)) = rw e at (levels-within {d = arcsMost} b (x .charge))
-    by r (inr (inr (inl e))) = rw e (omega arith)
+    by r (inr (inr (inl (_, e)))) = rw e (omega arith)
     by r (inr (inr (inr (inl e)))) = rw e (omega arith)
-    by r (inr (inr (inr (inr e)))) = rw e (omega arith)
+    by r (inr (inr (inr (inr (inl e))))) = rw e (omega arith)
+    by r (inr (inr (inr (inr (inr e))))) = rw e (omega arith)
 
     go : (v : Verdict) → steppedOf n s k l b a x .verdict ≡ v → Within arcsMost (steppedOf n s k l b a x .verdict)
     go Yes e = rw e yes-within

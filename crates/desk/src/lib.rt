@@ -138,7 +138,7 @@ pub extern "C" fn chargeplan_gauge_start(
     Started { answer, gauge }
 }
 
-// One step of the lent gauge on an arc: number 0 and the gauge moved on, or the first of 1 to 6, 12, 13 and 15 that applies and the gauge as
+// One step of the lent gauge on an arc: number 0 and the gauge moved on, or the first of 1 to 6, 22, 12, 13 and 15 that applies and the gauge as
 // found. For all gauges, numbers and lists.
 #[no_mangle]
 pub extern "C" fn chargeplan_gauge_step(

@@ -1,9 +1,11 @@
 -- What starting and stepping a gauge hand back, row by row: of a model, of the model that the code holds, and by the verdict that
 -- check_model answers. Assumes nothing.
-use mathlib.Core.Path.{_≡_, refl, ap, _∙_}
-use mathlib.Core.Logic.{_≢_}
+use mathlib.Core.Path.{_≡_, refl, sym, ap, _∙_}
+use mathlib.Core.Bool.{Bool, true, false, not, _||_}
+use mathlib.Core.Logic.{_≢_, _↔_}
 use Prim.Native.Nat.{ℕ, _+_, _≤_, _<_}
 use native.Mathlib.Omega.{arith}
+use lib.Dec.{eqb}
 use lib.ListN.{length}
 use borrow.Author.Tests.{le-leb, lt-leb, le-ltb, lt-ltb, eq-eqb, ne-eqb}
 use Rattle.limits.specs.Ceilings.{spillMost}
@@ -11,16 +13,19 @@ use Rattle.walks.specs.declared.Step.{Step}
 use Rattle.walks.specs.declared.Step.the-variants.{To}
 use Rattle.walks.specs.BoundedStep.{stepped}
 use Rattle.refusals.specs.declared.Refusal.{Refusal}
-use Rattle.refusals.specs.declared.Refusal.the-variants.{ArcNumber, OtherMode, ImpossibleStep}
+use Rattle.refusals.specs.declared.Refusal.the-variants.{ArcNumber, OtherMode, ImpossibleStep, MixedGauge}
 use Rattle.refusals.specs.declared.Verdict.the-variants.{Yes, Refused}
+use Rattle.refusals.specs.Refusals.{refuse}
+use Rattle.refusals.proofs.Verdicts.{refuse-yes}
+use Rattle.refusals.proofs.Tests.{or-no, differ-no}
 use Rattle.model.specs.declared.Model.{Model}
 use Rattle.model.specs.declared.Fitted.{Fitted}
 use Rattle.model.specs.Automaton.{Automaton, arcAt}
-use Rattle.model.specs.Lists.{Lists, held}
+use Rattle.model.specs.Lists.{Lists, automatonOf, held}
 use Rattle.model.specs.Fitness.{fittedOf, levelsOf, Holds}
-use Rattle.model.proofs.Held.{arcIn, held-arc, told-verdict, told-held}
+use Rattle.model.proofs.Held.{arcIn, held-arc, told-verdict, told-holds, told-held}
 use Rattle.gauge.specs.declared.Gauge.{Gauge}
-use Rattle.gauge.specs.Gauge.{gauge, gauged, noGauge, stopAt, landed, startedOf, movedOf, movedLevelled, steppedOf}
+use Rattle.gauge.specs.Gauge.{gauge, movedTo, gauged, noGauge, stopAt, landed, startedOf, movedOf, Matches, matchOf, movedMatched, movedLevelled, steppedOf}
 
 module _ (x : Gauge) (t e l : ℕ) where
   -- a step that is possible: the total would pass 64 bits
@@ -28,7 +33,7 @@ module _ (x : Gauge) (t e l : ℕ) where
   landed-full h = rw (lt-ltb spillMost (x .spill + l) h) refl
 
   -- it does not
-  pub landed-on : x .spill + l ≤ spillMost → landed x t (To e l) ≡ gauged Yes (gauge t e (x .spill + l))
+  pub landed-on : x .spill + l ≤ spillMost → landed x t (To e l) ≡ gauged Yes (movedTo x t e (x .spill + l))
   landed-on h = rw (le-ltb spillMost (x .spill + l) h) refl
 
 module _ (g : Automaton) (b a : ℕ) (x : Gauge) where
@@ -48,6 +53,52 @@ module _ (g : Automaton) (b a : ℕ) (x : Gauge) where
         → movedOf g b a x ≡ landed x (arcAt g a .target) (stepped b (arcAt g a .weight) (x .charge))
     unfolding movedOf
     moved-lands q = rw (lt-leb (length (g .arcs)) a h, eq-eqb (arcAt g a .source) (x .mode) q) refl
+
+module _ (g : Automaton) (b : ℕ) (x : Gauge) where
+  -- 22 does not apply exactly where the gauge matches
+  pub match-yes : (matchOf g b x ≡ Yes) ↔ Matches g b x
+  unfolding matchOf
+  match-yes =
+      let modes = not (eqb (x .modes) (g .modes)) in
+      let arcs = not (eqb (x .arcs) (length (g .arcs))) in
+      let bound = not (eqb (x .bound) b) in
+      let row = refuse-yes (modes || arcs || bound) MixedGauge Yes in
+      let three = or-no (modes || arcs) bound in
+      let two = or-no modes arcs in (
+        λ e.
+            let t = three .0 (row .0 e .0) in
+            record {
+              modes = differ-no (x .modes) (g .modes) .0 (two .0 (t .0) .0);
+              arcs = differ-no (x .arcs) (length (g .arcs)) .0 (two .0 (t .0) .1);
+              bound = differ-no (x .bound) b .0 (t .1);
+            },
+        λ m.
+            row .1 (
+              three .1 (
+                two .1 (differ-no (x .modes) (g .modes) .1 (m .modes), differ-no (x .arcs) (length (g .arcs)) .1 (m .arcs)),
+                differ-no (x .bound) b .1 (m .bound),
+              ),
+              refl,
+            ),
+      )
+
+  -- it applies to every other gauge
+  pub match-mixed : (Matches g b x → ⊥) → matchOf g b x ≡ Refused MixedGauge
+  unfolding matchOf
+  match-mixed other = go (not (eqb (x .modes) (g .modes)) || not (eqb (x .arcs) (length (g .arcs))) || not (eqb (x .bound) b)) λ e. other (match-yes .0 e)
+    where
+      go : (t : Bool) → (refuse t MixedGauge Yes ≡ Yes → ⊥) → refuse t MixedGauge Yes ≡ Refused MixedGauge
+      go true not = refl
+      go false not = absurd (not refl)
+
+  module _ (a : ℕ) where
+    pub moved-matching : Matches g b x → movedMatched g b a x ≡ movedOf g b a x
+    unfolding movedMatched
+    moved-matching m = rw (match-yes .1 m) refl
+
+    pub moved-mixed : (Matches g b x → ⊥) → movedMatched g b a x ≡ gauged (Refused MixedGauge) x
+    unfolding movedMatched
+    moved-mixed other = rw (match-mixed other) refl
 
 -- the same of the model that the code holds
 module _ (g : Model) (holds : Holds g) (b a : ℕ) (x : Gauge) where
@@ -73,11 +124,17 @@ module _ (g : Model) (holds : Holds g) (b a : ℕ) (x : Gauge) where
 module _ (n s k : ℕ) (l : Lists) (y : Fitted) (told : y ≡ fittedOf n s k l) where
   module _ (b c : ℕ) where
     -- starting on a fit model: 6 decides
-    pub start-fit : y .verdict ≡ Yes → stopAt (levelsOf b c) noGauge (gauged Yes (gauge (y .model .start) c 0)) ≡ startedOf n s k l b c
+    pub start-fit : y .verdict ≡ Yes
+        → stopAt (levelsOf b c) noGauge (gauged Yes (gauge (y .model .start) c 0 (y .model .modes) (y .model .count) b)) ≡ startedOf n s k l b c
     unfolding startedOf
     start-fit e =
-        let same : y .model .start ≡ s = ap {B = ℕ} (λ (g : Automaton). g .start) (told-held n s k l y told e) in
-        rw (told-verdict n s k l y told Yes e, same) refl
+        let same = told-held n s k l y told e in
+        let start : y .model .start ≡ s = ap {B = ℕ} (λ (g : Automaton). g .start) same in
+        let modes : y .model .modes ≡ n = ap {B = ℕ} (λ (g : Automaton). g .modes) same in
+        let count : y .model .count ≡ length (automatonOf n s k l .arcs) =
+        sym (told-holds n s k l y told e .count) ∙ ap {B = ℕ} (λ (g : Automaton). length (g .arcs)) same
+        in
+        rw (told-verdict n s k l y told Yes e, start, modes, count) refl
 
     -- starting on an unfit model: its refusal
     pub start-unfit : (r : Refusal) → y .verdict ≡ Refused r → gauged (Refused r) noGauge ≡ startedOf n s k l b c

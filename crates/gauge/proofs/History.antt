@@ -1,8 +1,9 @@
--- The balance of a history of steps. Document 02, Ask 2: "For any sequence of accepted steps from a start, c plus the weights walked equals
--- charge plus the sum, over the history, of what each step lost, and the gauge's total is that sum." Each step may have a model and a bound of
--- its own. Assumes nothing.
-use mathlib.Core.Path.{_≡_, ap}
-use mathlib.Core.List.{List, [], _∷_, map}
+-- Histories of steps, each with a model and a bound of its own. Document 02, Ask 2: "For any sequence of accepted steps from a start, c plus the
+-- weights walked equals charge plus the sum, over the history, of what each step lost, and the gauge's total is that sum." Ask 3: which other
+-- models and bounds a gauge is told apart from. Assumes nothing.
+use mathlib.Core.Path.{_≡_, refl, ap, _∙_}
+use mathlib.Core.Logic.{_↔_}
+use mathlib.Core.List.{List, [], _∷_, _++_, map}
 use Prim.Native.Nat.{ℕ, _+_, _≤_}
 use native.Mathlib.Omega.{arith}
 use lib.IntN.{ℤ, pos, _+ℤ_}
@@ -13,6 +14,7 @@ use Rattle.walks.specs.Walk.{total}
 use Rattle.walks.specs.Spill.{spilled}
 use Rattle.walks.proofs.Spill.{step-balance, then-balance}
 use Rattle.refusals.specs.declared.Refusal.{Refusal}
+use Rattle.refusals.specs.declared.Refusal.the-variants.{MixedGauge}
 use Rattle.refusals.specs.declared.Verdict.{Verdict}
 use Rattle.refusals.specs.declared.Verdict.the-variants.{Yes, Refused}
 use Rattle.refusals.specs.Refusals.{andThen}
@@ -21,24 +23,37 @@ use Rattle.model.specs.Lists.{Lists, automatonOf}
 use Rattle.model.specs.Fitness.{fitness, levelsOf}
 use Rattle.gauge.specs.declared.Gauge.{Gauge}
 use Rattle.gauge.specs.declared.Gauged.{Gauged}
-use Rattle.gauge.specs.Gauge.{gauge, gauged, noGauge, stopAt, startedOf, movedOf, movedLevelled, steppedOf, afterGauged}
-use Rattle.gauge.specs.History.{Call, called, calledAll, callsOf, stepsOf, weightOf, lostBy}
+use Rattle.gauge.specs.Gauge.{newGauge, gauged, noGauge, stopAt, startedOf, movedOf, Matches, matchOf, movedMatched, movedLevelled, steppedOf, oldRule, afterGauged}
+use Rattle.gauge.specs.History.{Call, callModel, called, calledAll, callsOf, stepsOf, weightOf, lostBy}
+use Rattle.gauge.proofs.Gauges.{match-yes}
+use Rattle.gauge.proofs.Matching.{matching-step, mixed-step, Kept, step-kept, yes-kept, kept-on, kept-matches, new-matches}
 use Rattle.gauge.proofs.Follows.{Spills, not-yes, moved-yes, after-yes, after-refused, gauge-follows}
 
 -- a check that lets through what is accepted
-stop-yes : (v : Verdict) (x : Gauge) (y : Gauged) (z : Gauge) → stopAt v x y ≡ gauged Yes z → y ≡ gauged Yes z
-stop-yes Yes x y z q = q
+stop-yes : (v : Verdict) (x : Gauge) (y : Gauged) (z : Gauge) → stopAt v x y ≡ gauged Yes z → (v ≡ Yes) × (y ≡ gauged Yes z)
+stop-yes Yes x y z q = (refl, q)
 stop-yes (Refused r) x y z q = not-yes r x z q
 
--- an accepted call: its step is possible, and the total grows by what it lost
+-- an accepted call: 22 does not apply, and the step on the arc is accepted
+called-yes : (d : Call) (x y : Gauge) → called d x ≡ gauged Yes y → Matches (callModel d) (d .bound) x × (movedOf (callModel d) (d .bound) (d .arc) x ≡ gauged Yes y)
+unfolding steppedOf movedLevelled movedMatched
+called-yes d x y q =
+    let g = callModel d in
+    let (_, levelled) = stop-yes (fitness (d .modes) (d .start) (d .colours) (d .lists)) x (movedLevelled g (d .bound) (d .arc) x) y q in
+    let (_, matched) = stop-yes (levelsOf (d .bound) (x .charge)) x (movedMatched g (d .bound) (d .arc) x) y levelled in
+    let (match, moved) = stop-yes (matchOf g (d .bound) x) x (movedOf g (d .bound) (d .arc) x) y matched in
+    (match-yes g (d .bound) x .0 match, moved)
+
+-- the gauge keeps n, m and b from its start
+called-kept : (d : Call) (x y : Gauge) → called d x ≡ gauged Yes y → Kept x y
+called-kept d x y q = yes-kept x y (called d x) q (step-kept (d .modes) (d .start) (d .colours) (d .lists) (d .bound) (d .arc) x)
+
+-- the step is possible, and the total grows by what it lost
 called-spills : (d : Call) (x y : Gauge) → called d x ≡ gauged Yes y
     → Spills (stepped (d .bound) (weightOf d) (x .charge)) (x .spill) (y .charge) (y .spill)
-unfolding steppedOf movedLevelled
 called-spills d x y q =
-    let g = automatonOf (d .modes) (d .start) (d .colours) (d .lists) in
-    let levelled = stop-yes (fitness (d .modes) (d .start) (d .colours) (d .lists)) x (movedLevelled g (d .bound) (d .arc) x) y q in
-    let moved = stop-yes (levelsOf (d .bound) (x .charge)) x (movedOf g (d .bound) (d .arc) x) y levelled in
-    moved-yes g (d .bound) (d .arc) (x .mode) (x .charge) (x .spill) (y .mode) (y .charge) (y .spill) .0 moved .3
+    moved-yes (callModel d) (d .bound) (d .arc) x (y .mode) (y .charge) (y .spill) .0
+    (called-yes d x y q .1 ∙ ap {B = Gauged} (gauged Yes) (called-kept d x y q)) .3
 
 -- what a history lost: its first step, and the others
 lost-cons : (d : Call) (h : List Call) (x u : Gauge) (e l : ℕ) → stepped (d .bound) (weightOf d) (x .charge) ≡ To e l → called d x ≡ gauged Yes u
@@ -70,20 +85,81 @@ history-balance (d ∷ h) x y q =
       omega arith,
     )
 
+-- a start that is accepted, and the calls after it
+start-yes : (n s k : ℕ) (l : Lists) (b c : ℕ) (h : List Call) (y : Gauge) → afterGauged (startedOf n s k l b c) (calledAll h) ≡ gauged Yes y
+    → calledAll h (newGauge (automatonOf n s k l) b c) ≡ gauged Yes y
+unfolding startedOf
+start-yes n s k l b c h y = go (andThen (fitness n s k l) (levelsOf b c))
+  where
+    go : (v : Verdict) → afterGauged (stopAt v noGauge (gauged Yes (newGauge (automatonOf n s k l) b c))) (calledAll h) ≡ gauged Yes y
+        → calledAll h (newGauge (automatonOf n s k l) b c) ≡ gauged Yes y
+    go Yes q = q
+    go (Refused r) q = not-yes r noGauge y q
+
 -- from a start
 pub start-balance : (n s k : ℕ) (l : Lists) (b c : ℕ) (h : List Call) (y : Gauge) → afterGauged (startedOf n s k l b c) (calledAll h) ≡ gauged Yes y
-    → (pos c +ℤ total (map weightOf h) ≡ pos (y .charge + lostBy h (gauge s c 0))) × (y .spill ≡ lostBy h (gauge s c 0))
-unfolding startedOf
-start-balance n s k l b c h y q = go (andThen (fitness n s k l) (levelsOf b c)) q
+    → let x = newGauge (automatonOf n s k l) b c in (pos c +ℤ total (map weightOf h) ≡ pos (y .charge + lostBy h x)) × (y .spill ≡ lostBy h x)
+start-balance n s k l b c h y q =
+    let (i, j) = history-balance h (newGauge (automatonOf n s k l) b c) y (start-yes n s k l b c h y q) in
+    (i, omega arith)
+
+-- calls keep the gauge's n, m and b, accepted or refused
+pub calls-kept : (h : List Call) (x : Gauge) → Kept x (calledAll h x .gauge)
+unfolding calledAll
+calls-kept [] x = refl
+calls-kept (d ∷ h) x = go (called d x .verdict) (calls-kept h (called d x .gauge))
   where
-    go : (v : Verdict) → afterGauged (stopAt v noGauge (gauged Yes (gauge s c 0))) (calledAll h) ≡ gauged Yes y
-        → (pos c +ℤ total (map weightOf h) ≡ pos (y .charge + lostBy h (gauge s c 0))) × (y .spill ≡ lostBy h (gauge s c 0))
-    go Yes q = let (i, j) = history-balance h (gauge s c 0) y q in (i, omega arith)
-    go (Refused r) q = not-yes r noGauge y q
+    kept : Kept x (called d x .gauge)
+    kept = step-kept (d .modes) (d .start) (d .colours) (d .lists) (d .bound) (d .arc) x
+
+    go : (v : Verdict) → Kept (called d x .gauge) (calledAll h (called d x .gauge) .gauge)
+        → Kept x (stopAt v (called d x .gauge) (calledAll h (called d x .gauge)) .gauge)
+    go Yes after = kept-on x (called d x .gauge) _ kept after
+    go (Refused r) after = kept
+
+-- every call d of an accepted history had them
+pub calls-match : (h : List Call) (d : Call) (i : List Call) (x y : Gauge) → calledAll (h ++ d ∷ i) x ≡ gauged Yes y → Matches (callModel d) (d .bound) x
+unfolding calledAll
+calls-match [] d i x y q = let (u, p, r) = after-yes (called d x) (calledAll i) y .0 q in called-yes d x u p .0
+calls-match (f ∷ h) d i x y q =
+    let (u, p, r) = after-yes (called f x) (calledAll (h ++ d ∷ i)) y .0 q in
+    kept-matches x u (called-kept f x u p) (callModel d) (d .bound) .1 (calls-match h d i u y r)
 
 -- on the arcs of one model that is what its walk lost
 pub lost-spilled : (n s k : ℕ) (l : Lists) (b : ℕ) → fitness n s k l ≡ Yes → b ≤ boundMost → (w : List ℕ) (x y : Gauge) → x .charge ≤ b → x .spill ≤ spillMost
     → stepsOf n s k l b w x ≡ gauged Yes y → lostBy (callsOf n s k l b w) x ≡ spilled b (weights (automatonOf n s k l) w) (x .charge)
-lost-spilled n s k l b fit hb w x y h hi q =
-    let (_, _, total, _) = gauge-follows n s k l b fit hb w (x .mode) (x .charge) (x .spill) (y .mode) (y .charge) (y .spill) h hi .0 q in
-    omega (arith, history-balance (callsOf n s k l b w) x y q .1)
+unfolding lostBy spilled
+lost-spilled n s k l b fit hb [] x y h hi q = refl
+lost-spilled n s k l b fit hb (a ∷ w) x y h hi q =
+    let calls = callsOf n s k l b (a ∷ w) in
+    let match = calls-match [] _ _ x y q in
+    let form = q ∙ ap {B = Gauged} (gauged Yes) (yes-kept x y (calledAll calls x) q (calls-kept calls x)) in
+    let (_, _, total, _) = gauge-follows n s k l b fit hb (a ∷ w) x (y .mode) (y .charge) (y .spill) match h hi .0 form in
+    omega (arith, history-balance calls x y q .1)
+
+-- A gauge y after a start and accepted calls.
+module _ (n s k : ℕ) (l : Lists) (b c : ℕ) (h : List Call) (y : Gauge) (q : afterGauged (startedOf n s k l b c) (calledAll h) ≡ gauged Yes y) where
+  abbrev x : Gauge
+  x = newGauge (automatonOf n s k l) b c
+
+  kept : Kept x y
+  kept = yes-kept x y (calledAll h x) (start-yes n s k l b c h y q) (calls-kept h x)
+
+  -- it has the start's n, m and b
+  pub start-matches : Matches (automatonOf n s k l) b y
+  start-matches = kept-matches x y kept (automatonOf n s k l) b .0 (new-matches (automatonOf n s k l) b c)
+
+  -- What 22 catches, and what it cannot: a call d that has another n, m or b is refused by 22, where none of 1 to 6 applies, and y stays ..
+  module _ (d : Call) where
+    pub told-apart : (Matches (callModel d) (d .bound) x → ⊥) → fitness (d .modes) (d .start) (d .colours) (d .lists) ≡ Yes
+        → levelsOf (d .bound) (y .charge) ≡ Yes → called d y ≡ gauged (Refused MixedGauge) y
+    told-apart other =
+        mixed-step (d .modes) (d .start) (d .colours) (d .lists) (d .bound) (d .arc) y
+        λ m. other (kept-matches x y kept (callModel d) (d .bound) .1 m)
+
+    -- .. and one that has the same n, m and b goes by the old rule, whatever else its model has
+    pub not-told-apart : Matches (callModel d) (d .bound) x
+        → called d y ≡ oldRule (d .modes) (d .start) (d .colours) (d .lists) (d .bound) (d .arc) y
+    not-told-apart m =
+        matching-step (d .modes) (d .start) (d .colours) (d .lists) (d .bound) (d .arc) y
+        (kept-matches x y kept (callModel d) (d .bound) .0 m)

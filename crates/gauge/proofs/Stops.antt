@@ -1,7 +1,7 @@
 -- Where a step of the gauge stops, on all inputs. Document 01: "A gauge step uses 1 to 6, then 12, 13, 15 with detail 0, and a refusal leaves
--- the gauge as found." Assumes nothing.
+-- the gauge as found." Document 02, Ask 3: 22 "is looked at after 6 and before 12, detail 0". Assumes nothing.
 use mathlib.Core.Path.{_≡_, refl, sym}
-use mathlib.Core.Bool.{Bool, true, false, not}
+use mathlib.Core.Bool.{Bool, true, false, not, _||_}
 use mathlib.Core.Logic.{_⊎_, inl, inr}
 use Prim.Native.Nat.{ℕ, _+_}
 use lib.Dec.{leb, ltb, eqb}
@@ -11,17 +11,18 @@ use Rattle.walks.specs.declared.Step.{Step}
 use Rattle.walks.specs.declared.Step.the-variants.{To, Impossible}
 use Rattle.walks.specs.BoundedStep.{stepped}
 use Rattle.refusals.specs.declared.Refusal.{Refusal}
-use Rattle.refusals.specs.declared.Refusal.the-variants.{ArcNumber, OtherMode, ImpossibleStep}
+use Rattle.refusals.specs.declared.Refusal.the-variants.{ArcNumber, OtherMode, ImpossibleStep, MixedGauge}
 use Rattle.refusals.specs.declared.Verdict.{Verdict}
 use Rattle.refusals.specs.declared.Verdict.the-variants.{Yes, Refused}
 use Rattle.refusals.specs.Refusals.{refuse}
 use Rattle.refusals.proofs.Verdicts.{clash}
-use Rattle.model.specs.Automaton.{arcAt}
+use Rattle.model.specs.Automaton.{Automaton, arcAt}
 use Rattle.model.specs.Lists.{Lists, automatonOf}
 use Rattle.model.specs.Fitness.{fitness, levelsOf}
 use Rattle.gauge.specs.declared.Gauge.{Gauge}
 use Rattle.gauge.specs.declared.Gauged.{Gauged}
-use Rattle.gauge.specs.Gauge.{gauge, gauged, stopAt, landed, movedOf, movedLevelled, steppedOf}
+use Rattle.gauge.specs.Gauge.{movedTo, gauged, stopAt, landed, movedOf, Matches, matchOf, movedMatched, movedLevelled, steppedOf}
+use Rattle.gauge.proofs.Gauges.{match-yes}
 
 module _ (By : Refusal → Type 0) where
   -- what v is refused by
@@ -49,26 +50,43 @@ module _ (By : Refusal → Type 0) where
   -- 15
   landed-stops : By (ImpossibleStep 0) → (x : Gauge) (t : ℕ) (s : Step) → Stops x (landed x t s)
   landed-stops here x t (To e l) =
-      stop-stops (refuse (ltb spillMost (x .spill + l)) (ImpossibleStep 0) Yes) x (gauged Yes (gauge t e (x .spill + l)))
+      stop-stops (refuse (ltb spillMost (x .spill + l)) (ImpossibleStep 0) Yes) x (gauged Yes (movedTo x t e (x .spill + l)))
       (row-only (ltb spillMost (x .spill + l)) (ImpossibleStep 0) Yes here yes-only) (λ r q. clash (cc))
   landed-stops here x t Impossible = λ r e. let same : ImpossibleStep 0 ≡ r = cc in (refl, rw (sym same) here)
 
--- what a step is refused by: 1 to 5, 6, or 12, 13 or 15 with detail 0
+  -- 12, 13 and 15
+  moved-stops : By (ArcNumber 0) → By (OtherMode 0) → By (ImpossibleStep 0) → (g : Automaton) (b a : ℕ) (x : Gauge) → Stops x (movedOf g b a x)
+  unfolding movedOf
+  moved-stops number mode step g b a x =
+      let other = refuse (not (eqb (arcAt g a .source) (x .mode))) (OtherMode 0) Yes in
+      let f = stepped b (arcAt g a .weight) (x .charge) in
+      stop-stops (refuse (leb (length (g .arcs)) a) (ArcNumber 0) other) x (landed x (arcAt g a .target) f)
+      (row-only (leb (length (g .arcs)) a) (ArcNumber 0) other number
+      (row-only (not (eqb (arcAt g a .source) (x .mode))) (OtherMode 0) Yes mode yes-only))
+      (landed-stops step x (arcAt g a .target) f)
+
+-- what a step is refused by: 1 to 5, 6, 22 where the gauge does not match, or 12, 13 or 15; the last four have detail 0
 abbrev pub StepRefusal : ℕ → ℕ → ℕ → Lists → ℕ → Gauge → Refusal → Type 0
 StepRefusal n s k l b x r =
-    (fitness n s k l ≡ Refused r) ⊎ (levelsOf b (x .charge) ≡ Refused r) ⊎ (r ≡ ArcNumber 0) ⊎ (r ≡ OtherMode 0) ⊎ (r ≡ ImpossibleStep 0)
+    (fitness n s k l ≡ Refused r) ⊎ (levelsOf b (x .charge) ≡ Refused r) ⊎ ((Matches (automatonOf n s k l) b x → ⊥) × (r ≡ MixedGauge))
+    ⊎ (r ≡ ArcNumber 0) ⊎ (r ≡ OtherMode 0) ⊎ (r ≡ ImpossibleStep 0)
+
+-- 22 is the one refusal of the match
+match-only : (g : Automaton) (b : ℕ) (x : Gauge) (r : Refusal) → matchOf g b x ≡ Refused r → (Matches g b x → ⊥) × (r ≡ MixedGauge)
+unfolding matchOf
+match-only g b x r e = (
+  λ m. let yes = match-yes g b x .1 m in clash (cc),
+  row-only (λ r. r ≡ MixedGauge) (not (eqb (x .modes) (g .modes)) || not (eqb (x .arcs) (length (g .arcs))) || not (eqb (x .bound) b)) MixedGauge Yes refl
+      (yes-only (λ r. r ≡ MixedGauge)) r e,
+)
 
 pub step-stops : (n s k : ℕ) (l : Lists) (b a : ℕ) (x : Gauge) (r : Refusal) → steppedOf n s k l b a x .verdict ≡ Refused r
     → (steppedOf n s k l b a x .gauge ≡ x) × StepRefusal n s k l b x r
-unfolding steppedOf movedLevelled movedOf
+unfolding steppedOf movedLevelled movedMatched
 step-stops n s k l b a x =
     let g = automatonOf n s k l in
     let By : Refusal → Type 0 = StepRefusal n s k l b x in
-    let other = refuse (not (eqb (arcAt g a .source) (x .mode))) (OtherMode 0) Yes in
     stop-stops By (fitness n s k l) x (movedLevelled g b a x) (λ r e. inl e)
-    (stop-stops By (levelsOf b (x .charge)) x (movedOf g b a x) (λ r e. inr (inl e))
-    (stop-stops By (refuse (leb (length (g .arcs)) a) (ArcNumber 0) other) x
-    (landed x (arcAt g a .target) (stepped b (arcAt g a .weight) (x .charge)))
-    (row-only By (leb (length (g .arcs)) a) (ArcNumber 0) other (inr (inr (inl refl)))
-    (row-only By (not (eqb (arcAt g a .source) (x .mode))) (OtherMode 0) Yes (inr (inr (inr (inl refl)))) (yes-only By)))
-    (landed-stops By (inr (inr (inr (inr refl)))) x (arcAt g a .target) (stepped b (arcAt g a .weight) (x .charge)))))
+    (stop-stops By (levelsOf b (x .charge)) x (movedMatched g b a x) (λ r e. inr (inl e))
+    (stop-stops By (matchOf g b x) x (movedOf g b a x) (λ r e. inr (inr (inl (match-only g b x r e))))
+    (moved-stops By (inr (inr (inr (inl refl)))) (inr (inr (inr (inr (inl refl))))) (inr (inr (inr (inr (inr refl))))) g b a x)))

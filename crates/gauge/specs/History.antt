@@ -6,7 +6,7 @@ use lib.IntN.{ℤ}
 use Rattle.walks.specs.BoundedStep.{stepped}
 use Rattle.walks.specs.Spill.{lostIn}
 use Rattle.refusals.specs.declared.Verdict.the-variants.{Yes}
-use Rattle.model.specs.Automaton.{arcAt}
+use Rattle.model.specs.Automaton.{Automaton, arcAt}
 use Rattle.model.specs.Lists.{Lists, automatonOf}
 use Rattle.gauge.specs.declared.Gauge.{Gauge}
 use Rattle.gauge.specs.declared.Gauged.{Gauged}
@@ -20,6 +20,9 @@ pub record Call : Type 0 where
   pub lists : Lists
   pub bound : ℕ
   pub arc : ℕ
+
+abbrev pub callModel : Call → Automaton
+callModel d = automatonOf (d .modes) (d .start) (d .colours) (d .lists)
 
 abbrev pub called : Call → Gauge → Gauged
 called d x = steppedOf (d .modes) (d .start) (d .colours) (d .lists) (d .bound) (d .arc) x
@@ -38,7 +41,7 @@ stepsOf n s k l b w = calledAll (callsOf n s k l b w)
 
 -- the weight that a call walks
 abbrev pub weightOf : Call → ℤ
-weightOf d = arcAt (automatonOf (d .modes) (d .start) (d .colours) (d .lists)) (d .arc) .weight
+weightOf d = arcAt (callModel d) (d .arc) .weight
 
 -- "the sum, over the history, of what each step lost"
 unfoldable pub lostBy : List Call → Gauge → ℕ

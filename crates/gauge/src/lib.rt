@@ -2,7 +2,7 @@
 ghost use mathlib.Core.Path.{_≡_};
 ghost use Rattle.model.specs.Lists.{lists, held};
 ghost use Rattle.model.specs.Fitness.{levelsOf, Holds};
-ghost use Rattle.gauge.specs.Gauge.{gauge, gauged, noGauge, stopAt, startedOf, landed, movedOf, movedLevelled, steppedOf};
+ghost use Rattle.gauge.specs.Gauge.{gauge, gauged, noGauge, stopAt, startedOf, landed, movedOf, movedMatched, movedLevelled, steppedOf};
 use limits::Limits;
 use model::Model;
 use model::check_levels;
@@ -12,12 +12,16 @@ use refusals::Verdict;
 use walks::Step;
 use walks::bounded_step;
 
-// Where a walk stands: the mode, the charge, and the total of the charge that was lost at the bound since the start. C has the same struct.
+// Where a walk stands: the mode, the charge, and the total of the charge that was lost at the bound since the start; and what the gauge was
+// started with: the numbers of modes and arcs, and the bound. C has the same struct.
 #[repr(C)]
 pub struct Gauge {
     pub mode: u8,
     pub charge: u16,
     pub spill: u64,
+    pub modes: u8,
+    pub arcs: u8,
+    pub bound: u16,
 }
 
 // What starting or stepping a gauge answers: the verdict, and the gauge afterwards.
@@ -31,6 +35,9 @@ const NO_GAUGE: Gauge = Gauge {
     mode: 0,
     charge: 0,
     spill: 0,
+    modes: 0,
+    arcs: 0,
+    bound: 0,
 };
 
 // A refusal, and the gauge that goes with it: as found by a step, NO_GAUGE from a start.
@@ -43,17 +50,13 @@ fn refused(gauge: Gauge, refusal: Refusal) -> Gauged
     }
 }
 
-// A yes, and the gauge in this mode with this charge and this total.
-fn accepted(mode: u8, charge: u16, spill: u64) -> Gauged
-    ensures { λ r. ⌜ r ≡ gauged Verdict.Yes (gauge mode charge spill) ⌝ }
+// A yes, and the gauge that goes with it.
+fn accepted(gauge: Gauge) -> Gauged
+    ensures { λ r. ⌜ r ≡ gauged Verdict.Yes gauge ⌝ }
 {
     Gauged {
         verdict: Verdict::Yes,
-        gauge: Gauge {
-            mode,
-            charge,
-            spill,
-        },
+        gauge,
     }
 }
 
@@ -68,16 +71,34 @@ fn land(gauge: Gauge, mode: u8, charge: u16, lost: u32) -> Gauged
         return refused(gauge, Refusal::ImpossibleStep(0));
     }
     let total = spill + more;
-    accepted(mode, charge, total)
+    accepted(Gauge {
+        mode,
+        charge,
+        spill: total,
+        modes: gauge.modes,
+        arcs: gauge.arcs,
+        bound: gauge.bound,
+    })
 }
 
 // Refusal 6, and the new gauge, where the model is fit.
-fn start_levelled(start: u8, c: u32, b: u32) -> Gauged
-    ensures { λ r. ⌜ r ≡ stopAt (levelsOf b c) noGauge (gauged Verdict.Yes (gauge start c 0)) ⌝ }
+fn start_levelled(start: u8, modes: u8, arcs: u8, c: u32, b: u32) -> Gauged
+    ensures { λ r. ⌜ r ≡ stopAt (levelsOf b c) noGauge (gauged Verdict.Yes (gauge start c 0 modes arcs b)) ⌝ }
 {
     let levels = check_levels(c, b);
     match levels {
-        Verdict::Yes => accepted(start, c as u16, 0),
+        Verdict::Yes => {
+            let charge = c as u16;
+            let bound = b as u16;
+            accepted(Gauge {
+                mode: start,
+                charge,
+                spill: 0,
+                modes,
+                arcs,
+                bound,
+            })
+        }
         Verdict::Refused(refusal) => refused(NO_GAUGE, refusal),
     }
 }
@@ -102,6 +123,23 @@ fn step_on(gauge: Gauge, model: Model, b: u16, arc: u32) -> Gauged
     }
 }
 
+// Refusal 22, which compares what the gauge was started with, and the step, where 6 does not apply.
+fn step_matched(gauge: Gauge, model: Model, b: u16, arc: u32) -> Gauged
+    requires { ⌜ Holds model ⌝ }
+    ensures { λ r. ⌜ r ≡ movedMatched (held model) b arc gauge ⌝ }
+{
+    if gauge.modes != model.modes {
+        return refused(gauge, Refusal::MixedGauge);
+    }
+    if gauge.arcs != model.count {
+        return refused(gauge, Refusal::MixedGauge);
+    }
+    if gauge.bound != b {
+        return refused(gauge, Refusal::MixedGauge);
+    }
+    step_on(gauge, model, b, arc)
+}
+
 // Refusal 6, which reads the gauge's own charge, and the step, where the model is fit.
 fn step_levelled(gauge: Gauge, model: Model, b: u32, arc: u32) -> Gauged
     requires { ⌜ Holds model ⌝ }
@@ -110,7 +148,7 @@ fn step_levelled(gauge: Gauge, model: Model, b: u32, arc: u32) -> Gauged
     let charge = gauge.charge;
     let levels = check_levels(charge as u32, b);
     match levels {
-        Verdict::Yes => step_on(gauge, model, b as u16, arc),
+        Verdict::Yes => step_matched(gauge, model, b as u16, arc),
         Verdict::Refused(refusal) => refused(gauge, refusal),
     }
 }
@@ -133,13 +171,13 @@ impl Gauge {
         let fitted = check_model(n, start, k, sources, targets, weights, colours);
         let verdict = fitted.verdict;
         match verdict {
-            Verdict::Yes => start_levelled(fitted.model.start, c, b),
+            Verdict::Yes => start_levelled(fitted.model.start, fitted.model.modes, fitted.model.count, c, b),
             Verdict::Refused(refusal) => refused(NO_GAUGE, refusal),
         }
     }
 
-    // The gauge after a step on an arc, or the first of 1 to 6, 12, 13 and 15 that applies and the gauge as found. For all gauges, numbers
-    // and lists.
+    // The gauge after a step on an arc, or the first of 1 to 6, 22, 12, 13 and 15 that applies and the gauge as found. For all gauges,
+    // numbers and lists.
     pub fn step(
         self,
         n: u32,

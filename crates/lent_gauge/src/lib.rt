@@ -36,8 +36,8 @@ fn step_by_value(
     }
 }
 
-// One step of the lent gauge on an arc: number 0 and the gauge moved on, or the first of 1 to 6, 12, 13 and 15 that applies and the gauge as
-// found. For all gauges, numbers and lists.
+// One step of the lent gauge on an arc: number 0 and the gauge moved on, or the first of 1 to 6, 22, 12, 13 and 15 that applies and the gauge
+// as found. For all gauges, numbers and lists.
 pub fn step(
     gauge: &mut Gauge,
     n: u32,

@@ -28,8 +28,10 @@ use Rattle.model.proofs.SomeArc.{some-right}
 use Rattle.judge.specs.Shape.{planOf}
 use Rattle.judge.specs.Judged.{judged}
 use Rattle.judge.proofs.Judged.{judged-yes}
-use Rattle.gauge.specs.Gauge.{gauge, startedOf}
+use Rattle.gauge.specs.declared.Gauge.{Gauge}
+use Rattle.gauge.specs.Gauge.{newGauge, movedTo, Matches, startedOf}
 use Rattle.gauge.proofs.Losses.{spilled-most}
+use Rattle.gauge.proofs.Matching.{kept-matches, new-matches}
 use Rattle.gauge.proofs.Follows.{moved-yes, step-moved, started-yes}
 use Rattle.planwalk.specs.declared.Walked.{Walked}
 use Rattle.planwalk.specs.Walked.{stepsOfPlan, metOr, walkOn, gaugeWalk, walkOf, firstMet}
@@ -55,27 +57,30 @@ steps-begin p w cycle t h =
     (take (t - length w) rest, steps-whole p w cycle t ∙ ap (λ (i : ℕ). take i (w ++ rest)) sum ∙ take-append-add w rest (t - length w))
 
 module _ (n s k : ℕ) (l : Lists) (b : ℕ) (fit : fitness n s k l ≡ Yes) (low : b ≤ boundMost) (j : ℕ) where
-  -- Along arcs w that lead on, whose walk ends and for whose losses the total has room, the gauge walks to the least step that meets the
-  -- colour, whatever arcs v stand behind them, if one of w meets it or v has none.
-  pub gauge-least : (w v : List ℕ) (m e y t x : ℕ) → e ≤ b → y + spilled b (weights (automatonOf n s k l) w) e ≤ spillMost
-      → Leads (automatonOf n s k l) m w t → walkedArcs (automatonOf n s k l) b w e ≡ Ends x → Meets (automatonOf n s k l) j w ⊎ (v ≡ []) → (i : ℕ)
-      → gaugeWalk n s k l b j (w ++ v) i (gauge m e y) ≡ firstMet (automatonOf n s k l) j (w ++ v) i
+  -- Along arcs w that lead on, whose walk ends and for whose losses the total has room, a matching gauge z walks to the least step that meets
+  -- the colour, whatever arcs v stand behind them, if one of w meets it or v has none.
+  pub gauge-least : (w v : List ℕ) (z : Gauge) (t x : ℕ) → Matches (automatonOf n s k l) b z → z .charge ≤ b
+      → z .spill + spilled b (weights (automatonOf n s k l) w) (z .charge) ≤ spillMost → Leads (automatonOf n s k l) (z .mode) w t
+      → walkedArcs (automatonOf n s k l) b w (z .charge) ≡ Ends x → Meets (automatonOf n s k l) j w ⊎ (v ≡ []) → (i : ℕ)
+      → gaugeWalk n s k l b j (w ++ v) i z ≡ firstMet (automatonOf n s k l) j (w ++ v) i
   unfolding gaugeWalk firstMet
-  gauge-least [] v m e y t x h room leads q (inl none) i = absurd none
-  gauge-least [] v m e y t x h room leads q (inr end) i = rw end refl
-  gauge-least (a ∷ w) v m e y t x h room (below, source, leads) q last i =
+  gauge-least [] v z t x match h room leads q (inl none) i = absurd none
+  gauge-least [] v z t x match h room leads q (inr end) i = rw end refl
+  gauge-least (a ∷ w) v z t x match h room (below, source, leads) q last i =
       let g = automatonOf n s k l in
       let f = arcAt g a .weight in
-      let u = arcAt g a .target in
-      let (z, lost, to, r) = walked-cons b f (weights g w) e x .0 q in
-      let sum = spilled-cons b f (weights g w) e z lost to in
+      let (e, lost, to, r) = walked-cons b f (weights g w) (z .charge) x .0 q in
+      let sum = spilled-cons b f (weights g w) (z .charge) e lost to in
+      let u = movedTo z (arcAt g a .target) e (z .spill + lost) in
       let step =
-      step-moved n s k l b a (gauge m e y) fit (levels-yes b e .1 (low, h))
-      ∙ moved-yes g b a m e y u z (y + lost) .1 (below, source, refl, (lost, to, refl, omega (arith, sum)))
+      step-moved n s k l b a z fit (levels-yes b (z .charge) .1 (low, h)) match
+      ∙ moved-yes g b a z (u .mode) e (u .spill) .1 (below, source, refl, (lost, to, refl, omega (arith, sum)))
       in
       rw step
       (met-or (meets g j a) (Meets g j w) (v ≡ []) (suc i) last
-      (λ rest. gauge-least w v u z (y + lost) t x (stepped-bound b f e z lost h to) (omega (arith, sum)) leads r rest (suc i)))
+      (λ rest.
+          gauge-least w v u t x (kept-matches z u refl g b .0 match) (stepped-bound b f (z .charge) e lost h to) (omega (arith, sum)) leads r rest
+          (suc i)))
 
   -- the same of the first steps of a plan that serves, from the start: its bytes, prefix and one round, meet every colour, and lose far less
   -- than the total takes
@@ -88,14 +93,14 @@ module _ (n s k : ℕ) (l : Lists) (b : ℕ) (fit : fitness n s k l ≡ Yes) (lo
         | yes q ↦
             let (m, x, leads, ends) = serves-walked g b c (planOf p w) serves t t in
             let u = stepsOfPlan (planOf p w) t in
-            subst (λ (u : List ℕ). gaugeWalk n s k l b j u 0 (gauge s c 0) ≡ firstMet g j u 0) (append-nil u)
-            (gauge-least u [] s c 0 m x h (room u m x (omega (arith, length-take t (take p w ++ times t (drop p w)))) leads ends) leads ends (inr refl) 0)
+            subst (λ (u : List ℕ). gaugeWalk n s k l b j u 0 (newGauge g b c) ≡ firstMet g j u 0) (append-nil u)
+            (gauge-least u [] (newGauge g b c) m x (new-matches g b c) h (room u m x (omega (arith, length-take t (take p w ++ times t (drop p w)))) leads ends) leads ends (inr refl) 0)
         | no q ↦
             let (v, e) = steps-begin p w cycle t (omega arith) in
             let bytes = steps-whole p w cycle (length w) ∙ take-append-seam w (times (length w) (drop p w)) in
             let (m, x, leads, ends) = rw bytes at (serves-walked g b c (planOf p w) serves (length w) (length w)) in
-            subst (λ (u : List ℕ). gaugeWalk n s k l b j u 0 (gauge s c 0) ≡ firstMet g j u 0) (sym e)
-            (gauge-least w v s c 0 m x h (room w m x short leads ends) leads ends (inl (bytes-meet g b c p w serves j hj)) 0)
+            subst (λ (u : List ℕ). gaugeWalk n s k l b j u 0 (newGauge g b c) ≡ firstMet g j u 0) (sym e)
+            (gauge-least w v (newGauge g b c) m x (new-matches g b c) h (room w m x short leads ends) leads ends (inl (bytes-meet g b c p w serves j hj)) 0)
       ])
     where
       room : (u : List ℕ) (m x : ℕ) → length u ≤ planMost → Leads (automatonOf n s k l) s u m → walkedArcs (automatonOf n s k l) b u c ≡ Ends x

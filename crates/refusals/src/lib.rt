@@ -1,4 +1,4 @@
-// Where a call stops: the refusals of document 01's table and the number and detail of each.
+// Where a call stops: the refusals of document 01's table, with those that document 02 adds, and the number and detail of each.
 ghost use mathlib.Core.Path.{_≡_};
 ghost use Rattle.refusals.specs.Refusals.{answer, numbered, answerOf};
 
@@ -22,6 +22,7 @@ pub enum Refusal {
     FallingCycle,
     MissingColour(u32),
     NoSuchColour,
+    MixedGauge,
 }
 
 // A number of document 01's table and its detail, 0 where the table names none.
@@ -61,6 +62,7 @@ impl Refusal {
             Refusal::FallingCycle => row(16, 0),
             Refusal::MissingColour(colour) => row(17, colour),
             Refusal::NoSuchColour => row(18, 0),
+            Refusal::MixedGauge => row(22, 0),
         }
     }
 }

@@ -12,8 +12,14 @@ check-levels-requires c κs = search needs
 enum-told : tie.Need-enum-told
 enum-told c = search needs
 
-cast-accepted : tie.Need-cast-accepted
-cast-accepted c =
+cast-charge : tie.Need-cast-charge
+cast-charge c =
+    let d = c .before .before in
+    let h = levels-yes (d .before .args .b) (d .before .args .c) .0 (sym (d .check-levels .ensures) ∙ c .enum-told .given .1) in
+    omega arith
+
+cast-bound : tie.Need-cast-bound
+cast-bound c =
     let d = c .before .before in
     let h = levels-yes (d .before .args .b) (d .before .args .c) .0 (sym (d .check-levels .ensures) ∙ c .enum-told .given .1) in
     omega arith
@@ -39,7 +45,8 @@ start-levelled-spec =
     (tie.spec
     check-levels-requires
     enum-told
-    cast-accepted
+    cast-charge
+    cast-bound
     accepted-requires
     enum-known-levels
     refused-requires

@@ -16,14 +16,14 @@ check-levels-requires c κs = search needs
 enum-told : tie.Need-enum-told
 enum-told c = search needs
 
-cast-step-on : tie.Need-cast-step-on
-cast-step-on c =
+cast-step-matched : tie.Need-cast-step-matched
+cast-step-matched c =
     let d = c .before .before in
     let h = levels-yes (d .before .args .b) (d .before .args .gauge .charge) .0 (sym (d .check-levels .ensures) ∙ c .enum-told .given .1) in
     omega arith
 
-step-on-requires : tie.Need-step-on-requires
-step-on-requires c κs = search needs
+step-matched-requires : tie.Need-step-matched-requires
+step-matched-requires c κs = search needs
 
 enum-known-levels : tie.Need-enum-known-levels
 enum-known-levels c = search needs
@@ -33,7 +33,7 @@ refused-requires c κs = search needs
 
 returns : tie.Need-returns
 unfolding movedLevelled
-returns c = c .step-on .ensures ∙ rw (sym (c .before .before .before .check-levels .ensures) ∙ c .before .enum-told .given .1) refl
+returns c = c .step-matched .ensures ∙ rw (sym (c .before .before .before .check-levels .ensures) ∙ c .before .enum-told .given .1) refl
 
 returns-2 : tie.Need-returns-2
 unfolding movedLevelled
@@ -47,8 +47,8 @@ step-levelled-spec =
     cast-check-levels
     check-levels-requires
     enum-told
-    cast-step-on
-    step-on-requires
+    cast-step-matched
+    step-matched-requires
     enum-known-levels
     refused-requires
     returns

@@ -113,6 +113,12 @@ enum-told-13 c = search needs
 row-requires-18 : tie.Need-row-requires-18
 row-requires-18 c κs = search needs
 
+enum-told-14 : tie.Need-enum-told-14
+enum-told-14 c = search needs
+
+row-requires-19 : tie.Need-row-requires-19
+row-requires-19 c κs = search needs
+
 returns : tie.Need-returns
 returns c = c .row .ensures ∙ sym (ap numbered (c .before .enum-told .given .1))
 
@@ -167,6 +173,9 @@ returns-17 c = c .row17 .ensures ∙ sym (ap numbered (c .before .before .self5 
 returns-18 : tie.Need-returns-18
 returns-18 c = c .row18 .ensures ∙ sym (ap numbered (c .before .enum-told13 .given .1))
 
+returns-19 : tie.Need-returns-19
+returns-19 c = c .row19 .ensures ∙ sym (ap numbered (c .before .enum-told14 .given .1))
+
 pub answer-spec : {M : Type 1} → statement M
 answer-spec =
     tie.close
@@ -207,6 +216,8 @@ answer-spec =
     row-requires-17
     enum-told-13
     row-requires-18
+    enum-told-14
+    row-requires-19
     returns
     returns-2
     returns-3
@@ -224,4 +235,5 @@ answer-spec =
     returns-15
     returns-16
     returns-17
-    returns-18)
+    returns-18
+    returns-19)

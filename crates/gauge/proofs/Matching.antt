@@ -1,0 +1,85 @@
+-- What 22 does to a step. Document 02, Ask 3: "Steps on a matching gauge follow the old rule, and a mixed-up gauge stays as found"; and no step
+-- changes the three numbers that it compares. Assumes nothing.
+use mathlib.Core.Path.{_≡_, refl, sym, ap, _∙_, subst}
+use mathlib.Core.Bool.{not}
+use mathlib.Core.Logic.{_↔_}
+use Prim.Native.Nat.{ℕ, _+_}
+use lib.Dec.{leb, ltb, eqb}
+use lib.ListN.{length}
+use Rattle.limits.specs.Ceilings.{spillMost}
+use Rattle.walks.specs.declared.Step.{Step}
+use Rattle.walks.specs.declared.Step.the-variants.{To, Impossible}
+use Rattle.walks.specs.BoundedStep.{stepped}
+use Rattle.refusals.specs.declared.Refusal.the-variants.{ArcNumber, OtherMode, ImpossibleStep, MixedGauge}
+use Rattle.refusals.specs.declared.Verdict.{Verdict}
+use Rattle.refusals.specs.declared.Verdict.the-variants.{Yes, Refused}
+use Rattle.refusals.specs.Refusals.{refuse}
+use Rattle.model.specs.Automaton.{Automaton, arcAt}
+use Rattle.model.specs.Lists.{Lists, automatonOf}
+use Rattle.model.specs.Fitness.{fitness, levelsOf}
+use Rattle.gauge.specs.declared.Gauge.{Gauge}
+use Rattle.gauge.specs.declared.Gauged.{Gauged}
+use Rattle.gauge.specs.Gauge.{newGauge, movedTo, gauged, stopAt, landed, movedOf, Matches, matchOf, movedMatched, movedLevelled, steppedOf, oldRule}
+use Rattle.gauge.proofs.Gauges.{moved-matching, moved-mixed}
+
+module _ (n s k : ℕ) (l : Lists) (b a : ℕ) (x : Gauge) where
+  -- "Steps on a matching gauge follow the old rule"
+  pub matching-step : Matches (automatonOf n s k l) b x → steppedOf n s k l b a x ≡ oldRule n s k l b a x
+  unfolding steppedOf movedLevelled
+  matching-step m = rw (moved-matching (automatonOf n s k l) b x a m) refl
+
+  -- "a mixed-up gauge stays as found": 22, where none of 1 to 6 applies
+  pub mixed-step : (Matches (automatonOf n s k l) b x → ⊥) → fitness n s k l ≡ Yes → levelsOf b (x .charge) ≡ Yes
+      → steppedOf n s k l b a x ≡ gauged (Refused MixedGauge) x
+  unfolding steppedOf movedLevelled
+  mixed-step other fit levels = rw (fit, levels, moved-mixed (automatonOf n s k l) b x a other) refl
+
+-- z has x's n, m and b
+abbrev pub Kept : Gauge → Gauge → Type 0
+Kept x z = z ≡ movedTo x (z .mode) (z .charge) (z .spill)
+
+stop-kept : (v : Verdict) (x : Gauge) (y : Gauged) → Kept x (y .gauge) → Kept x (stopAt v x y .gauge)
+stop-kept Yes x y kept = kept
+stop-kept (Refused r) x y kept = refl
+
+landed-kept : (x : Gauge) (t : ℕ) (f : Step) → Kept x (landed x t f .gauge)
+landed-kept x t (To e l) =
+    stop-kept (refuse (ltb spillMost (x .spill + l)) (ImpossibleStep 0) Yes) x (gauged Yes (movedTo x t e (x .spill + l))) refl
+landed-kept x t Impossible = refl
+
+moved-kept : (g : Automaton) (b a : ℕ) (x : Gauge) → Kept x (movedOf g b a x .gauge)
+unfolding movedOf
+moved-kept g b a x =
+    let other = refuse (not (eqb (arcAt g a .source) (x .mode))) (OtherMode 0) Yes in
+    let f = stepped b (arcAt g a .weight) (x .charge) in
+    stop-kept (refuse (leb (length (g .arcs)) a) (ArcNumber 0) other) x (landed x (arcAt g a .target) f) (landed-kept x (arcAt g a .target) f)
+
+-- a step keeps them, accepted or refused
+pub step-kept : (n s k : ℕ) (l : Lists) (b a : ℕ) (x : Gauge) → Kept x (steppedOf n s k l b a x .gauge)
+unfolding steppedOf movedLevelled movedMatched
+step-kept n s k l b a x =
+    let g = automatonOf n s k l in
+    stop-kept (fitness n s k l) x (movedLevelled g b a x)
+    (stop-kept (levelsOf b (x .charge)) x (movedMatched g b a x)
+    (stop-kept (matchOf g b x) x (movedOf g b a x) (moved-kept g b a x)))
+
+-- .. as the gauge that an accepted one hands back shows
+pub yes-kept : (x u : Gauge) (y : Gauged) → y ≡ gauged Yes u → Kept x (y .gauge) → Kept x u
+yes-kept x u y q = subst (Kept x) (ap {B = Gauge} (λ (y : Gauged). y .gauge) q)
+
+-- one step, and another
+pub kept-on : (x u z : Gauge) → Kept x u → Kept u z → Kept x z
+kept-on x u z first second = second ∙ ap {B = Gauge} (λ (v : Gauge). movedTo v (z .mode) (z .charge) (z .spill)) first
+
+-- so the gauge matches what it matched before, and nothing else; a new gauge matches the model and the bound of its start
+pub kept-matches : (x z : Gauge) → Kept x z → (g : Automaton) (b : ℕ) → Matches g b x ↔ Matches g b z
+kept-matches x z kept g b =
+    let modes = ap {B = ℕ} (λ (y : Gauge). y .modes) kept in
+    let arcs = ap {B = ℕ} (λ (y : Gauge). y .arcs) kept in
+    let bound = ap {B = ℕ} (λ (y : Gauge). y .bound) kept in (
+      λ m. record { modes = modes ∙ m .modes; arcs = arcs ∙ m .arcs; bound = bound ∙ m .bound },
+      λ m. record { modes = sym modes ∙ m .modes; arcs = sym arcs ∙ m .arcs; bound = sym bound ∙ m .bound },
+    )
+
+pub new-matches : (g : Automaton) (b c : ℕ) → Matches g b (newGauge g b c)
+new-matches g b c = record { modes = refl; arcs = refl; bound = refl }
