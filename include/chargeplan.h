@@ -63,8 +63,8 @@ extern "C" {
 #define CHARGEPLAN_PLAN_BYTES_MOST ((CHARGEPLAN_COLOURS_MOST + 2u) * CHARGEPLAN_PRODUCT_MOST)
 
 /*
- * The numbers. Search answers 0 to 10; judging 0 to 6 and 11 to 17; starting a gauge 0 to 6; a step of a gauge 0 to 6, 12, 13 and 15,
- * the last three with detail 0; the walk 0 to 6 and 11 to 18.
+ * The numbers. Search answers 0 to 10; judging 0 to 6 and 11 to 17; starting a gauge 0 to 6; a step of a gauge 0 to 6, 22, 12, 13
+ * and 15, the last four with detail 0; the walk 0 to 6 and 11 to 18.
  */
 enum {
     CHARGEPLAN_YES = 0,              /* judging: the plan is feasible and accepted; search: a plan is in the buffer; gauge: it is
@@ -76,6 +76,7 @@ enum {
     CHARGEPLAN_UNFIT_ARC = 5,        /* a source or target not below n, a weight outside its range, or a colour bit at or
                                         above k; detail: the lowest such arc */
     CHARGEPLAN_LEVELS = 6,           /* b is above 8,191, or c is above b; a step reads the gauge's own charge in place of c */
+    CHARGEPLAN_MIXED_GAUGE = 22,     /* n, the number of arcs or b is not the one that the gauge was started with */
     CHARGEPLAN_PRODUCT = 7,          /* n * (b + 1) is above 8,192 */
     CHARGEPLAN_WORKING_SPACE = 8,    /* the working space is too short */
     CHARGEPLAN_PLAN_BUFFER = 9,      /* the plan buffer is too short */
@@ -94,12 +95,16 @@ enum {
 
 /*
  * A gauge: where a walk stands on the bench. The mode, the charge, and the spill: all that was lost at the bound since the start.
- * For any accepted steps from a start: c + the weights walked = charge + spill.
+ * For any accepted steps from a start: c + the weights walked = charge + spill. And what the gauge was started with, which no step
+ * changes: n, the number of arcs, and b.
  */
 struct chargeplan_gauge {
     uint8_t mode;
     uint16_t charge;
     uint64_t spill;
+    uint8_t modes;
+    uint8_t arcs;
+    uint16_t bound;
 };
 
 /* What starting a gauge answers: number and detail, and the new gauge, 0 in every field where it is refused. */
@@ -146,7 +151,8 @@ static inline uint64_t chargeplan_model_search(const struct chargeplan_model *m,
     size_t work_length, uint8_t *plan, size_t plan_length);
 
 /*
- * Starting a gauge. The call is lent no gauge and hands back a new one, in the start mode with charge c and spill 0.
+ * Starting a gauge. The call is lent no gauge and hands back a new one, in the start mode with charge c and spill 0, which carries n, the
+ * number of arcs and b.
  *
  * Answers 0, or the first of 1 to 6 that applies and a gauge of zeros.
  */
@@ -156,11 +162,12 @@ static inline struct chargeplan_started chargeplan_model_gauge_start(const struc
  * A step of a gauge on an arc of the model.
  *
  * gauge   lent to the call, which moves it on
- * m, b    the model and the bound that the gauge was started with: the call cannot tell
+ * m, b    the model and the bound that the gauge was started with. Another n, number of arcs or b is refused by 22. Another model
+ *         with the same n, number of arcs and b is not: the call cannot tell it, and steps on the arcs it is given.
  * arc     the arc's number
  *
- * Answers 0 and moves the gauge on, or answers the first of 1 to 6, 12, 13 and 15 that applies and leaves its three fields as they
- * were. What stands between the fields may change.
+ * Answers 0 and moves the gauge on, or answers the first of 1 to 6, 22, 12, 13 and 15, in this order, that applies and leaves its six
+ * fields as they were. What stands between the fields may change.
  */
 static inline uint64_t chargeplan_model_gauge_step(struct chargeplan_gauge *gauge, const struct chargeplan_model *m, uint32_t b,
     uint32_t arc);

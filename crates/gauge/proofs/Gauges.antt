@@ -15,8 +15,6 @@ use Rattle.walks.specs.BoundedStep.{stepped}
 use Rattle.refusals.specs.declared.Refusal.{Refusal}
 use Rattle.refusals.specs.declared.Refusal.the-variants.{ArcNumber, OtherMode, ImpossibleStep, MixedGauge}
 use Rattle.refusals.specs.declared.Verdict.the-variants.{Yes, Refused}
-use Rattle.refusals.specs.Refusals.{refuse}
-use Rattle.refusals.proofs.Verdicts.{refuse-yes}
 use Rattle.refusals.proofs.Tests.{or-no, differ-no}
 use Rattle.model.specs.declared.Model.{Model}
 use Rattle.model.specs.declared.Fitted.{Fitted}
@@ -25,7 +23,7 @@ use Rattle.model.specs.Lists.{Lists, automatonOf, held}
 use Rattle.model.specs.Fitness.{fittedOf, levelsOf, Holds}
 use Rattle.model.proofs.Held.{arcIn, held-arc, told-verdict, told-holds, told-held}
 use Rattle.gauge.specs.declared.Gauge.{Gauge}
-use Rattle.gauge.specs.Gauge.{gauge, movedTo, gauged, noGauge, stopAt, landed, startedOf, movedOf, Matches, matchOf, movedMatched, movedLevelled, steppedOf}
+use Rattle.gauge.specs.Gauge.{gauge, movedTo, gauged, noGauge, stopAt, landed, startedOf, movedOf, Matches, mixedUp, movedMatched, movedLevelled, steppedOf}
 
 module _ (x : Gauge) (t e l : ℕ) where
   -- a step that is possible: the total would pass 64 bits
@@ -56,52 +54,46 @@ module _ (g : Automaton) (b a : ℕ) (x : Gauge) where
 
 module _ (g : Automaton) (b : ℕ) (x : Gauge) where
   -- 22 does not apply exactly where the gauge matches
-  pub match-yes : (matchOf g b x ≡ Yes) ↔ Matches g b x
-  unfolding matchOf
-  match-yes =
-      let modes = not (eqb (x .modes) (g .modes)) in
-      let arcs = not (eqb (x .arcs) (length (g .arcs))) in
-      let bound = not (eqb (x .bound) b) in
-      let row = refuse-yes (modes || arcs || bound) MixedGauge Yes in
-      let three = or-no (modes || arcs) bound in
-      let two = or-no modes arcs in (
+  pub mixed-no : (mixedUp (g .modes) (length (g .arcs)) b x ≡ false) ↔ Matches g b x
+  unfolding mixedUp
+  mixed-no =
+      let modes = differ-no (x .modes) (g .modes) in
+      let arcs = differ-no (x .arcs) (length (g .arcs)) in
+      let bound = differ-no (x .bound) b in
+      let two = or-no (not (eqb (x .modes) (g .modes))) (not (eqb (x .arcs) (length (g .arcs)))) in
+      let three = or-no (not (eqb (x .modes) (g .modes)) || not (eqb (x .arcs) (length (g .arcs)))) (not (eqb (x .bound) b)) in (
         λ e.
-            let t = three .0 (row .0 e .0) in
-            record {
-              modes = differ-no (x .modes) (g .modes) .0 (two .0 (t .0) .0);
-              arcs = differ-no (x .arcs) (length (g .arcs)) .0 (two .0 (t .0) .1);
-              bound = differ-no (x .bound) b .0 (t .1);
-            },
-        λ m.
-            row .1 (
-              three .1 (
-                two .1 (differ-no (x .modes) (g .modes) .1 (m .modes), differ-no (x .arcs) (length (g .arcs)) .1 (m .arcs)),
-                differ-no (x .bound) b .1 (m .bound),
-              ),
-              refl,
-            ),
+            let (both, last) = three .0 e in
+            let (first, second) = two .0 both in
+            record { modes = modes .0 first; arcs = arcs .0 second; bound = bound .0 last },
+        λ m. three .1 (two .1 (modes .1 (m .modes), arcs .1 (m .arcs)), bound .1 (m .bound)),
       )
 
-  -- it applies to every other gauge
-  pub match-mixed : (Matches g b x → ⊥) → matchOf g b x ≡ Refused MixedGauge
-  unfolding matchOf
-  match-mixed other = go (not (eqb (x .modes) (g .modes)) || not (eqb (x .arcs) (length (g .arcs))) || not (eqb (x .bound) b)) λ e. other (match-yes .0 e)
-    where
-      go : (t : Bool) → (refuse t MixedGauge Yes ≡ Yes → ⊥) → refuse t MixedGauge Yes ≡ Refused MixedGauge
-      go true not = refl
-      go false not = absurd (not refl)
-
   module _ (a : ℕ) where
-    pub moved-matching : Matches g b x → movedMatched g b a x ≡ movedOf g b a x
+    -- it applies
+    pub moved-mixed : mixedUp (g .modes) (length (g .arcs)) b x ≡ true → movedMatched g b a x ≡ gauged (Refused MixedGauge) x
     unfolding movedMatched
-    moved-matching m = rw (match-yes .1 m) refl
+    moved-mixed e = rw e refl
 
-    pub moved-mixed : (Matches g b x → ⊥) → movedMatched g b a x ≡ gauged (Refused MixedGauge) x
+    -- it does not: 12, 13 and 15 decide
+    pub moved-matching : mixedUp (g .modes) (length (g .arcs)) b x ≡ false → movedMatched g b a x ≡ movedOf g b a x
     unfolding movedMatched
-    moved-mixed other = rw (match-mixed other) refl
+    moved-matching e = rw e refl
 
 -- the same of the model that the code holds
 module _ (g : Model) (holds : Holds g) (b a : ℕ) (x : Gauge) where
+  -- 22 is looked at with the model's count
+  mixed-held : mixedUp (g .modes) (length (held g .arcs)) b x ≡ mixedUp (g .modes) (g .count) b x
+  mixed-held = ap {B = Bool} (λ (m : ℕ). mixedUp (g .modes) m b x) (holds .count)
+
+  -- it applies
+  pub held-mixed : mixedUp (g .modes) (g .count) b x ≡ true → movedMatched (held g) b a x ≡ gauged (Refused MixedGauge) x
+  held-mixed e = moved-mixed (held g) b x a (mixed-held ∙ e)
+
+  -- it does not
+  pub held-matching : mixedUp (g .modes) (g .count) b x ≡ false → movedMatched (held g) b a x ≡ movedOf (held g) b a x
+  held-matching e = moved-matching (held g) b x a (mixed-held ∙ e)
+
   -- 12 applies
   pub held-number : g .count ≤ a → movedOf (held g) b a x ≡ gauged (Refused (ArcNumber 0)) x
   held-number h = moved-number (held g) b a x (omega (arith, holds .count))

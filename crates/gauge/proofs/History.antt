@@ -7,6 +7,7 @@ use mathlib.Core.List.{List, [], _∷_, _++_, map}
 use Prim.Native.Nat.{ℕ, _+_, _≤_}
 use native.Mathlib.Omega.{arith}
 use lib.IntN.{ℤ, pos, _+ℤ_}
+use lib.ListN.{length}
 use Rattle.limits.specs.Ceilings.{boundMost, spillMost}
 use Rattle.walks.specs.declared.Step.the-variants.{To}
 use Rattle.walks.specs.BoundedStep.{stepped}
@@ -17,15 +18,16 @@ use Rattle.refusals.specs.declared.Refusal.{Refusal}
 use Rattle.refusals.specs.declared.Refusal.the-variants.{MixedGauge}
 use Rattle.refusals.specs.declared.Verdict.{Verdict}
 use Rattle.refusals.specs.declared.Verdict.the-variants.{Yes, Refused}
-use Rattle.refusals.specs.Refusals.{andThen}
+use Rattle.refusals.specs.Refusals.{refuse, andThen}
+use Rattle.refusals.proofs.Verdicts.{refuse-yes}
 use Rattle.model.specs.Automaton.{weights}
 use Rattle.model.specs.Lists.{Lists, automatonOf}
 use Rattle.model.specs.Fitness.{fitness, levelsOf}
 use Rattle.gauge.specs.declared.Gauge.{Gauge}
 use Rattle.gauge.specs.declared.Gauged.{Gauged}
-use Rattle.gauge.specs.Gauge.{newGauge, gauged, noGauge, stopAt, startedOf, movedOf, Matches, matchOf, movedMatched, movedLevelled, steppedOf, oldRule, afterGauged}
+use Rattle.gauge.specs.Gauge.{newGauge, gauged, noGauge, stopAt, startedOf, movedOf, Matches, mixedUp, movedMatched, movedLevelled, steppedOf, oldRule, afterGauged}
 use Rattle.gauge.specs.History.{Call, callModel, called, calledAll, callsOf, stepsOf, weightOf, lostBy}
-use Rattle.gauge.proofs.Gauges.{match-yes}
+use Rattle.gauge.proofs.Gauges.{mixed-no}
 use Rattle.gauge.proofs.Matching.{matching-step, mixed-step, Kept, step-kept, yes-kept, kept-on, kept-matches, new-matches}
 use Rattle.gauge.proofs.Follows.{Spills, not-yes, moved-yes, after-yes, after-refused, gauge-follows}
 
@@ -41,8 +43,9 @@ called-yes d x y q =
     let g = callModel d in
     let (_, levelled) = stop-yes (fitness (d .modes) (d .start) (d .colours) (d .lists)) x (movedLevelled g (d .bound) (d .arc) x) y q in
     let (_, matched) = stop-yes (levelsOf (d .bound) (x .charge)) x (movedMatched g (d .bound) (d .arc) x) y levelled in
-    let (match, moved) = stop-yes (matchOf g (d .bound) x) x (movedOf g (d .bound) (d .arc) x) y matched in
-    (match-yes g (d .bound) x .0 match, moved)
+    let mixed = mixedUp (g .modes) (length (g .arcs)) (d .bound) x in
+    let (match, moved) = stop-yes (refuse mixed MixedGauge Yes) x (movedOf g (d .bound) (d .arc) x) y matched in
+    (mixed-no g (d .bound) x .0 (refuse-yes mixed MixedGauge Yes .0 match .0), moved)
 
 -- the gauge keeps n, m and b from its start
 called-kept : (d : Call) (x y : Gauge) → called d x ≡ gauged Yes y → Kept x y

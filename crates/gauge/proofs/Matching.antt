@@ -1,7 +1,7 @@
 -- What 22 does to a step. Document 02, Ask 3: "Steps on a matching gauge follow the old rule, and a mixed-up gauge stays as found"; and no step
 -- changes the three numbers that it compares. Assumes nothing.
 use mathlib.Core.Path.{_≡_, refl, sym, ap, _∙_, subst}
-use mathlib.Core.Bool.{not}
+use mathlib.Core.Bool.{Bool, true, false, not}
 use mathlib.Core.Logic.{_↔_}
 use Prim.Native.Nat.{ℕ, _+_}
 use lib.Dec.{leb, ltb, eqb}
@@ -19,20 +19,25 @@ use Rattle.model.specs.Lists.{Lists, automatonOf}
 use Rattle.model.specs.Fitness.{fitness, levelsOf}
 use Rattle.gauge.specs.declared.Gauge.{Gauge}
 use Rattle.gauge.specs.declared.Gauged.{Gauged}
-use Rattle.gauge.specs.Gauge.{newGauge, movedTo, gauged, stopAt, landed, movedOf, Matches, matchOf, movedMatched, movedLevelled, steppedOf, oldRule}
-use Rattle.gauge.proofs.Gauges.{moved-matching, moved-mixed}
+use Rattle.gauge.specs.Gauge.{newGauge, movedTo, gauged, stopAt, landed, movedOf, Matches, mixedUp, movedMatched, movedLevelled, steppedOf, oldRule}
+use Rattle.gauge.proofs.Gauges.{mixed-no, moved-matching, moved-mixed}
 
 module _ (n s k : ℕ) (l : Lists) (b a : ℕ) (x : Gauge) where
   -- "Steps on a matching gauge follow the old rule"
   pub matching-step : Matches (automatonOf n s k l) b x → steppedOf n s k l b a x ≡ oldRule n s k l b a x
   unfolding steppedOf movedLevelled
-  matching-step m = rw (moved-matching (automatonOf n s k l) b x a m) refl
+  matching-step m = let g = automatonOf n s k l in rw (moved-matching g b x a (mixed-no g b x .1 m)) refl
 
   -- "a mixed-up gauge stays as found": 22, where none of 1 to 6 applies
   pub mixed-step : (Matches (automatonOf n s k l) b x → ⊥) → fitness n s k l ≡ Yes → levelsOf b (x .charge) ≡ Yes
       → steppedOf n s k l b a x ≡ gauged (Refused MixedGauge) x
   unfolding steppedOf movedLevelled
-  mixed-step other fit levels = rw (fit, levels, moved-mixed (automatonOf n s k l) b x a other) refl
+  mixed-step other fit levels =
+      let g = automatonOf n s k l in rw (fit, levels, moved-mixed g b x a (go _ (λ e. other (mixed-no g b x .0 e)))) refl
+    where
+      go : (t : Bool) → (t ≡ false → ⊥) → t ≡ true
+      go true not = refl
+      go false not = absurd (not refl)
 
 -- z has x's n, m and b
 abbrev pub Kept : Gauge → Gauge → Type 0
@@ -61,7 +66,7 @@ step-kept n s k l b a x =
     let g = automatonOf n s k l in
     stop-kept (fitness n s k l) x (movedLevelled g b a x)
     (stop-kept (levelsOf b (x .charge)) x (movedMatched g b a x)
-    (stop-kept (matchOf g b x) x (movedOf g b a x) (moved-kept g b a x)))
+    (stop-kept (refuse (mixedUp n (length (g .arcs)) b x) MixedGauge Yes) x (movedOf g b a x) (moved-kept g b a x)))
 
 -- .. as the gauge that an accepted one hands back shows
 pub yes-kept : (x u : Gauge) (y : Gauged) → y ≡ gauged Yes u → Kept x (y .gauge) → Kept x u

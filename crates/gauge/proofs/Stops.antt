@@ -1,7 +1,7 @@
 -- Where a step of the gauge stops, on all inputs. Document 01: "A gauge step uses 1 to 6, then 12, 13, 15 with detail 0, and a refusal leaves
 -- the gauge as found." Document 02, Ask 3: 22 "is looked at after 6 and before 12, detail 0". Assumes nothing.
 use mathlib.Core.Path.{_≡_, refl, sym}
-use mathlib.Core.Bool.{Bool, true, false, not, _||_}
+use mathlib.Core.Bool.{Bool, true, false, not}
 use mathlib.Core.Logic.{_⊎_, inl, inr}
 use Prim.Native.Nat.{ℕ, _+_}
 use lib.Dec.{leb, ltb, eqb}
@@ -21,8 +21,8 @@ use Rattle.model.specs.Lists.{Lists, automatonOf}
 use Rattle.model.specs.Fitness.{fitness, levelsOf}
 use Rattle.gauge.specs.declared.Gauge.{Gauge}
 use Rattle.gauge.specs.declared.Gauged.{Gauged}
-use Rattle.gauge.specs.Gauge.{movedTo, gauged, stopAt, landed, movedOf, Matches, matchOf, movedMatched, movedLevelled, steppedOf}
-use Rattle.gauge.proofs.Gauges.{match-yes}
+use Rattle.gauge.specs.Gauge.{movedTo, gauged, stopAt, landed, movedOf, Matches, mixedUp, movedMatched, movedLevelled, steppedOf}
+use Rattle.gauge.proofs.Gauges.{mixed-no}
 
 module _ (By : Refusal → Type 0) where
   -- what v is refused by
@@ -71,13 +71,12 @@ StepRefusal n s k l b x r =
     (fitness n s k l ≡ Refused r) ⊎ (levelsOf b (x .charge) ≡ Refused r) ⊎ ((Matches (automatonOf n s k l) b x → ⊥) × (r ≡ MixedGauge))
     ⊎ (r ≡ ArcNumber 0) ⊎ (r ≡ OtherMode 0) ⊎ (r ≡ ImpossibleStep 0)
 
--- 22 is the one refusal of the match
-match-only : (g : Automaton) (b : ℕ) (x : Gauge) (r : Refusal) → matchOf g b x ≡ Refused r → (Matches g b x → ⊥) × (r ≡ MixedGauge)
-unfolding matchOf
+-- 22: where the gauge does not match
+match-only : (g : Automaton) (b : ℕ) (x : Gauge) (r : Refusal) → refuse (mixedUp (g .modes) (length (g .arcs)) b x) MixedGauge Yes ≡ Refused r
+    → (Matches g b x → ⊥) × (r ≡ MixedGauge)
 match-only g b x r e = (
-  λ m. let yes = match-yes g b x .1 m in clash (cc),
-  row-only (λ r. r ≡ MixedGauge) (not (eqb (x .modes) (g .modes)) || not (eqb (x .arcs) (length (g .arcs))) || not (eqb (x .bound) b)) MixedGauge Yes refl
-      (yes-only (λ r. r ≡ MixedGauge)) r e,
+  λ m. let no = mixed-no g b x .1 m in clash (cc),
+  row-only (λ r. r ≡ MixedGauge) (mixedUp (g .modes) (length (g .arcs)) b x) MixedGauge Yes refl (yes-only (λ r. r ≡ MixedGauge)) r e,
 )
 
 pub step-stops : (n s k : ℕ) (l : Lists) (b a : ℕ) (x : Gauge) (r : Refusal) → steppedOf n s k l b a x .verdict ≡ Refused r
@@ -88,5 +87,5 @@ step-stops n s k l b a x =
     let By : Refusal → Type 0 = StepRefusal n s k l b x in
     stop-stops By (fitness n s k l) x (movedLevelled g b a x) (λ r e. inl e)
     (stop-stops By (levelsOf b (x .charge)) x (movedMatched g b a x) (λ r e. inr (inl e))
-    (stop-stops By (matchOf g b x) x (movedOf g b a x) (λ r e. inr (inr (inl (match-only g b x r e))))
+    (stop-stops By (refuse (mixedUp n (length (g .arcs)) b x) MixedGauge Yes) x (movedOf g b a x) (λ r e. inr (inr (inl (match-only g b x r e))))
     (moved-stops By (inr (inr (inr (inl refl)))) (inr (inr (inr (inr (inl refl))))) (inr (inr (inr (inr (inr refl))))) g b a x)))

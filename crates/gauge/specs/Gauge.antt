@@ -3,7 +3,7 @@
 -- shall carry n, m and b from its start and test them."
 use Prim.Native.Nat.{ℕ, _+_}
 use mathlib.Core.Path.{_≡_}
-use mathlib.Core.Bool.{not, _||_}
+use mathlib.Core.Bool.{Bool, not, _||_}
 use lib.Dec.{leb, ltb, eqb}
 use lib.ListN.{length}
 use Rattle.limits.specs.Ceilings.{spillMost}
@@ -65,21 +65,13 @@ movedOf g b a x =
     Yes))
     x (landed x (arcAt g a .target) (stepped b (arcAt g a .weight) (x .charge)))
 
--- a matching gauge: its n, m and b are those of the model g and the bound b
-pub record Matches (g : Automaton) (b : ℕ) (x : Gauge) : Type 0 where
-  pub modes : x .modes ≡ g .modes
-  pub arcs : x .arcs ≡ length (g .arcs)
-  pub bound : x .bound ≡ b
+-- Ask 3: "any of the three differs from the call's" n, m and b
+unfoldable pub mixedUp : ℕ → ℕ → ℕ → Gauge → Bool
+mixedUp n m b x = not (eqb (x .modes) n) || not (eqb (x .arcs) m) || not (eqb (x .bound) b)
 
--- Ask 3: "Refusal 22, where any of the three differs from the call's"
-unfoldable pub matchOf : Automaton → ℕ → Gauge → Verdict
-matchOf g b x =
-    refuse (not (eqb (x .modes) (g .modes)) || not (eqb (x .arcs) (length (g .arcs))) || not (eqb (x .bound) b)) MixedGauge
-    Yes
-
--- "a mixed-up gauge stays as found"; 22 "is looked at after 6 and before 12"
+-- "Refusal 22 .. is looked at after 6 and before 12, detail 0"; "a mixed-up gauge stays as found"
 unfoldable pub movedMatched : Automaton → ℕ → ℕ → Gauge → Gauged
-movedMatched g b a x = stopAt (matchOf g b x) x (movedOf g b a x)
+movedMatched g b a x = stopAt (refuse (mixedUp (g .modes) (length (g .arcs)) b x) MixedGauge Yes) x (movedOf g b a x)
 
 -- "For a step, 6 reads the gauge's own charge in place of c, so a gauge charged above b is refused by 6."
 unfoldable pub movedLevelled : Automaton → ℕ → ℕ → Gauge → Gauged
@@ -88,6 +80,12 @@ movedLevelled g b a x = stopAt (levelsOf b (x .charge)) x (movedMatched g b a x)
 -- "A gauge step uses 1 to 6, then 12, 13, 15 with detail 0, and a refusal leaves the gauge as found."
 unfoldable pub steppedOf : ℕ → ℕ → ℕ → Lists → ℕ → ℕ → Gauge → Gauged
 steppedOf n s k l b a x = stopAt (fitness n s k l) x (movedLevelled (automatonOf n s k l) b a x)
+
+-- a matching gauge: its n, m and b are those of the model g and the bound b
+pub record Matches (g : Automaton) (b : ℕ) (x : Gauge) : Type 0 where
+  pub modes : x .modes ≡ g .modes
+  pub arcs : x .arcs ≡ length (g .arcs)
+  pub bound : x .bound ≡ b
 
 -- "Steps on a matching gauge follow the old rule" (theorem matching-step): the same without 22
 abbrev pub oldRule : ℕ → ℕ → ℕ → Lists → ℕ → ℕ → Gauge → Gauged

@@ -2,7 +2,7 @@
 ghost use mathlib.Core.Path.{_≡_};
 ghost use Rattle.model.specs.Lists.{lists, held};
 ghost use Rattle.model.specs.Fitness.{levelsOf, Holds};
-ghost use Rattle.gauge.specs.Gauge.{gauge, gauged, noGauge, stopAt, startedOf, landed, movedOf, movedMatched, movedLevelled, steppedOf};
+ghost use Rattle.gauge.specs.Gauge.{gauge, gauged, noGauge, stopAt, startedOf, landed, movedOf, mixedUp, movedMatched, movedLevelled, steppedOf};
 use limits::Limits;
 use model::Model;
 use model::check_levels;
@@ -123,18 +123,25 @@ fn step_on(gauge: Gauge, model: Model, b: u16, arc: u32) -> Gauged
     }
 }
 
-// Refusal 22, which compares what the gauge was started with, and the step, where 6 does not apply.
+// Refusal 22: whether the gauge was started with another number of modes, another number of arcs or another bound.
+fn mixed_up(gauge: Gauge, modes: u8, arcs: u8, b: u16) -> bool
+    ensures { λ r. ⌜ r ≡ mixedUp modes arcs b gauge ⌝ }
+{
+    if gauge.modes != modes {
+        return true;
+    }
+    if gauge.arcs != arcs {
+        return true;
+    }
+    gauge.bound != b
+}
+
+// Refusal 22, and the step, where 6 does not apply.
 fn step_matched(gauge: Gauge, model: Model, b: u16, arc: u32) -> Gauged
     requires { ⌜ Holds model ⌝ }
     ensures { λ r. ⌜ r ≡ movedMatched (held model) b arc gauge ⌝ }
 {
-    if gauge.modes != model.modes {
-        return refused(gauge, Refusal::MixedGauge);
-    }
-    if gauge.arcs != model.count {
-        return refused(gauge, Refusal::MixedGauge);
-    }
-    if gauge.bound != b {
+    if mixed_up(gauge, model.modes, model.count, b) {
         return refused(gauge, Refusal::MixedGauge);
     }
     step_on(gauge, model, b, arc)
@@ -171,7 +178,13 @@ impl Gauge {
         let fitted = check_model(n, start, k, sources, targets, weights, colours);
         let verdict = fitted.verdict;
         match verdict {
-            Verdict::Yes => start_levelled(fitted.model.start, fitted.model.modes, fitted.model.count, c, b),
+            Verdict::Yes => start_levelled(
+                fitted.model.start,
+                fitted.model.modes,
+                fitted.model.count,
+                c,
+                b,
+            ),
             Verdict::Refused(refusal) => refused(NO_GAUGE, refusal),
         }
     }

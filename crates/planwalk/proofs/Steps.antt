@@ -79,8 +79,8 @@ module _ (n s k : ℕ) (l : Lists) (b : ℕ) (fit : fitness n s k l ≡ Yes) (lo
       rw step
       (met-or (meets g j a) (Meets g j w) (v ≡ []) (suc i) last
       (λ rest.
-          gauge-least w v u t x (kept-matches z u refl g b .0 match) (stepped-bound b f (z .charge) e lost h to) (omega (arith, sum)) leads r rest
-          (suc i)))
+      gauge-least w v u t x (kept-matches z u refl g b .0 match) (stepped-bound b f (z .charge) e lost h to) (omega (arith, sum)) leads r rest
+      (suc i)))
 
   -- the same of the first steps of a plan that serves, from the start: its bytes, prefix and one round, meet every colour, and lose far less
   -- than the total takes
