@@ -80,6 +80,17 @@ module _ (g : Automaton) (b : ℕ) (x : Gauge) where
     unfolding movedMatched
     moved-matching e = rw e refl
 
+module _ (g : Automaton) (b a : ℕ) (x : Gauge) where
+  -- 6 applies, whatever the gauge was started with
+  pub levelled-refused : (r : Refusal) → levelsOf b (x .charge) ≡ Refused r → movedLevelled g b a x ≡ gauged (Refused r) x
+  unfolding movedLevelled
+  levelled-refused r e = rw e refl
+
+  -- it does not: 22 and what follows it decide
+  pub levelled-yes : levelsOf b (x .charge) ≡ Yes → movedLevelled g b a x ≡ movedMatched g b a x
+  unfolding movedLevelled
+  levelled-yes e = rw e refl
+
 -- the same of the model that the code holds
 module _ (g : Model) (holds : Holds g) (b a : ℕ) (x : Gauge) where
   -- 22 is looked at with the model's count

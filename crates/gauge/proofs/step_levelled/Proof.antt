@@ -1,9 +1,10 @@
 -- `gauge::step_levelled` meets its contract: the verdict on the levels decides. Assumes nothing.
-use mathlib.Core.Path.{refl, sym, _∙_}
+use mathlib.Core.Path.{sym, _∙_}
 use native.Mathlib.Omega.{arith}
 use borrow.Author.Needs.{needs}
+use Rattle.model.specs.Lists.{held}
 use Rattle.model.proofs.Fitness.{levels-yes}
-use Rattle.gauge.specs.Gauge.{movedLevelled}
+use Rattle.gauge.proofs.Gauges.{levelled-refused, levelled-yes}
 use Rattle.gauge.proofs.step_levelled.Statement.{statement}
 use Rattle.gauge.proofs.step_levelled.Tie as tie
 
@@ -32,13 +33,18 @@ refused-requires : tie.Need-refused-requires
 refused-requires c κs = search needs
 
 returns : tie.Need-returns
-unfolding movedLevelled
-returns c = c .step-matched .ensures ∙ rw (sym (c .before .before .before .check-levels .ensures) ∙ c .before .enum-told .given .1) refl
+returns c =
+    let d = c .before .before .before in
+    let a = d .before .args in
+    c .step-matched .ensures
+    ∙ sym (levelled-yes (held (a .model)) (a .b) (a .arc) (a .gauge) (sym (d .check-levels .ensures) ∙ c .before .enum-told .given .1))
 
 returns-2 : tie.Need-returns-2
-unfolding movedLevelled
 returns-2 c =
-    c .refused .ensures ∙ rw (sym (c .before .before .before .before .check-levels .ensures) ∙ c .before .before .levels .given .1) refl
+    let d = c .before .before .before .before in
+    let a = d .before .args in
+    c .refused .ensures
+    ∙ sym (levelled-refused (held (a .model)) (a .b) (a .arc) (a .gauge) _ (sym (d .check-levels .ensures) ∙ c .before .before .levels .given .1))
 
 pub step-levelled-spec : {M : Type 1} → statement M
 step-levelled-spec =
