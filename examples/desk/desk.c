@@ -40,30 +40,31 @@ struct mission {
     uint8_t met[ARCS_KEPT];
 };
 
-/* The sentence that each number stands for, and what its detail is. */
+/* The sentence that each number stands for, and what its detail is. A number that no call answers has no sentence. */
 static const struct {
     const char *sentence;
     const char *detail;
 } meanings[] = {
-    {"yes", NULL},
-    {"the number of modes is 0 or above 64", NULL},
-    {"the start mode is not below the number of modes", NULL},
-    {"the arc lists are of unequal length, or longer than 255", NULL},
-    {"there are more than 4 colours", NULL},
-    {"an arc has a mode, a weight or a colour outside the model's range", "arc"},
-    {"the bound is above 8,191, or the credit is above the bound", NULL},
-    {"modes times (bound + 1) is above 8,192", NULL},
-    {"the working space is too short", NULL},
-    {"the plan buffer is too short", NULL},
-    {"no plan exists", NULL},
-    {"the cycle is empty, the lengths do not add up, or the plan is longer than 65,535", NULL},
-    {"an arc number is not below the number of arcs", "position"},
-    {"an arc leaves another mode than the current one", "position"},
-    {"the cycle ends in another mode than it began", NULL},
-    {"a step is impossible", "step"},
-    {"the first and the second round each end lower than they began", NULL},
-    {"a colour is missing from the cycle", "colour"},
-    {"there is no such colour", NULL},
+    [CHARGEPLAN_YES] = {"yes", NULL},
+    [CHARGEPLAN_MODE_COUNT] = {"the number of modes is 0 or above 64", NULL},
+    [CHARGEPLAN_START_MODE] = {"the start mode is not below the number of modes", NULL},
+    [CHARGEPLAN_ARC_LISTS] = {"the arc lists are of unequal length, or longer than 255", NULL},
+    [CHARGEPLAN_COLOUR_COUNT] = {"there are more than 4 colours", NULL},
+    [CHARGEPLAN_UNFIT_ARC] = {"an arc has a mode, a weight or a colour outside the model's range", "arc"},
+    [CHARGEPLAN_LEVELS] = {"the bound is above 8,191, or the credit is above the bound", NULL},
+    [CHARGEPLAN_MIXED_GAUGE] = {"the number of modes or arcs, or the bound, is not the one that the gauge was started with", NULL},
+    [CHARGEPLAN_PRODUCT] = {"modes times (bound + 1) is above 8,192", NULL},
+    [CHARGEPLAN_WORKING_SPACE] = {"the working space is too short", NULL},
+    [CHARGEPLAN_PLAN_BUFFER] = {"the plan buffer is too short", NULL},
+    [CHARGEPLAN_NO_PLAN] = {"no plan exists", NULL},
+    [CHARGEPLAN_PLAN_LENGTH] = {"the cycle is empty, the lengths do not add up, or the plan is longer than 65,535", NULL},
+    [CHARGEPLAN_ARC_NUMBER] = {"an arc number is not below the number of arcs", "position"},
+    [CHARGEPLAN_OTHER_MODE] = {"an arc leaves another mode than the current one", "position"},
+    [CHARGEPLAN_OPEN_CYCLE] = {"the cycle ends in another mode than it began", NULL},
+    [CHARGEPLAN_IMPOSSIBLE_STEP] = {"a step is impossible", "step"},
+    [CHARGEPLAN_FALLING_CYCLE] = {"the first and the second round each end lower than they began", NULL},
+    [CHARGEPLAN_MISSING_COLOUR] = {"a colour is missing from the cycle", "colour"},
+    [CHARGEPLAN_NO_SUCH_COLOUR] = {"there is no such colour", NULL},
 };
 
 /* A refusal in words: its number, its sentence and its detail. */
@@ -73,7 +74,7 @@ static void print_refusal(const char *call, uint64_t answer)
     uint32_t detail = chargeplan_detail(answer);
     size_t known = sizeof meanings / sizeof meanings[0];
 
-    if (number >= known) {
+    if (number >= known || meanings[number].sentence == NULL) {
         printf("%s: %u, detail %u\n", call, (unsigned)number, (unsigned)detail);
         return;
     }

@@ -44,14 +44,22 @@ void check_outcome(const char *what, uint64_t answer, struct outcome expected)
             (unsigned)(answer >> 49), (unsigned)v.number, (unsigned)v.detail, (unsigned)expected.steps, (unsigned)expected.met);
 }
 
-void check_gauge(const char *what, const struct gauge *g, uint32_t mode, uint32_t charge, uint64_t spill)
+static void print_gauge(const char *what, struct gauge g)
 {
-    int right = g->mode == mode && g->charge == charge && g->spill == spill;
+    printf("  %s mode %u charge %u spill %" PRIu64 " modes %u arcs %u bound %u\n", what, (unsigned)g.mode, (unsigned)g.charge,
+        g.spill, (unsigned)g.modes, (unsigned)g.arcs, (unsigned)g.bound);
+}
+
+void check_gauge(const char *what, struct gauge g, struct gauge expected)
+{
+    int right = g.mode == expected.mode && g.charge == expected.charge && g.spill == expected.spill && g.modes == expected.modes
+        && g.arcs == expected.arcs && g.bound == expected.bound;
 
     check(right, what);
-    if (!right && failures <= PRINTED_MOST)
-        printf("  mode %u charge %u spill %" PRIu64 ", not %u %u %" PRIu64 "\n", (unsigned)g->mode, (unsigned)g->charge, g->spill,
-            (unsigned)mode, (unsigned)charge, spill);
+    if (!right && failures <= PRINTED_MOST) {
+        print_gauge("gauge", g);
+        print_gauge("not  ", expected);
+    }
 }
 
 void *copied(const void *from, size_t bytes)
@@ -228,15 +236,52 @@ void refused(const char *what, const struct model *m, uint32_t c, uint32_t b, ui
     check_answer(what, search_exactly(what, m, c, b, NULL), number, detail);
 }
 
+const struct gauge no_gauge;
+
+struct gauge gauge_at(const struct model *m, uint32_t b, uint32_t mode, uint32_t charge, uint64_t spill)
+{
+    struct gauge g = {(uint8_t)mode, (uint16_t)charge, spill, (uint8_t)m->n, (uint8_t)m->sources_length, (uint16_t)b};
+    return g;
+}
+
+struct gauge mixed_up(struct gauge g, unsigned fields, unsigned by)
+{
+    if (fields & MIX_MODES)
+        g.modes = (uint8_t)(g.modes + by);
+    if (fields & MIX_ARCS)
+        g.arcs = (uint8_t)(g.arcs + by);
+    if (fields & MIX_BOUND)
+        g.bound = (uint16_t)(g.bound + by);
+    return g;
+}
+
+struct gauge read_gauge(const struct chargeplan_gauge *from)
+{
+    struct gauge g = {from->mode, from->charge, from->spill, from->modes, from->arcs, from->bound};
+    return g;
+}
+
+/* A gauge to be lent, in a block of its own; what stands between its fields is not set. */
+static struct chargeplan_gauge *lend_gauge(struct gauge g)
+{
+    struct chargeplan_gauge *lent = copied(NULL, sizeof *lent);
+
+    lent->mode = g.mode;
+    lent->charge = g.charge;
+    lent->spill = g.spill;
+    lent->modes = g.modes;
+    lent->arcs = g.arcs;
+    lent->bound = g.bound;
+    return lent;
+}
+
 uint64_t start_gauge(const char *what, struct gauge *g, const struct model *m, uint32_t c, uint32_t b)
 {
     struct lent l = lend(m);
     struct chargeplan_started s = chargeplan_gauge_start(m->n, m->start, m->k, l.sources, m->sources_length, l.targets,
         m->targets_length, l.weights, m->weights_length, l.colours, m->colours_length, c, b);
 
-    g->mode = s.gauge.mode;
-    g->charge = s.gauge.charge;
-    g->spill = s.gauge.spill;
+    *g = read_gauge(&s.gauge);
     take_back(m, l, what);
     return s.answer;
 }
@@ -248,28 +293,25 @@ void started(const char *what, struct gauge *g, const struct model *m, uint32_t 
 
     check_answer(what, start_gauge(what, g, m, c, b), number, detail);
     check(v.number == number && v.detail == detail, what);
-    check_gauge(what, g, plain.mode, plain.charge, plain.spill);
-    if (number != CHARGEPLAN_YES)
-        check_gauge(what, g, 0, 0, 0);
+    check_gauge(what, *g, plain);
+    check_gauge(what, *g, number == CHARGEPLAN_YES ? gauge_at(m, b, m->start, c, 0) : no_gauge);
 }
 
 uint64_t step_gauge(const char *what, struct gauge *g, const struct model *m, uint32_t b, uint32_t arc)
 {
     struct lent l = lend(m);
-    struct chargeplan_gauge *lent = copied(NULL, sizeof *lent);
-    struct gauge before = *g;
-    uint64_t answer;
-
-    lent->mode = g->mode;
-    lent->charge = g->charge;
-    lent->spill = g->spill;
-    answer = chargeplan_gauge_step(lent, m->n, m->start, m->k, l.sources, m->sources_length, l.targets, m->targets_length,
+    struct chargeplan_gauge *lent = lend_gauge(*g);
+    struct gauge kept = *g;
+    uint64_t answer = chargeplan_gauge_step(lent, m->n, m->start, m->k, l.sources, m->sources_length, l.targets, m->targets_length,
         l.weights, m->weights_length, l.colours, m->colours_length, b, arc);
-    g->mode = lent->mode;
-    g->charge = lent->charge;
-    g->spill = lent->spill;
-    if (chargeplan_number(answer) != CHARGEPLAN_YES)
-        check_gauge(what, g, before.mode, before.charge, before.spill);
+
+    *g = read_gauge(lent);
+    if (chargeplan_number(answer) == CHARGEPLAN_YES) {
+        kept.mode = g->mode;
+        kept.charge = g->charge;
+        kept.spill = g->spill;
+    }
+    check_gauge(what, *g, kept);
     free(lent);
     take_back(m, l, what);
     return answer;
@@ -282,7 +324,13 @@ void stepped(const char *what, struct gauge *g, const struct model *m, uint32_t 
 
     check_answer(what, step_gauge(what, g, m, b, arc), number, detail);
     check(v.number == number && v.detail == detail, what);
-    check_gauge(what, g, plain.mode, plain.charge, plain.spill);
+    check_gauge(what, *g, plain);
+}
+
+void moved(const char *what, struct gauge *g, const struct model *m, uint32_t b, struct stop stop)
+{
+    stepped(what, g, m, b, stop.arc, CHARGEPLAN_YES, 0);
+    check_gauge(what, *g, gauge_at(m, b, stop.mode, stop.charge, stop.spill));
 }
 
 uint64_t walk(const char *what, const struct model *m, uint32_t c, uint32_t b, uint32_t p, uint32_t q, const uint8_t *plan,
@@ -330,13 +378,18 @@ struct outcome walk_refused(uint32_t number, uint32_t detail)
 void all_refused(const char *what, const struct model *m, uint32_t c, uint32_t b, uint32_t number, uint32_t detail)
 {
     static const uint8_t round[] = {0};
-    struct gauge g = {255, (uint16_t)(c < UINT16_MAX ? c : UINT16_MAX), UINT64_MAX}, fresh;
+    struct gauge g = gauge_at(m, b, 255, c < UINT16_MAX ? c : UINT16_MAX, UINT64_MAX), fresh;
+    unsigned fields;
 
     judged(what, m, c, b, 0, 1, round, 1, number, detail);
     judged(what, m, c, b, 0, 0, NULL, 0, number, detail);
     check_answer(what, search(what, m, c, b, 0, 0, 0), number, detail);
     check_answer(what, search(what, m, c, b, 4096, 4096, 0x5au), number, detail);
     started(what, &fresh, m, c, b, number, detail);
-    stepped(what, &g, m, b, 0, number, detail);
-    stepped(what, &g, m, b, UINT32_MAX, number, detail);
+    for (fields = 0; fields <= MIX_ALL; fields++) {
+        struct gauge mixed = mixed_up(g, fields, 1);
+
+        stepped(what, &mixed, m, b, 0, number, detail);
+        stepped(what, &mixed, m, b, UINT32_MAX, number, detail);
+    }
 }

@@ -19,8 +19,8 @@ void check_answer(const char *what, uint64_t answer, uint32_t number, uint32_t d
 /* An answer of the walk has this number and detail, these steps and whether the colour was met, and every other bit is 0. */
 void check_outcome(const char *what, uint64_t answer, struct outcome expected);
 
-/* A gauge has this mode, charge and spill. */
-void check_gauge(const char *what, const struct gauge *g, uint32_t mode, uint32_t charge, uint64_t spill);
+/* A gauge is as expected in all six fields. */
+void check_gauge(const char *what, struct gauge g, struct gauge expected);
 
 /* A block of its own with the same content, or without one where `from` is null; null where it has no bytes. */
 void *copied(const void *from, size_t bytes);
@@ -59,17 +59,44 @@ void found(const char *what, const struct model *m, uint32_t c, uint32_t b);
 /* Search is refused, with buffers as long as they must be. */
 void refused(const char *what, const struct model *m, uint32_t c, uint32_t b, uint32_t number, uint32_t detail);
 
+/* The gauge of a refused start: 0 in every field. */
+extern const struct gauge no_gauge;
+
+/* A gauge made by hand, as if it was started with this model and bound. What its fields cannot hold is cut off. */
+struct gauge gauge_at(const struct model *m, uint32_t b, uint32_t mode, uint32_t charge, uint64_t spill);
+
+/* What a gauge can be mixed up in: any of these three together. */
+enum { MIX_MODES = 1, MIX_ARCS = 2, MIX_BOUND = 4, MIX_ALL = 7 };
+
+/* The gauge with so much added to the fields named. */
+struct gauge mixed_up(struct gauge g, unsigned fields, unsigned by);
+
+/* The six fields as the library has left them. */
+struct gauge read_gauge(const struct chargeplan_gauge *from);
+
 /* Starting a gauge, which is handed back in g; the lists are as they were. */
 uint64_t start_gauge(const char *what, struct gauge *g, const struct model *m, uint32_t c, uint32_t b);
 
 /* Starting a gauge against what it should answer, and against the plain gauge. */
 void started(const char *what, struct gauge *g, const struct model *m, uint32_t c, uint32_t b, uint32_t number, uint32_t detail);
 
-/* A step of a gauge; the lists are as they were, and so is the gauge where the step is refused. */
+/*
+ * A step of a gauge; the lists are as they were, and so is the gauge where the step is refused. What the gauge was started with is as
+ * it was in any case.
+ */
 uint64_t step_gauge(const char *what, struct gauge *g, const struct model *m, uint32_t b, uint32_t arc);
 
 /* A step of a gauge against what it should answer, and against the plain gauge. */
 void stepped(const char *what, struct gauge *g, const struct model *m, uint32_t b, uint32_t arc, uint32_t number, uint32_t detail);
+
+/* A step that is made, and where the gauge stands after it. */
+struct stop {
+    uint32_t arc, mode, charge;
+    uint64_t spill;
+};
+
+/* A gauge of this model, or of one with the same n and number of arcs, and of this bound makes a step. */
+void moved(const char *what, struct gauge *g, const struct model *m, uint32_t b, struct stop stop);
 
 /* The walk; the lists and the plan are as they were. */
 uint64_t walk(const char *what, const struct model *m, uint32_t c, uint32_t b, uint32_t p, uint32_t q, const uint8_t *plan,
@@ -90,6 +117,9 @@ void all_refused(const char *what, const struct model *m, uint32_t c, uint32_t b
 /* A model with start mode 0 and lists of one length. */
 struct model model(uint32_t n, uint32_t k, size_t arcs, const uint8_t *sources, const uint8_t *targets, const int16_t *weights,
     const uint8_t *colours);
+
+/* The model without its last arc, if it has any; the lists are of one length. */
+struct model without_last(const struct model *m);
 
 /* The four lists of a model. */
 struct lists {
@@ -130,6 +160,9 @@ void test_steps(void);
 void test_extreme_steps(void);
 void test_step_refusals(void);
 void test_totals(void);
+void test_mixed_gauges(void);
+void test_other_models(void);
+void test_kept_numbers(void);
 void test_walk(void);
 void test_walk_colours(void);
 void test_no_such_colour(void);

@@ -18,6 +18,15 @@ struct model model(uint32_t n, uint32_t k, size_t arcs, const uint8_t *sources, 
     return m;
 }
 
+struct model without_last(const struct model *m)
+{
+    size_t arcs = m->sources_length - (m->sources_length > 0);
+    struct model r = model(m->n, m->k, arcs, m->sources, m->targets, m->weights, m->colours);
+
+    r.start = m->start;
+    return r;
+}
+
 struct model model_a(void)
 {
     return model(1, 0, 1, zeros, zeros, flat, zeros);

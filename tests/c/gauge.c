@@ -1,11 +1,5 @@
-/* The gauge: started, stepped, refused, and with a spill near 2^64. */
+/* The gauge: started, stepped, refused, and with a spill near 2^64. What 22 refuses is in mixed.c. */
 #include "calls.h"
-
-/* A step that is made, and the gauge after it. */
-struct stop {
-    uint32_t arc, mode, charge;
-    uint64_t spill;
-};
 
 /* A gauge started with this credit makes these steps. It is handed back. */
 static struct gauge followed(const char *what, const struct model *m, uint32_t c, uint32_t b, const struct stop *stops, size_t count)
@@ -14,11 +8,8 @@ static struct gauge followed(const char *what, const struct model *m, uint32_t c
     size_t i;
 
     started(what, &g, m, c, b, CHARGEPLAN_YES, 0);
-    check_gauge(what, &g, m->start, c, 0);
-    for (i = 0; i < count; i++) {
-        stepped(what, &g, m, b, stops[i].arc, CHARGEPLAN_YES, 0);
-        check_gauge(what, &g, stops[i].mode, stops[i].charge, stops[i].spill);
-    }
+    for (i = 0; i < count; i++)
+        moved(what, &g, m, b, stops[i]);
     return g;
 }
 
@@ -26,20 +17,18 @@ static struct gauge followed(const char *what, const struct model *m, uint32_t c
 static void step_refused(const char *what, const struct model *m, uint32_t b, uint32_t mode, uint32_t charge, uint64_t spill,
     uint32_t arc, uint32_t number)
 {
-    struct gauge g = {(uint8_t)mode, (uint16_t)charge, spill};
+    struct gauge g = gauge_at(m, b, mode, charge, spill);
 
     stepped(what, &g, m, b, arc, number, 0);
-    check_gauge(what, &g, mode, charge, spill);
 }
 
 /* A step of a gauge made by hand, which is made. */
 static void step_made(const char *what, const struct model *m, uint32_t b, uint32_t mode, uint32_t charge, uint64_t spill,
     struct stop stop)
 {
-    struct gauge g = {(uint8_t)mode, (uint16_t)charge, spill};
+    struct gauge g = gauge_at(m, b, mode, charge, spill);
 
-    stepped(what, &g, m, b, stop.arc, CHARGEPLAN_YES, 0);
-    check_gauge(what, &g, stop.mode, stop.charge, stop.spill);
+    moved(what, &g, m, b, stop);
 }
 
 /* Starting. All of 1 to 6 are in the tests of these numbers, for every call. */
@@ -57,8 +46,7 @@ void test_start(void)
     followed("start: another start mode", &m, 3, 5, NULL, 0);
     none.start = CHARGEPLAN_MODES_MOST - 1;
     followed("start: the last of 64 modes, no arcs, n * (b + 1) above 8,192", &none, 7, CHARGEPLAN_BOUND_MOST, NULL, 0);
-    started("start: 6", &g, &m, 6, 5, CHARGEPLAN_LEVELS, 0);
-    check_gauge("start: 6, start mode 1", &g, 0, 0, 0);
+    started("start: 6, start mode 1", &g, &m, 6, 5, CHARGEPLAN_LEVELS, 0);
 }
 
 /* Document 01's examples, with the charge and the spill after each step. */
@@ -78,7 +66,7 @@ void test_steps(void)
     followed("E: 3 lost in the first round, nothing in the second", &model_of_e, 10, 10, e, 4);
     at = followed("F: one step", &model_of_e, 2, 2, f, 1);
     stepped("F: the second is below 0", &at, &model_of_e, 2, 1, CHARGEPLAN_IMPOSSIBLE_STEP, 0);
-    check_gauge("F: the gauge after the refused step", &at, 1, 2, 3);
+    check_gauge("F: the gauge after the refused step", at, gauge_at(&model_of_e, 2, 1, 2, 3));
     followed("I: exactly to the bound and to 0", &model_of_g, 0, 5, i, 7);
     followed("G: one above the bound", &model_of_g, 4, 5, g, 5);
     at = followed("J: each gain at the bound is lost", &model_of_j, 0, 2, j, 6);
@@ -96,7 +84,7 @@ void test_extreme_steps(void)
     struct gauge at = followed("the greatest gain", &x, 0, 8191, empty, 3);
 
     stepped("the greatest draw", &at, &x, 8191, 1, CHARGEPLAN_IMPOSSIBLE_STEP, 0);
-    check_gauge("the gauge after the greatest draw", &at, 0, 8191, 11809);
+    check_gauge("the gauge after the greatest draw", at, gauge_at(&x, 8191, 0, 8191, 11809));
     at = followed("b 0: the whole gain is lost", &x, 0, 0, none, 3);
     stepped("b 0: the greatest draw", &at, &x, 0, 1, CHARGEPLAN_IMPOSSIBLE_STEP, 0);
     followed("the whole battery", &y, 8191, 8191, there, 6);

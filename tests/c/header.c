@@ -4,7 +4,7 @@
 #include <stdlib.h>
 #include <string.h>
 
-/* The numbers of document 01's table, in its order. */
+/* The numbers of document 01's table, in its order, and the one of Ask 3. */
 static void test_constants(void)
 {
     static const unsigned numbers[] = {CHARGEPLAN_YES, CHARGEPLAN_MODE_COUNT, CHARGEPLAN_START_MODE, CHARGEPLAN_ARC_LISTS,
@@ -17,14 +17,17 @@ static void test_constants(void)
     check(sizeof numbers / sizeof numbers[0] == 19, "the numbers 0 to 18");
     for (i = 0; i < sizeof numbers / sizeof numbers[0]; i++)
         check(numbers[i] == i, "a number of the header");
+    check(CHARGEPLAN_MIXED_GAUGE == 22, "the number of a mixed-up gauge");
 }
 
 /* Where the library reads and writes. */
 static void test_layout(void)
 {
-    check(sizeof(struct chargeplan_gauge) == 16 && offsetof(struct chargeplan_gauge, mode) == 0
+    check(sizeof(struct chargeplan_gauge) == 24 && offsetof(struct chargeplan_gauge, mode) == 0
             && offsetof(struct chargeplan_gauge, charge) == 2 && offsetof(struct chargeplan_gauge, spill) == 8, "a gauge");
-    check(sizeof(struct chargeplan_started) == 24 && offsetof(struct chargeplan_started, answer) == 0
+    check(offsetof(struct chargeplan_gauge, modes) == 16 && offsetof(struct chargeplan_gauge, arcs) == 17
+            && offsetof(struct chargeplan_gauge, bound) == 18, "what a gauge was started with");
+    check(sizeof(struct chargeplan_started) == 32 && offsetof(struct chargeplan_started, answer) == 0
             && offsetof(struct chargeplan_started, gauge) == 8, "what a start hands back");
 }
 
@@ -98,23 +101,37 @@ static void same_searches(const char *what, const struct model *m, uint32_t c, u
     same_search(what, m, c, b, words, bytes - 1);
 }
 
-/* A gauge of a model started, and stepped on each arc and one more. */
+/* Steps of a gauge on each arc of a model, and on one more. */
+static void same_steps(const char *what, struct chargeplan_gauge *lent, struct gauge *g, const struct model *m, struct lent l,
+    uint32_t b)
+{
+    struct chargeplan_model one = in_one(m, l);
+    uint32_t arc;
+
+    for (arc = 0; arc <= m->sources_length; arc++) {
+        uint64_t answer = chargeplan_model_gauge_step(lent, &one, b, arc);
+
+        check(step_gauge(what, g, m, b, arc) == answer, what);
+        check_gauge(what, *g, read_gauge(lent));
+    }
+}
+
+/* A gauge of a model started, and stepped with its model and bound, with another bound, another n, and one arc fewer. */
 static void same_gauge(const char *what, const struct model *m, uint32_t c, uint32_t b)
 {
     struct lent l = lend(m);
     struct chargeplan_model one = in_one(m, l);
     struct chargeplan_started s = chargeplan_model_gauge_start(&one, c, b);
+    struct model more_modes = *m, fewer_arcs = without_last(m);
     struct gauge g;
-    uint32_t arc;
 
     check(start_gauge(what, &g, m, c, b) == s.answer, what);
-    check_gauge(what, &g, s.gauge.mode, s.gauge.charge, s.gauge.spill);
-    for (arc = 0; arc <= m->sources_length; arc++) {
-        uint64_t answer = chargeplan_model_gauge_step(&s.gauge, &one, b, arc);
-
-        check(step_gauge(what, &g, m, b, arc) == answer, what);
-        check_gauge(what, &g, s.gauge.mode, s.gauge.charge, s.gauge.spill);
-    }
+    check_gauge(what, g, read_gauge(&s.gauge));
+    more_modes.n++;
+    same_steps(what, &s.gauge, &g, m, l, b);
+    same_steps(what, &s.gauge, &g, m, l, b + 1);
+    same_steps(what, &s.gauge, &g, &more_modes, l, b);
+    same_steps(what, &s.gauge, &g, &fewer_arcs, l, b);
     take_back(m, l, what);
 }
 

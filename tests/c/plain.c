@@ -108,11 +108,17 @@ struct verdict plain_judge(const struct model *m, uint32_t c, uint32_t b, uint32
 
 struct verdict plain_start(struct gauge *g, const struct model *m, uint32_t c, uint32_t b)
 {
+    static const struct gauge zero;
     struct verdict v = plain_fitness(m, c, b);
 
-    g->mode = v.number == 0 ? (uint8_t)m->start : 0;
-    g->charge = v.number == 0 ? (uint16_t)c : 0;
-    g->spill = 0;
+    *g = zero;
+    if (v.number != 0)
+        return v;
+    g->mode = (uint8_t)m->start;
+    g->charge = (uint16_t)c;
+    g->modes = (uint8_t)m->n;
+    g->arcs = (uint8_t)m->sources_length;
+    g->bound = (uint16_t)b;
     return v;
 }
 
@@ -124,6 +130,8 @@ struct verdict plain_step(struct gauge *g, const struct model *m, uint32_t b, ui
 
     if (v.number != 0)
         return v;
+    if (g->modes != m->n || g->arcs != m->sources_length || g->bound != b)
+        return verdict(22, 0);
     if (arc >= m->sources_length)
         return verdict(12, 0);
     if (m->sources[arc] != g->mode)

@@ -1,6 +1,6 @@
 /*
- * Judging, the existence of a plan, gauge and walk, as plainly as document 01 and Ask 2 of document 02 have them and with no code of
- * the library: what the C tests compare with.
+ * Judging, the existence of a plan, gauge and walk, as plainly as document 01 and Asks 2 and 3 of document 02 have them and with no
+ * code of the library: what the C tests compare with.
  */
 #ifndef PLAIN_H
 #define PLAIN_H
@@ -21,7 +21,7 @@ struct model {
     size_t colours_length;
 };
 
-/* A number of document 01's table with its detail. */
+/* A number of document 01's table, or 22, with its detail. */
 struct verdict {
     uint32_t number, detail;
 };
@@ -32,17 +32,20 @@ struct verdict plain_fitness(const struct model *m, uint32_t c, uint32_t b);
 /* 1 to 6 and 11 to 17; number 0 is yes. */
 struct verdict plain_judge(const struct model *m, uint32_t c, uint32_t b, uint32_t p, uint32_t q, const uint8_t *plan, size_t length);
 
-/* Where a walk stands: mode, charge, and the sum of what its steps lost at the bound. */
+/* Where a walk stands: mode, charge, and the sum of what its steps lost at the bound; and n, the number of arcs and b of its start. */
 struct gauge {
     uint8_t mode;
     uint16_t charge;
     uint64_t spill;
+    uint8_t modes;
+    uint8_t arcs;
+    uint16_t bound;
 };
 
 /* 1 to 6 and a gauge of zeros; number 0 and a new gauge. */
 struct verdict plain_start(struct gauge *g, const struct model *m, uint32_t c, uint32_t b);
 
-/* 1 to 6, 12, 13 and 15 and the gauge as it was; number 0 and the gauge moved on. */
+/* 1 to 6, 22, 12, 13 and 15 and the gauge as it was; number 0 and the gauge moved on. */
 struct verdict plain_step(struct gauge *g, const struct model *m, uint32_t b, uint32_t arc);
 
 /* What comes of a walk: with number 0 the steps made, and 1 where the colour was met; else 0 and 0. */

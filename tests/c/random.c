@@ -131,33 +131,75 @@ static void test_random_found(const struct model *m, uint32_t c, uint32_t b, uin
         test_random_rounds(m, c, b, answer, plan);
 }
 
-/* A gauge made by hand, with a spill near 2^64; it may be in no mode of the model, or charged above the bound. */
-static struct gauge random_gauge(uint32_t n, uint32_t b)
+/* The model with its arcs in a random order. */
+static struct model shuffled(const struct model *m, struct lists *to)
 {
-    struct gauge g;
+    uint8_t order[CHARGEPLAN_ARCS_MOST];
+    size_t i;
 
-    g.mode = (uint8_t)up_to(n, 8);
-    g.charge = (uint16_t)up_to(b + 1, 8);
-    g.spill = UINT64_MAX - below(10);
-    return g;
+    for (i = 0; i < m->sources_length; i++)
+        order[i] = (uint8_t)i;
+    shuffle(order, m->sources_length);
+    return reordered(m, order, to);
 }
 
-/* Steps of a gauge on random arcs. At each: the charge at first + the weights walked = the charge + the spill since then. */
-static void random_steps(struct gauge g, const struct model *m, uint32_t b, uint32_t steps)
+/* Another model with the same n and number of arcs: the arcs in another order, another start mode, all colours. */
+static struct model random_other(const struct model *m, struct lists *to)
+{
+    struct model r = shuffled(m, to);
+
+    r.start = up_to(m->n, 50);
+    r.k = CHARGEPLAN_COLOURS_MOST;
+    return r;
+}
+
+/* Another n, one arc fewer, or another bound. */
+static void mix_up_call(struct model *m, uint32_t *b)
+{
+    switch (below(3)) {
+    case 0: m->n++; break;
+    case 1: *m = without_last(m); break;
+    default: *b = below(2) ? *b + 1 : below(*b + 1); break;
+    }
+}
+
+/*
+ * A gauge made by hand, with a spill near 2^64; it may be in no mode of the model, charged above the bound, or mixed up in any of the
+ * three numbers.
+ */
+static struct gauge random_gauge(const struct model *m, uint32_t b)
+{
+    struct gauge g = gauge_at(m, b, up_to(m->n, 8), up_to(b + 1, 8), UINT64_MAX - below(10));
+
+    return below(4) == 0 ? mixed_up(g, below(MIX_ALL + 1), below(UINT16_MAX + 1)) : g;
+}
+
+/*
+ * Steps of a gauge on random arcs of its model or of the other one with the same n and number of arcs, some with a call mixed up. At
+ * each: the charge at first + the weights walked = the charge + the spill since then.
+ */
+static void random_steps(struct gauge g, const struct model *m, const struct model *other, uint32_t b, uint32_t steps)
 {
     struct gauge plain = g;
     int64_t balance = g.charge;
     uint64_t spill = g.spill;
 
     for (; steps > 0; steps--) {
-        uint8_t arc = random_arc(m, g.mode);
-        struct verdict v = plain_step(&plain, m, b, arc);
-        uint64_t answer = step_gauge("random step", &g, m, b, arc);
+        struct model called = below(4) == 0 ? *other : *m;
+        uint32_t bound = b;
+        struct verdict v;
+        uint64_t answer;
+        uint8_t arc;
 
+        if (below(6) == 0)
+            mix_up_call(&called, &bound);
+        arc = random_arc(&called, g.mode);
+        v = plain_step(&plain, &called, bound, arc);
+        answer = step_gauge("random step", &g, &called, bound, arc);
         check_answer("random step", answer, v.number, v.detail);
-        check_gauge("random step", &g, plain.mode, plain.charge, plain.spill);
+        check_gauge("random step", g, plain);
         if (chargeplan_number(answer) == CHARGEPLAN_YES)
-            balance += m->weights[arc];
+            balance += called.weights[arc];
         check(balance == (int64_t)(g.charge + (g.spill - spill)), "balance");
     }
 }
@@ -165,14 +207,16 @@ static void random_steps(struct gauge g, const struct model *m, uint32_t b, uint
 /* A gauge started and stepped, and now and then one made by hand. */
 static void test_random_gauges(const struct model *m, uint32_t c, uint32_t b, uint32_t steps)
 {
+    struct lists lists;
+    struct model other = random_other(m, &lists);
     struct gauge g, plain;
     struct verdict v = plain_start(&plain, m, c, b);
 
     check_answer("random start", start_gauge("random start", &g, m, c, b), v.number, v.detail);
-    check_gauge("random start", &g, plain.mode, plain.charge, plain.spill);
-    random_steps(g, m, b, below(steps + 1));
+    check_gauge("random start", g, plain);
+    random_steps(g, m, &other, b, below(steps + 1));
     if (below(4) == 0)
-        random_steps(random_gauge(m->n, b), m, b, steps);
+        random_steps(random_gauge(m, b), m, &other, b, steps);
 }
 
 /* With the arcs in another order search answers with the same number, and with the same detail unless that is an arc. */
@@ -180,16 +224,11 @@ static void test_random_order(const struct model *m, uint32_t c, uint32_t b, uin
 {
     struct lists lists;
     struct model r;
-    uint8_t order[CHARGEPLAN_ARCS_MOST];
-    size_t arcs = m->sources_length, i;
     uint64_t other;
 
-    if (m->targets_length != arcs)
+    if (m->targets_length != m->sources_length)
         return;
-    for (i = 0; i < arcs; i++)
-        order[i] = (uint8_t)i;
-    shuffle(order, arcs);
-    r = reordered(m, order, &lists);
+    r = shuffled(m, &lists);
     other = search("random order", &r, c, b, chargeplan_work_words(m->n, m->k, b), chargeplan_plan_bytes(m->n, m->k, b), 0xc3c3u);
     check(chargeplan_number(other) == chargeplan_number(answer), "random order");
     if (chargeplan_number(answer) == CHARGEPLAN_UNFIT_ARC)

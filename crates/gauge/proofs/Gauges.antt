@@ -14,7 +14,9 @@ use Rattle.walks.specs.declared.Step.the-variants.{To}
 use Rattle.walks.specs.BoundedStep.{stepped}
 use Rattle.refusals.specs.declared.Refusal.{Refusal}
 use Rattle.refusals.specs.declared.Refusal.the-variants.{ArcNumber, OtherMode, ImpossibleStep, MixedGauge}
+use Rattle.refusals.specs.declared.Verdict.{Verdict}
 use Rattle.refusals.specs.declared.Verdict.the-variants.{Yes, Refused}
+use Rattle.refusals.specs.Refusals.{refuse}
 use Rattle.refusals.proofs.Tests.{or-no, differ-no}
 use Rattle.model.specs.declared.Model.{Model}
 use Rattle.model.specs.declared.Fitted.{Fitted}
@@ -23,6 +25,7 @@ use Rattle.model.specs.Lists.{Lists, automatonOf, held}
 use Rattle.model.specs.Fitness.{fittedOf, levelsOf, Holds}
 use Rattle.model.proofs.Held.{arcIn, held-arc, told-verdict, told-holds, told-held}
 use Rattle.gauge.specs.declared.Gauge.{Gauge}
+use Rattle.gauge.specs.declared.Gauged.{Gauged}
 use Rattle.gauge.specs.Gauge.{gauge, movedTo, gauged, noGauge, stopAt, landed, startedOf, movedOf, Matches, mixedUp, movedMatched, movedLevelled, steppedOf}
 
 module _ (x : Gauge) (t e l : ℕ) where
@@ -69,41 +72,24 @@ module _ (g : Automaton) (b : ℕ) (x : Gauge) where
         λ m. three .1 (two .1 (modes .1 (m .modes), arcs .1 (m .arcs)), bound .1 (m .bound)),
       )
 
-  module _ (a : ℕ) where
-    -- it applies
-    pub moved-mixed : mixedUp (g .modes) (length (g .arcs)) b x ≡ true → movedMatched g b a x ≡ gauged (Refused MixedGauge) x
-    unfolding movedMatched
-    moved-mixed e = rw e refl
-
-    -- it does not: 12, 13 and 15 decide
-    pub moved-matching : mixedUp (g .modes) (length (g .arcs)) b x ≡ false → movedMatched g b a x ≡ movedOf g b a x
-    unfolding movedMatched
-    moved-matching e = rw e refl
-
 module _ (g : Automaton) (b a : ℕ) (x : Gauge) where
-  -- 6 applies, whatever the gauge was started with
-  pub levelled-refused : (r : Refusal) → levelsOf b (x .charge) ≡ Refused r → movedLevelled g b a x ≡ gauged (Refused r) x
-  unfolding movedLevelled
-  levelled-refused r e = rw e refl
+  -- 22, and then 12, 13 and 15
+  pub matched-by : (t : Bool) → mixedUp (g .modes) (length (g .arcs)) b x ≡ t
+      → movedMatched g b a x ≡ stopAt (refuse t MixedGauge Yes) x (movedOf g b a x)
+  unfolding movedMatched
+  matched-by t e = ap {B = Gauged} (λ (t : Bool). stopAt (refuse t MixedGauge Yes) x (movedOf g b a x)) e
 
-  -- it does not: 22 and what follows it decide
-  pub levelled-yes : levelsOf b (x .charge) ≡ Yes → movedLevelled g b a x ≡ movedMatched g b a x
+  -- 6, and then 22 and what follows it
+  pub levelled-by : (v : Verdict) → levelsOf b (x .charge) ≡ v → movedLevelled g b a x ≡ stopAt v x (movedMatched g b a x)
   unfolding movedLevelled
-  levelled-yes e = rw e refl
+  levelled-by v e = ap {B = Gauged} (λ (v : Verdict). stopAt v x (movedMatched g b a x)) e
 
 -- the same of the model that the code holds
 module _ (g : Model) (holds : Holds g) (b a : ℕ) (x : Gauge) where
-  -- 22 is looked at with the model's count
-  mixed-held : mixedUp (g .modes) (length (held g .arcs)) b x ≡ mixedUp (g .modes) (g .count) b x
-  mixed-held = ap {B = Bool} (λ (m : ℕ). mixedUp (g .modes) m b x) (holds .count)
-
-  -- it applies
-  pub held-mixed : mixedUp (g .modes) (g .count) b x ≡ true → movedMatched (held g) b a x ≡ gauged (Refused MixedGauge) x
-  held-mixed e = moved-mixed (held g) b x a (mixed-held ∙ e)
-
-  -- it does not
-  pub held-matching : mixedUp (g .modes) (g .count) b x ≡ false → movedMatched (held g) b a x ≡ movedOf (held g) b a x
-  held-matching e = moved-matching (held g) b x a (mixed-held ∙ e)
+  -- 22
+  pub held-matched : (t : Bool) → mixedUp (g .modes) (g .count) b x ≡ t
+      → movedMatched (held g) b a x ≡ stopAt (refuse t MixedGauge Yes) x (movedOf (held g) b a x)
+  held-matched t e = matched-by (held g) b a x t (ap {B = Bool} (λ (m : ℕ). mixedUp (g .modes) m b x) (holds .count) ∙ e)
 
   -- 12 applies
   pub held-number : g .count ≤ a → movedOf (held g) b a x ≡ gauged (Refused (ArcNumber 0)) x

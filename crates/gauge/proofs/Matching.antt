@@ -20,20 +20,22 @@ use Rattle.model.specs.Fitness.{fitness, levelsOf}
 use Rattle.gauge.specs.declared.Gauge.{Gauge}
 use Rattle.gauge.specs.declared.Gauged.{Gauged}
 use Rattle.gauge.specs.Gauge.{newGauge, movedTo, gauged, stopAt, landed, movedOf, Matches, mixedUp, movedMatched, movedLevelled, steppedOf, oldRule}
-use Rattle.gauge.proofs.Gauges.{mixed-no, moved-matching, moved-mixed}
+use Rattle.gauge.proofs.Gauges.{mixed-no, matched-by}
 
 module _ (n s k : ℕ) (l : Lists) (b a : ℕ) (x : Gauge) where
+  abbrev g : Automaton
+  g = automatonOf n s k l
+
   -- "Steps on a matching gauge follow the old rule"
-  pub matching-step : Matches (automatonOf n s k l) b x → steppedOf n s k l b a x ≡ oldRule n s k l b a x
+  pub matching-step : Matches g b x → steppedOf n s k l b a x ≡ oldRule n s k l b a x
   unfolding steppedOf movedLevelled
-  matching-step m = let g = automatonOf n s k l in rw (moved-matching g b x a (mixed-no g b x .1 m)) refl
+  matching-step m = rw (matched-by g b a x false (mixed-no g b x .1 m)) refl
 
   -- "a mixed-up gauge stays as found": 22, where none of 1 to 6 applies
-  pub mixed-step : (Matches (automatonOf n s k l) b x → ⊥) → fitness n s k l ≡ Yes → levelsOf b (x .charge) ≡ Yes
+  pub mixed-step : (Matches g b x → ⊥) → fitness n s k l ≡ Yes → levelsOf b (x .charge) ≡ Yes
       → steppedOf n s k l b a x ≡ gauged (Refused MixedGauge) x
   unfolding steppedOf movedLevelled
-  mixed-step other fit levels =
-      let g = automatonOf n s k l in rw (fit, levels, moved-mixed g b x a (go _ (λ e. other (mixed-no g b x .0 e)))) refl
+  mixed-step other fit levels = rw (fit, levels, matched-by g b a x true (go _ (λ e. other (mixed-no g b x .0 e)))) refl
     where
       go : (t : Bool) → (t ≡ false → ⊥) → t ≡ true
       go true not = refl

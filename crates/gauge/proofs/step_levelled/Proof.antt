@@ -4,7 +4,7 @@ use native.Mathlib.Omega.{arith}
 use borrow.Author.Needs.{needs}
 use Rattle.model.specs.Lists.{held}
 use Rattle.model.proofs.Fitness.{levels-yes}
-use Rattle.gauge.proofs.Gauges.{levelled-refused, levelled-yes}
+use Rattle.gauge.proofs.Gauges.{levelled-by}
 use Rattle.gauge.proofs.step_levelled.Statement.{statement}
 use Rattle.gauge.proofs.step_levelled.Tie as tie
 
@@ -37,14 +37,14 @@ returns c =
     let d = c .before .before .before in
     let a = d .before .args in
     c .step-matched .ensures
-    ∙ sym (levelled-yes (held (a .model)) (a .b) (a .arc) (a .gauge) (sym (d .check-levels .ensures) ∙ c .before .enum-told .given .1))
+    ∙ sym (levelled-by (held (a .model)) (a .b) (a .arc) (a .gauge) _ (sym (d .check-levels .ensures) ∙ c .before .enum-told .given .1))
 
 returns-2 : tie.Need-returns-2
 returns-2 c =
     let d = c .before .before .before .before in
     let a = d .before .args in
     c .refused .ensures
-    ∙ sym (levelled-refused (held (a .model)) (a .b) (a .arc) (a .gauge) _ (sym (d .check-levels .ensures) ∙ c .before .before .levels .given .1))
+    ∙ sym (levelled-by (held (a .model)) (a .b) (a .arc) (a .gauge) _ (sym (d .check-levels .ensures) ∙ c .before .before .levels .given .1))
 
 pub step-levelled-spec : {M : Type 1} → statement M
 step-levelled-spec =
