@@ -70,7 +70,7 @@ step-kept n s k l b a x =
     (stop-kept (levelsOf b (x .charge)) x (movedMatched g b a x)
     (stop-kept (refuse (mixedUp n (length (g .arcs)) b x) MixedGauge Yes) x (movedOf g b a x) (moved-kept g b a x)))
 
--- .. as the gauge that an accepted one hands back shows
+-- so the gauge of an accepted one has them
 pub yes-kept : (x u : Gauge) (y : Gauged) → y ≡ gauged Yes u → Kept x (y .gauge) → Kept x u
 yes-kept x u y q = subst (Kept x) (ap {B = Gauge} (λ (y : Gauged). y .gauge) q)
 
@@ -78,7 +78,7 @@ yes-kept x u y q = subst (Kept x) (ap {B = Gauge} (λ (y : Gauged). y .gauge) q)
 pub kept-on : (x u z : Gauge) → Kept x u → Kept u z → Kept x z
 kept-on x u z first second = second ∙ ap {B = Gauge} (λ (v : Gauge). movedTo v (z .mode) (z .charge) (z .spill)) first
 
--- so the gauge matches what it matched before, and nothing else; a new gauge matches the model and the bound of its start
+-- so the gauge matches what it matched before, and nothing else
 pub kept-matches : (x z : Gauge) → Kept x z → (g : Automaton) (b : ℕ) → Matches g b x ↔ Matches g b z
 kept-matches x z kept g b =
     let modes = ap {B = ℕ} (λ (y : Gauge). y .modes) kept in
@@ -88,5 +88,6 @@ kept-matches x z kept g b =
       λ m. record { modes = sym modes ∙ m .modes; arcs = sym arcs ∙ m .arcs; bound = sym bound ∙ m .bound },
     )
 
+-- a new gauge matches the model and the bound of its start
 pub new-matches : (g : Automaton) (b c : ℕ) → Matches g b (newGauge g b c)
 new-matches g b c = record { modes = refl; arcs = refl; bound = refl }

@@ -77,7 +77,7 @@ movedMatched g b a x = stopAt (refuse (mixedUp (g .modes) (length (g .arcs)) b x
 unfoldable pub movedLevelled : Automaton → ℕ → ℕ → Gauge → Gauged
 movedLevelled g b a x = stopAt (levelsOf b (x .charge)) x (movedMatched g b a x)
 
--- "A gauge step uses 1 to 6, then 12, 13, 15 with detail 0, and a refusal leaves the gauge as found."
+-- "A gauge step uses 1 to 6, then 12, 13, 15 with detail 0, and a refusal leaves the gauge as found."; with Ask 3, 22 stands after 6
 unfoldable pub steppedOf : ℕ → ℕ → ℕ → Lists → ℕ → ℕ → Gauge → Gauged
 steppedOf n s k l b a x = stopAt (fitness n s k l) x (movedLevelled (automatonOf n s k l) b a x)
 

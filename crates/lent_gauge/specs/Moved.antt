@@ -1,5 +1,6 @@
 -- A step's answer by its number and detail, with the gauge after it; and what a step does to a lent gauge. Document 01, "Where each call
--- stops": "A gauge step uses 1 to 6, then 12, 13, 15 with detail 0, and a refusal leaves the gauge as found."
+-- stops": "A gauge step uses 1 to 6, then 12, 13, 15 with detail 0, and a refusal leaves the gauge as found."; with document 02, Ask 3, 22 stands
+-- after 6.
 use Prim.Native.Nat.{ℕ}
 use mathlib.Core.Path.{_≡_}
 use Rattle.refusals.specs.declared.Answer.{Answer}
