@@ -167,7 +167,7 @@ static inline struct chargeplan_started chargeplan_model_gauge_start(const struc
  * arc     the arc's number
  *
  * Answers 0 and moves the gauge on, or answers the first of 1 to 6, 22, 12, 13 and 15, in this order, that applies and leaves its six
- * fields as they were. What stands between the fields may change.
+ * fields as they were. What stands between and behind the fields may change.
  */
 static inline uint64_t chargeplan_model_gauge_step(struct chargeplan_gauge *gauge, const struct chargeplan_model *m, uint32_t b,
     uint32_t arc);

@@ -2,7 +2,6 @@
 -- weights walked equals charge plus the sum, over the history, of what each step lost, and the gauge's total is that sum." Ask 3: which other
 -- models and bounds a gauge is told apart from. Assumes nothing.
 use mathlib.Core.Path.{_≡_, refl, ap, _∙_}
-use mathlib.Core.Logic.{_↔_}
 use mathlib.Core.List.{List, [], _∷_, _++_, map}
 use Prim.Native.Nat.{ℕ, _+_, _≤_}
 use native.Mathlib.Omega.{arith}
