@@ -76,7 +76,7 @@ enum {
     CHARGEPLAN_UNFIT_ARC = 5,        /* a source or target not below n, a weight outside its range, or a colour bit at or
                                         above k; detail: the lowest such arc */
     CHARGEPLAN_LEVELS = 6,           /* b is above 8,191, or c is above b; a step reads the gauge's own charge in place of c */
-    CHARGEPLAN_MIXED_GAUGE = 22,     /* n, the number of arcs or b is not the one that the gauge was started with */
+    CHARGEPLAN_MIXED_GAUGE = 22,     /* a step of a gauge: n, the number of arcs or b is not the one that it was started with */
     CHARGEPLAN_PRODUCT = 7,          /* n * (b + 1) is above 8,192 */
     CHARGEPLAN_WORKING_SPACE = 8,    /* the working space is too short */
     CHARGEPLAN_PLAN_BUFFER = 9,      /* the plan buffer is too short */
@@ -96,15 +96,15 @@ enum {
 /*
  * A gauge: where a walk stands on the bench. The mode, the charge, and the spill: all that was lost at the bound since the start.
  * For any accepted steps from a start: c + the weights walked = charge + spill. And what the gauge was started with, which no step
- * changes: n, the number of arcs, and b.
+ * changes.
  */
 struct chargeplan_gauge {
     uint8_t mode;
     uint16_t charge;
     uint64_t spill;
-    uint8_t modes;
-    uint8_t arcs;
-    uint16_t bound;
+    uint8_t modes;  /* n */
+    uint8_t arcs;   /* the number of arcs */
+    uint16_t bound; /* b */
 };
 
 /* What starting a gauge answers: number and detail, and the new gauge, 0 in every field where it is refused. */
@@ -162,8 +162,9 @@ static inline struct chargeplan_started chargeplan_model_gauge_start(const struc
  * A step of a gauge on an arc of the model.
  *
  * gauge   lent to the call, which moves it on
- * m, b    the model and the bound that the gauge was started with. Another n, number of arcs or b is refused by 22. Another model
- *         with the same n, number of arcs and b is not: the call cannot tell it, and steps on the arcs it is given.
+ * m, b    the model and the bound that the gauge was started with. Another n, number of arcs or b is refused, by 22 where none of
+ *         1 to 6 applies; so is every step of the gauge of a refused start. Another model with the same n, number of arcs and b is
+ *         not refused: the call cannot tell it, and steps on the arcs it is given.
  * arc     the arc's number
  *
  * Answers 0 and moves the gauge on, or answers the first of 1 to 6, 22, 12, 13 and 15, in this order, that applies and leaves its six

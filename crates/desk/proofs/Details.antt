@@ -210,11 +210,11 @@ stepped-within n s k l b a x = go (steppedOf n s k l b a x .verdict) refl
   where
     by : (r : Refusal) → StepRefusal n s k l b x r → Within arcsMost (Refused r)
     by r (inl e) = rw e at (fitness-within {d = arcsMost} n s k l (omega arith))
-    by r (inr (inl e)) = rw e at (levels-within {d = arcsMost} b (x .charge))
-    by r (inr (inr (inl (_, e)))) = rw e (omega arith)
-    by r (inr (inr (inr (inl e)))) = rw e (omega arith)
-    by r (inr (inr (inr (inr (inl e))))) = rw e (omega arith)
-    by r (inr (inr (inr (inr (inr e))))) = rw e (omega arith)
+    by r (inr (_, inl e)) = rw e at (levels-within {d = arcsMost} b (x .charge))
+    by r (inr (_, inr (_, inl (_, e)))) = rw e (omega arith)
+    by r (inr (_, inr (_, inr (_, inl e)))) = rw e (omega arith)
+    by r (inr (_, inr (_, inr (_, inr (inl e))))) = rw e (omega arith)
+    by r (inr (_, inr (_, inr (_, inr (inr e))))) = rw e (omega arith)
 
     go : (v : Verdict) → steppedOf n s k l b a x .verdict ≡ v → Within arcsMost (steppedOf n s k l b a x .verdict)
     go Yes e = rw e yes-within

@@ -115,8 +115,8 @@ pub extern "C" fn chargeplan_search(
     pack(answer, told.p, told.q)
 }
 
-// Starting a gauge: number 0 and a new gauge with the start mode, the credit c and spill 0, or the first of 1 to 6 that applies and a gauge of
-// zeros. For all numbers and lists.
+// Starting a gauge: number 0 and a new gauge with the start mode, the credit c and spill 0, which carries n, the number of arcs and b; or the
+// first of 1 to 6 that applies and a gauge of zeros. For all numbers and lists.
 #[no_mangle]
 pub extern "C" fn chargeplan_gauge_start(
     n: u32,

@@ -17,7 +17,7 @@ use Rattle.walks.proofs.Weights.{walked-cons}
 use Rattle.walks.proofs.Charges.{stepped-bound}
 use Rattle.walks.proofs.Spill.{spilled-cons}
 use Rattle.refusals.specs.declared.Refusal.{Refusal}
-use Rattle.refusals.specs.declared.Refusal.the-variants.{ArcNumber, OtherMode, ImpossibleStep}
+use Rattle.refusals.specs.declared.Refusal.the-variants.{ArcNumber, OtherMode, ImpossibleStep, MixedGauge}
 use Rattle.refusals.specs.declared.Verdict.{Verdict}
 use Rattle.refusals.specs.declared.Verdict.the-variants.{Yes, Refused}
 use Rattle.refusals.proofs.Verdicts.{clash}
@@ -29,11 +29,11 @@ use Rattle.model.proofs.Fitness.{fitness-yes, levels-yes}
 use Rattle.model.proofs.Plans.{serves-walked}
 use Rattle.gauge.specs.declared.Gauge.{Gauge}
 use Rattle.gauge.specs.declared.Gauged.{Gauged}
-use Rattle.gauge.specs.Gauge.{newGauge, movedTo, gauged, startedOf, landed, movedOf, Matches, steppedOf, stopAt, afterGauged}
+use Rattle.gauge.specs.Gauge.{newGauge, movedTo, noGauge, gauged, startedOf, landed, movedOf, Matches, steppedOf, stopAt, afterGauged}
 use Rattle.gauge.specs.History.{calledAll, stepsOf}
 use Rattle.gauge.proofs.Losses.{lossMost, spilled-most}
 use Rattle.gauge.proofs.Gauges.{landed-full, landed-on, moved-number, moved-mode, moved-lands}
-use Rattle.gauge.proofs.Matching.{matching-step, yes-kept, step-kept, kept-matches, new-matches}
+use Rattle.gauge.proofs.Matching.{old-by, matching-step, mixed-step, yes-kept, step-kept, kept-matches, new-matches}
 
 -- two accepted gauges of one start are equal exactly where their modes, their charges and their totals are
 same-gauge : (z : Gauge) (m e s t x y : ℕ) → (gauged Yes (movedTo z m e s) ≡ gauged Yes (movedTo z t x y)) ↔ ((m ≡ t) × (e ≡ x) × (s ≡ y))
@@ -92,7 +92,7 @@ moved-yes g b a z t x y =
 -- the call on a fit model, where neither 6 nor 22 applies, is the step on the arc
 pub step-moved : (n s k : ℕ) (l : Lists) (b a : ℕ) (x : Gauge) → fitness n s k l ≡ Yes → levelsOf b (x .charge) ≡ Yes
     → Matches (automatonOf n s k l) b x → steppedOf n s k l b a x ≡ movedOf (automatonOf n s k l) b a x
-step-moved n s k l b a x fit levels match = matching-step n s k l b a x match ∙ rw (fit, levels) refl
+step-moved n s k l b a x fit levels match = matching-step n s k l b a x match ∙ old-by n s k l b a x Yes Yes fit levels
 
 -- "A gauge in a mode not below n therefore gets 13 or an earlier number": where none of 1 to 6, 22 and 12 applies, it gets 13
 pub mode-refused : (n s k : ℕ) (l : Lists) (b a : ℕ) (x : Gauge) → fitness n s k l ≡ Yes → levelsOf b (x .charge) ≡ Yes
@@ -101,6 +101,12 @@ pub mode-refused : (n s k : ℕ) (l : Lists) (b a : ℕ) (x : Gauge) → fitness
 mode-refused n s k l b a x fit levels match h far =
     let source = fitness-yes n s k l .0 fit .1 .arcs-fit a h .source in
     step-moved n s k l b a x fit levels match ∙ moved-mode (automatonOf n s k l) b a x h (λ q. omega arith)
+
+-- the gauge of a refused start is refused by every step on a fit model: 22, or 6 where b is too large
+pub no-gauge-refused : (n s k : ℕ) (l : Lists) (b a : ℕ) → fitness n s k l ≡ Yes → b ≤ boundMost
+    → steppedOf n s k l b a noGauge ≡ gauged (Refused MixedGauge) noGauge
+no-gauge-refused n s k l b a fit hb =
+    mixed-step n s k l b a noGauge (λ m. omega (arith, m .modes, fitness-yes n s k l .0 fit .1 .some-mode)) fit (levels-yes b 0 .1 (hb, omega arith))
 
 -- what follows a step is accepted exactly where both are
 pub after-yes : (y : Gauged) (f : Gauge → Gauged) (z : Gauge) → (afterGauged y f ≡ gauged Yes z) ↔ ((u : Gauge) × (y ≡ gauged Yes u) × (f u ≡ gauged Yes z))

@@ -1,25 +1,24 @@
--- Histories of steps, each with a model and a bound of its own. Document 02, Ask 2: "For any sequence of accepted steps from a start, c plus the
--- weights walked equals charge plus the sum, over the history, of what each step lost, and the gauge's total is that sum." Ask 3: which other
--- models and bounds a gauge is told apart from. Assumes nothing.
-use mathlib.Core.Path.{_≡_, refl, ap, _∙_}
+-- Histories of steps, each call with a model and a bound of its own. Document 02, Ask 2: "For any sequence of accepted steps from a start, c plus
+-- the weights walked equals charge plus the sum, over the history, of what each step lost, and the gauge's total is that sum." Ask 3: accepted
+-- calls had the gauge's n, m and b, and these are all that it is told apart by. Assumes nothing.
+use mathlib.Core.Path.{_≡_, refl, sym, ap, _∙_}
 use mathlib.Core.List.{List, [], _∷_, _++_, map}
-use Prim.Native.Nat.{ℕ, _+_, _≤_}
+use Prim.Native.Nat.{ℕ, _+_}
 use native.Mathlib.Omega.{arith}
 use lib.IntN.{ℤ, pos, _+ℤ_}
 use lib.ListN.{length}
-use Rattle.limits.specs.Ceilings.{boundMost, spillMost}
 use Rattle.walks.specs.declared.Step.the-variants.{To}
 use Rattle.walks.specs.BoundedStep.{stepped}
 use Rattle.walks.specs.Walk.{total}
 use Rattle.walks.specs.Spill.{spilled}
-use Rattle.walks.proofs.Spill.{step-balance, then-balance}
+use Rattle.walks.proofs.Spill.{step-balance, then-balance, spilled-cons}
 use Rattle.refusals.specs.declared.Refusal.{Refusal}
 use Rattle.refusals.specs.declared.Refusal.the-variants.{MixedGauge}
 use Rattle.refusals.specs.declared.Verdict.{Verdict}
 use Rattle.refusals.specs.declared.Verdict.the-variants.{Yes, Refused}
 use Rattle.refusals.specs.Refusals.{refuse, andThen}
 use Rattle.refusals.proofs.Verdicts.{refuse-yes}
-use Rattle.model.specs.Automaton.{weights}
+use Rattle.model.specs.Automaton.{arcAt, weights}
 use Rattle.model.specs.Lists.{Lists, automatonOf}
 use Rattle.model.specs.Fitness.{fitness, levelsOf}
 use Rattle.gauge.specs.declared.Gauge.{Gauge}
@@ -27,8 +26,8 @@ use Rattle.gauge.specs.declared.Gauged.{Gauged}
 use Rattle.gauge.specs.Gauge.{newGauge, gauged, noGauge, stopAt, startedOf, movedOf, Matches, mixedUp, movedMatched, movedLevelled, steppedOf, oldRule, afterGauged}
 use Rattle.gauge.specs.History.{Call, callModel, called, calledAll, callsOf, stepsOf, weightOf, lostBy}
 use Rattle.gauge.proofs.Gauges.{mixed-no}
-use Rattle.gauge.proofs.Matching.{matching-step, mixed-step, Kept, step-kept, yes-kept, kept-on, kept-matches, new-matches}
-use Rattle.gauge.proofs.Follows.{Spills, not-yes, moved-yes, after-yes, after-refused, gauge-follows}
+use Rattle.gauge.proofs.Matching.{matching-step, mixed-step, Kept, stop-kept, step-kept, yes-kept, kept-on, kept-matches, new-matches}
+use Rattle.gauge.proofs.Follows.{Spills, not-yes, moved-yes, after-yes, after-refused}
 
 -- a check that lets through what is accepted
 stop-yes : (v : Verdict) (x : Gauge) (y : Gauged) (z : Gauge) → stopAt v x y ≡ gauged Yes z → (v ≡ Yes) × (y ≡ gauged Yes z)
@@ -91,12 +90,11 @@ history-balance (d ∷ h) x y q =
 start-yes : (n s k : ℕ) (l : Lists) (b c : ℕ) (h : List Call) (y : Gauge) → afterGauged (startedOf n s k l b c) (calledAll h) ≡ gauged Yes y
     → calledAll h (newGauge (automatonOf n s k l) b c) ≡ gauged Yes y
 unfolding startedOf
-start-yes n s k l b c h y = go (andThen (fitness n s k l) (levelsOf b c))
-  where
-    go : (v : Verdict) → afterGauged (stopAt v noGauge (gauged Yes (newGauge (automatonOf n s k l) b c))) (calledAll h) ≡ gauged Yes y
-        → calledAll h (newGauge (automatonOf n s k l) b c) ≡ gauged Yes y
-    go Yes q = q
-    go (Refused r) q = not-yes r noGauge y q
+start-yes n s k l b c h y q =
+    let (u, p, r) = after-yes (startedOf n s k l b c) (calledAll h) y .0 q in
+    let new = gauged Yes (newGauge (automatonOf n s k l) b c) in
+    let started = stop-yes (andThen (fitness n s k l) (levelsOf b c)) noGauge new u p .1 in
+    ap {B = Gauged} (λ (z : Gauged). calledAll h (z .gauge)) started ∙ r
 
 -- from a start
 pub start-balance : (n s k : ℕ) (l : Lists) (b c : ℕ) (h : List Call) (y : Gauge) → afterGauged (startedOf n s k l b c) (calledAll h) ≡ gauged Yes y
@@ -105,19 +103,28 @@ start-balance n s k l b c h y q =
     let (i, j) = history-balance h (newGauge (automatonOf n s k l) b c) y (start-yes n s k l b c h y q) in
     (i, omega arith)
 
+-- on the arcs of one model that is what its walk lost
+pub lost-spilled : (n s k : ℕ) (l : Lists) (b : ℕ) (w : List ℕ) (x y : Gauge) → stepsOf n s k l b w x ≡ gauged Yes y
+    → lostBy (callsOf n s k l b w) x ≡ spilled b (weights (automatonOf n s k l) w) (x .charge)
+unfolding calledAll lostBy spilled
+lost-spilled n s k l b [] x y q = refl
+lost-spilled n s k l b (a ∷ w) x y q =
+    let g = automatonOf n s k l in
+    let d : Call = record { modes = n; start = s; colours = k; lists = l; bound = b; arc = a } in
+    let (u, p, r) = after-yes (called d x) (stepsOf n s k l b w) y .0 q in
+    let (lost, to, _, _) = called-spills d x u p in
+    lost-cons d (callsOf n s k l b w) x u (u .charge) lost to p
+    ∙ ap {B = ℕ} (λ (i : ℕ). lost + i) (lost-spilled n s k l b w u y r)
+    ∙ sym (spilled-cons b (arcAt g a .weight) (weights g w) (x .charge) (u .charge) lost to)
+
 -- calls keep the gauge's n, m and b, accepted or refused
 pub calls-kept : (h : List Call) (x : Gauge) → Kept x (calledAll h x .gauge)
 unfolding calledAll
 calls-kept [] x = refl
-calls-kept (d ∷ h) x = go (called d x .verdict) (calls-kept h (called d x .gauge))
-  where
-    kept : Kept x (called d x .gauge)
-    kept = step-kept (d .modes) (d .start) (d .colours) (d .lists) (d .bound) (d .arc) x
-
-    go : (v : Verdict) → Kept (called d x .gauge) (calledAll h (called d x .gauge) .gauge)
-        → Kept x (stopAt v (called d x .gauge) (calledAll h (called d x .gauge)) .gauge)
-    go Yes after = kept-on x (called d x .gauge) _ kept after
-    go (Refused r) after = kept
+calls-kept (d ∷ h) x =
+    let u = called d x .gauge in
+    kept-on x u _ (step-kept (d .modes) (d .start) (d .colours) (d .lists) (d .bound) (d .arc) x)
+    (stop-kept (called d x .verdict) u (calledAll h u) (calls-kept h u))
 
 -- every call d of an accepted history had them
 pub calls-match : (h : List Call) (d : Call) (i : List Call) (x y : Gauge) → calledAll (h ++ d ∷ i) x ≡ gauged Yes y → Matches (callModel d) (d .bound) x
@@ -126,18 +133,6 @@ calls-match [] d i x y q = let (u, p, r) = after-yes (called d x) (calledAll i) 
 calls-match (f ∷ h) d i x y q =
     let (u, p, r) = after-yes (called f x) (calledAll (h ++ d ∷ i)) y .0 q in
     kept-matches x u (called-kept f x u p) (callModel d) (d .bound) .1 (calls-match h d i u y r)
-
--- on the arcs of one model that is what its walk lost
-pub lost-spilled : (n s k : ℕ) (l : Lists) (b : ℕ) → fitness n s k l ≡ Yes → b ≤ boundMost → (w : List ℕ) (x y : Gauge) → x .charge ≤ b → x .spill ≤ spillMost
-    → stepsOf n s k l b w x ≡ gauged Yes y → lostBy (callsOf n s k l b w) x ≡ spilled b (weights (automatonOf n s k l) w) (x .charge)
-unfolding lostBy spilled
-lost-spilled n s k l b fit hb [] x y h hi q = refl
-lost-spilled n s k l b fit hb (a ∷ w) x y h hi q =
-    let calls = callsOf n s k l b (a ∷ w) in
-    let match = calls-match [] _ _ x y q in
-    let form = q ∙ ap {B = Gauged} (gauged Yes) (yes-kept x y (calledAll calls x) q (calls-kept calls x)) in
-    let (_, _, total, _) = gauge-follows n s k l b fit hb (a ∷ w) x (y .mode) (y .charge) (y .spill) match h hi .0 form in
-    omega (arith, history-balance calls x y q .1)
 
 -- A gauge y after a start and accepted calls.
 module _ (n s k : ℕ) (l : Lists) (b c : ℕ) (h : List Call) (y : Gauge) (q : afterGauged (startedOf n s k l b c) (calledAll h) ≡ gauged Yes y) where

@@ -1,7 +1,7 @@
 -- What 22 does to a step. Document 02, Ask 3: "Steps on a matching gauge follow the old rule, and a mixed-up gauge stays as found"; and no step
 -- changes the three numbers that it compares. Assumes nothing.
 use mathlib.Core.Path.{_≡_, refl, sym, ap, _∙_, subst}
-use mathlib.Core.Bool.{Bool, true, false, not}
+use mathlib.Core.Bool.{true, false, not, not-eq-not}
 use mathlib.Core.Logic.{_↔_}
 use Prim.Native.Nat.{ℕ, _+_}
 use lib.Dec.{leb, ltb, eqb}
@@ -26,6 +26,10 @@ module _ (n s k : ℕ) (l : Lists) (b a : ℕ) (x : Gauge) where
   abbrev g : Automaton
   g = automatonOf n s k l
 
+  -- the old rule: 1 to 5, 6, and the step on the arc, whatever the gauge was started with
+  pub old-by : (u v : Verdict) → fitness n s k l ≡ u → levelsOf b (x .charge) ≡ v → oldRule n s k l b a x ≡ stopAt u x (stopAt v x (movedOf g b a x))
+  old-by u v fit levels = rw (fit, levels) refl
+
   -- "Steps on a matching gauge follow the old rule"
   pub matching-step : Matches g b x → steppedOf n s k l b a x ≡ oldRule n s k l b a x
   unfolding steppedOf movedLevelled
@@ -35,17 +39,13 @@ module _ (n s k : ℕ) (l : Lists) (b a : ℕ) (x : Gauge) where
   pub mixed-step : (Matches g b x → ⊥) → fitness n s k l ≡ Yes → levelsOf b (x .charge) ≡ Yes
       → steppedOf n s k l b a x ≡ gauged (Refused MixedGauge) x
   unfolding steppedOf movedLevelled
-  mixed-step other fit levels = rw (fit, levels, matched-by g b a x true (go _ (λ e. other (mixed-no g b x .0 e)))) refl
-    where
-      go : (t : Bool) → (t ≡ false → ⊥) → t ≡ true
-      go true not = refl
-      go false not = absurd (not refl)
+  mixed-step other fit levels = rw (fit, levels, matched-by g b a x true (not-eq-not .0 (λ e. other (mixed-no g b x .0 e)))) refl
 
 -- z has x's n, m and b
 abbrev pub Kept : Gauge → Gauge → Type 0
 Kept x z = z ≡ movedTo x (z .mode) (z .charge) (z .spill)
 
-stop-kept : (v : Verdict) (x : Gauge) (y : Gauged) → Kept x (y .gauge) → Kept x (stopAt v x y .gauge)
+pub stop-kept : (v : Verdict) (x : Gauge) (y : Gauged) → Kept x (y .gauge) → Kept x (stopAt v x y .gauge)
 stop-kept Yes x y kept = kept
 stop-kept (Refused r) x y kept = refl
 

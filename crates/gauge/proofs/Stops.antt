@@ -15,7 +15,7 @@ use Rattle.refusals.specs.declared.Refusal.the-variants.{ArcNumber, OtherMode, 
 use Rattle.refusals.specs.declared.Verdict.{Verdict}
 use Rattle.refusals.specs.declared.Verdict.the-variants.{Yes, Refused}
 use Rattle.refusals.specs.Refusals.{refuse}
-use Rattle.refusals.proofs.Verdicts.{clash}
+use Rattle.refusals.proofs.Verdicts.{clash, refuse-yes}
 use Rattle.model.specs.Automaton.{Automaton, arcAt}
 use Rattle.model.specs.Lists.{Lists, automatonOf}
 use Rattle.model.specs.Fitness.{fitness, levelsOf}
@@ -43,15 +43,15 @@ module _ (By : Refusal → Type 0) where
   row-only false q v here after = after
 
   -- a check that hands x back where it refuses, and then what follows
-  stop-stops : (v : Verdict) (x : Gauge) (y : Gauged) → OnlyBy v → Stops x y → Stops x (stopAt v x y)
-  stop-stops Yes x y first second = second
+  stop-stops : (v : Verdict) (x : Gauge) (y : Gauged) → OnlyBy v → (v ≡ Yes → Stops x y) → Stops x (stopAt v x y)
+  stop-stops Yes x y first second = second refl
   stop-stops (Refused q) x y first second = λ r e. (refl, first r e)
 
   -- 15
   landed-stops : By (ImpossibleStep 0) → (x : Gauge) (t : ℕ) (s : Step) → Stops x (landed x t s)
   landed-stops here x t (To e l) =
       stop-stops (refuse (ltb spillMost (x .spill + l)) (ImpossibleStep 0) Yes) x (gauged Yes (movedTo x t e (x .spill + l)))
-      (row-only (ltb spillMost (x .spill + l)) (ImpossibleStep 0) Yes here yes-only) (λ r q. clash (cc))
+      (row-only (ltb spillMost (x .spill + l)) (ImpossibleStep 0) Yes here yes-only) (λ _ r q. clash (cc))
   landed-stops here x t Impossible = λ r e. let same : ImpossibleStep 0 ≡ r = cc in (refl, rw (sym same) here)
 
   -- 12, 13 and 15
@@ -63,13 +63,17 @@ module _ (By : Refusal → Type 0) where
       stop-stops (refuse (leb (length (g .arcs)) a) (ArcNumber 0) other) x (landed x (arcAt g a .target) f)
       (row-only (leb (length (g .arcs)) a) (ArcNumber 0) other number
       (row-only (not (eqb (arcAt g a .source) (x .mode))) (OtherMode 0) Yes mode yes-only))
-      (landed-stops step x (arcAt g a .target) f)
+      (λ _. landed-stops step x (arcAt g a .target) f)
 
--- what a step is refused by: 1 to 5, 6, 22 where the gauge does not match, or 12, 13 or 15; the last four have detail 0
+-- what a step is refused by: 1 to 5; else 6; else 22, where the gauge does not match; else 12, 13 or 15; the last four have detail 0
 abbrev pub StepRefusal : ℕ → ℕ → ℕ → Lists → ℕ → Gauge → Refusal → Type 0
 StepRefusal n s k l b x r =
-    (fitness n s k l ≡ Refused r) ⊎ (levelsOf b (x .charge) ≡ Refused r) ⊎ ((Matches (automatonOf n s k l) b x → ⊥) × (r ≡ MixedGauge))
-    ⊎ (r ≡ ArcNumber 0) ⊎ (r ≡ OtherMode 0) ⊎ (r ≡ ImpossibleStep 0)
+    (fitness n s k l ≡ Refused r)
+    ⊎ ((fitness n s k l ≡ Yes)
+    × ((levelsOf b (x .charge) ≡ Refused r)
+    ⊎ ((levelsOf b (x .charge) ≡ Yes)
+    × (((Matches (automatonOf n s k l) b x → ⊥) × (r ≡ MixedGauge))
+    ⊎ (Matches (automatonOf n s k l) b x × ((r ≡ ArcNumber 0) ⊎ (r ≡ OtherMode 0) ⊎ (r ≡ ImpossibleStep 0)))))))
 
 -- 22: where the gauge does not match
 match-only : (g : Automaton) (b : ℕ) (x : Gauge) (r : Refusal) → refuse (mixedUp (g .modes) (length (g .arcs)) b x) MixedGauge Yes ≡ Refused r
@@ -85,7 +89,12 @@ unfolding steppedOf movedLevelled movedMatched
 step-stops n s k l b a x =
     let g = automatonOf n s k l in
     let By : Refusal → Type 0 = StepRefusal n s k l b x in
-    stop-stops By (fitness n s k l) x (movedLevelled g b a x) (λ r e. inl e)
-    (stop-stops By (levelsOf b (x .charge)) x (movedMatched g b a x) (λ r e. inr (inl e))
-    (stop-stops By (refuse (mixedUp n (length (g .arcs)) b x) MixedGauge Yes) x (movedOf g b a x) (λ r e. inr (inr (inl (match-only g b x r e))))
-    (moved-stops By (inr (inr (inr (inl refl)))) (inr (inr (inr (inr (inl refl))))) (inr (inr (inr (inr (inr refl))))) g b a x)))
+    let mixed = mixedUp n (length (g .arcs)) b x in
+    stop-stops By (fitness n s k l) x (movedLevelled g b a x) (λ r e. inl e) λ fit.
+    stop-stops By (levelsOf b (x .charge)) x (movedMatched g b a x) (λ r e. inr (fit, inl e)) λ levels.
+    stop-stops By (refuse mixed MixedGauge Yes) x (movedOf g b a x) (λ r e. inr (fit, inr (levels, inl (match-only g b x r e)))) λ through.
+    let match = mixed-no g b x .0 (refuse-yes mixed MixedGauge Yes .0 through .0) in
+    let last : (r : Refusal) → (r ≡ ArcNumber 0) ⊎ (r ≡ OtherMode 0) ⊎ (r ≡ ImpossibleStep 0) → By r =
+    λ r e. inr (fit, inr (levels, inr (match, e)))
+    in
+    moved-stops By (last (ArcNumber 0) (inl refl)) (last (OtherMode 0) (inr (inl refl))) (last (ImpossibleStep 0) (inr (inr refl))) g b a x

@@ -161,7 +161,8 @@ fn step_levelled(gauge: Gauge, model: Model, b: u32, arc: u32) -> Gauged
 }
 
 impl Gauge {
-    // A new gauge with the start mode and the credit c, or the first of 1 to 6 that applies and a gauge of zeros. For all numbers and lists.
+    // A new gauge with the start mode and the credit c, which carries n, the number of arcs and b; or the first of 1 to 6 that applies and a
+    // gauge of zeros. For all numbers and lists.
     pub fn start(
         n: u32,
         start: u32,

@@ -2,7 +2,7 @@
 ghost use mathlib.Core.Path.{_≡_};
 ghost use Rattle.refusals.specs.Refusals.{answer, numbered, answerOf};
 
-// Where a call stops: a case for each number of document 01's table, with its detail where the table names one.
+// Where a call stops: a case for each number of document 01's table, and of document 02, with its detail where one is named.
 pub enum Refusal {
     ModeCount,
     StartMode,
@@ -25,7 +25,7 @@ pub enum Refusal {
     MixedGauge,
 }
 
-// A number of document 01's table and its detail, 0 where the table names none.
+// A number and its detail, 0 where none is named.
 pub struct Answer {
     pub number: u8,
     pub detail: u32,
@@ -39,7 +39,7 @@ fn row(number: u8, detail: u32) -> Answer
 }
 
 impl Refusal {
-    // The number in document 01's table, with the detail.
+    // The number, with the detail.
     pub fn answer(self) -> Answer
         ensures { λ r. ⌜ r ≡ numbered self ⌝ }
     {
