@@ -32,7 +32,7 @@ use Rattle.gauge.specs.declared.Gauged.{Gauged}
 use Rattle.gauge.specs.Gauge.{newGauge, movedTo, noGauge, gauged, startedOf, landed, movedOf, Matches, steppedOf, stopAt, afterGauged}
 use Rattle.gauge.specs.History.{calledAll, stepsOf}
 use Rattle.gauge.proofs.Losses.{lossMost, spilled-most}
-use Rattle.gauge.proofs.Gauges.{landed-full, landed-on, moved-number, moved-mode, moved-lands}
+use Rattle.gauge.proofs.Gauges.{landed-off, landed-full, landed-on, moved-number, moved-mode, moved-lands}
 use Rattle.gauge.proofs.Matching.{old-by, matching-step, mixed-step, yes-kept, step-kept, kept-matches, new-matches}
 
 -- two accepted gauges of one start are equal exactly where their modes, their charges and their totals are
@@ -67,7 +67,7 @@ landed-yes z u (To e l) t x y =
             λ (i, (n, p, k, m)). let r : l ≡ n = cc in absurd (omega arith),
           )
     ]
-landed-yes z u Impossible t x y = (λ q. not-yes (ImpossibleStep 0) z (movedTo z t x y) q, λ (i, (n, p, k, m)). clash (cc))
+landed-yes z u Impossible t x y = (λ q. not-yes (ImpossibleStep 0) z (movedTo z t x y) (sym (landed-off z u) ∙ q), λ (i, (n, p, k, m)). clash (cc))
 
 -- a step on an arc of the model is accepted exactly where the arc is there, it leaves the gauge's mode, the bounded step is possible, and
 -- the total does not pass 64 bits

@@ -10,7 +10,7 @@ use lib.ListN.{length}
 use borrow.Author.Tests.{le-leb, lt-leb, le-ltb, lt-ltb, eq-eqb, ne-eqb}
 use Rattle.limits.specs.Ceilings.{spillMost}
 use Rattle.walks.specs.declared.Step.{Step}
-use Rattle.walks.specs.declared.Step.the-variants.{To}
+use Rattle.walks.specs.declared.Step.the-variants.{To, Impossible}
 use Rattle.walks.specs.BoundedStep.{stepped}
 use Rattle.refusals.specs.declared.Refusal.{Refusal}
 use Rattle.refusals.specs.declared.Refusal.the-variants.{ArcNumber, OtherMode, ImpossibleStep, MixedGauge}
@@ -27,6 +27,10 @@ use Rattle.model.proofs.Held.{arcIn, held-arc, told-verdict, told-holds, told-h
 use Rattle.gauge.specs.declared.Gauge.{Gauge}
 use Rattle.gauge.specs.declared.Gauged.{Gauged}
 use Rattle.gauge.specs.Gauge.{gauge, movedTo, gauged, noGauge, stopAt, landed, startedOf, movedOf, Matches, mixedUp, movedMatched, movedLevelled, steppedOf}
+
+-- a step that is not possible
+pub landed-off : (x : Gauge) (t : ℕ) → landed x t Impossible ≡ gauged (Refused (ImpossibleStep 0)) x
+landed-off x t = refl
 
 module _ (x : Gauge) (t e l : ℕ) where
   -- a step that is possible: the total would pass 64 bits
