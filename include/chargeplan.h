@@ -151,8 +151,8 @@ static inline uint64_t chargeplan_model_search(const struct chargeplan_model *m,
     size_t work_length, uint8_t *plan, size_t plan_length);
 
 /*
- * Starting a gauge. The call is lent no gauge and hands back a new one, in the start mode with charge c and spill 0, which carries n, the
- * number of arcs and b.
+ * Starting a gauge. The call is lent no gauge and hands back a new one, in the start mode with charge c and spill 0, which carries
+ * n, the number of arcs and b.
  *
  * Answers 0, or the first of 1 to 6 that applies and a gauge of zeros.
  */
