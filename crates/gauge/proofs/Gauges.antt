@@ -17,6 +17,7 @@ use Rattle.refusals.specs.declared.Refusal.the-variants.{ArcNumber, OtherMode, 
 use Rattle.refusals.specs.declared.Verdict.{Verdict}
 use Rattle.refusals.specs.declared.Verdict.the-variants.{Yes, Refused}
 use Rattle.refusals.specs.Refusals.{refuse}
+use Rattle.refusals.proofs.Verdicts.{refuse-yes}
 use Rattle.refusals.proofs.Tests.{or-no, differ-no}
 use Rattle.model.specs.declared.Model.{Model}
 use Rattle.model.specs.declared.Fitted.{Fitted}
@@ -75,6 +76,10 @@ module _ (g : Automaton) (b : ℕ) (x : Gauge) where
             record { modes = modes .0 first; arcs = arcs .0 second; bound = bound .0 last },
         λ m. three .1 (two .1 (modes .1 (m .modes), arcs .1 (m .arcs)), bound .1 (m .bound)),
       )
+
+  -- the check lets it through
+  pub match-through : refuse (mixedUp (g .modes) (length (g .arcs)) b x) MixedGauge Yes ≡ Yes → Matches g b x
+  match-through e = mixed-no .0 (refuse-yes (mixedUp (g .modes) (length (g .arcs)) b x) MixedGauge Yes .0 e .0)
 
 module _ (g : Automaton) (b a : ℕ) (x : Gauge) where
   -- 22, and then 12, 13 and 15

@@ -17,7 +17,6 @@ use Rattle.refusals.specs.declared.Refusal.the-variants.{MixedGauge}
 use Rattle.refusals.specs.declared.Verdict.{Verdict}
 use Rattle.refusals.specs.declared.Verdict.the-variants.{Yes, Refused}
 use Rattle.refusals.specs.Refusals.{refuse, andThen}
-use Rattle.refusals.proofs.Verdicts.{refuse-yes}
 use Rattle.model.specs.Automaton.{arcAt, weights}
 use Rattle.model.specs.Lists.{Lists, automatonOf}
 use Rattle.model.specs.Fitness.{fitness, levelsOf}
@@ -25,8 +24,8 @@ use Rattle.gauge.specs.declared.Gauge.{Gauge}
 use Rattle.gauge.specs.declared.Gauged.{Gauged}
 use Rattle.gauge.specs.Gauge.{newGauge, gauged, noGauge, stopAt, startedOf, movedOf, Matches, mixedUp, movedMatched, movedLevelled, steppedOf, oldRule, afterGauged}
 use Rattle.gauge.specs.History.{Call, callModel, called, calledAll, callsOf, stepsOf, weightOf, lostBy}
-use Rattle.gauge.proofs.Gauges.{mixed-no}
-use Rattle.gauge.proofs.Matching.{matching-step, mixed-step, Kept, stop-kept, step-kept, yes-kept, kept-on, kept-matches, new-matches}
+use Rattle.gauge.proofs.Gauges.{match-through}
+use Rattle.gauge.proofs.Matching.{matching-step, mixed-step, Kept, step-kept, yes-kept, kept-on, kept-matches, new-matches}
 use Rattle.gauge.proofs.Follows.{Spills, not-yes, moved-yes, after-yes, after-refused}
 
 -- a check that lets through what is accepted
@@ -42,8 +41,8 @@ called-yes d x y q =
     let (_, levelled) = stop-yes (fitness (d .modes) (d .start) (d .colours) (d .lists)) x (movedLevelled g (d .bound) (d .arc) x) y q in
     let (_, matched) = stop-yes (levelsOf (d .bound) (x .charge)) x (movedMatched g (d .bound) (d .arc) x) y levelled in
     let mixed = mixedUp (g .modes) (length (g .arcs)) (d .bound) x in
-    let (match, moved) = stop-yes (refuse mixed MixedGauge Yes) x (movedOf g (d .bound) (d .arc) x) y matched in
-    (mixed-no g (d .bound) x .0 (refuse-yes mixed MixedGauge Yes .0 match .0), moved)
+    let (through, moved) = stop-yes (refuse mixed MixedGauge Yes) x (movedOf g (d .bound) (d .arc) x) y matched in
+    (match-through g (d .bound) x through, moved)
 
 -- the gauge keeps n, m and b from its start
 called-kept : (d : Call) (x y : Gauge) → called d x ≡ gauged Yes y → Kept x y
@@ -123,8 +122,11 @@ unfolding calledAll
 calls-kept [] x = refl
 calls-kept (d ∷ h) x =
     let u = called d x .gauge in
-    kept-on x u _ (step-kept (d .modes) (d .start) (d .colours) (d .lists) (d .bound) (d .arc) x)
-    (stop-kept (called d x .verdict) u (calledAll h u) (calls-kept h u))
+    kept-on x u _ (step-kept (d .modes) (d .start) (d .colours) (d .lists) (d .bound) (d .arc) x) (go (called d x .verdict) u (calledAll h u) (calls-kept h u))
+  where
+    go : (v : Verdict) (u : Gauge) (y : Gauged) → Kept u (y .gauge) → Kept u (stopAt v u y .gauge)
+    go Yes u y kept = kept
+    go (Refused r) u y kept = refl
 
 -- every call d of an accepted history had them
 pub calls-match : (h : List Call) (d : Call) (i : List Call) (x y : Gauge) → calledAll (h ++ d ∷ i) x ≡ gauged Yes y → Matches (callModel d) (d .bound) x

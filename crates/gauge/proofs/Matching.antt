@@ -1,26 +1,20 @@
 -- What 22 does to a step. Document 02, Ask 3: "Steps on a matching gauge follow the old rule, and a mixed-up gauge stays as found"; and no step
 -- changes the three numbers that it compares. Assumes nothing.
 use mathlib.Core.Path.{_≡_, refl, sym, ap, _∙_, subst}
-use mathlib.Core.Bool.{true, false, not, not-eq-not}
-use mathlib.Core.Logic.{_↔_}
-use Prim.Native.Nat.{ℕ, _+_}
-use lib.Dec.{leb, ltb, eqb}
-use lib.ListN.{length}
-use Rattle.limits.specs.Ceilings.{spillMost}
-use Rattle.walks.specs.declared.Step.{Step}
-use Rattle.walks.specs.declared.Step.the-variants.{To, Impossible}
-use Rattle.walks.specs.BoundedStep.{stepped}
-use Rattle.refusals.specs.declared.Refusal.the-variants.{ArcNumber, OtherMode, ImpossibleStep, MixedGauge}
+use mathlib.Core.Bool.{true, false, not-eq-not}
+use mathlib.Core.Logic.{_↔_, ⊎-elim}
+use Prim.Native.Nat.{ℕ}
+use Rattle.refusals.specs.declared.Refusal.the-variants.{MixedGauge}
 use Rattle.refusals.specs.declared.Verdict.{Verdict}
 use Rattle.refusals.specs.declared.Verdict.the-variants.{Yes, Refused}
-use Rattle.refusals.specs.Refusals.{refuse}
-use Rattle.model.specs.Automaton.{Automaton, arcAt}
+use Rattle.model.specs.Automaton.{Automaton}
 use Rattle.model.specs.Lists.{Lists, automatonOf}
 use Rattle.model.specs.Fitness.{fitness, levelsOf}
 use Rattle.gauge.specs.declared.Gauge.{Gauge}
 use Rattle.gauge.specs.declared.Gauged.{Gauged}
-use Rattle.gauge.specs.Gauge.{newGauge, movedTo, gauged, stopAt, landed, movedOf, Matches, mixedUp, movedMatched, movedLevelled, steppedOf, oldRule}
+use Rattle.gauge.specs.Gauge.{newGauge, movedTo, gauged, stopAt, movedOf, Matches, movedLevelled, steppedOf, oldRule}
 use Rattle.gauge.proofs.Gauges.{mixed-no, matched-by}
+use Rattle.gauge.proofs.Stops.{step-outcome}
 
 module _ (n s k : ℕ) (l : Lists) (b a : ℕ) (x : Gauge) where
   abbrev g : Automaton
@@ -45,30 +39,9 @@ module _ (n s k : ℕ) (l : Lists) (b a : ℕ) (x : Gauge) where
 abbrev pub Kept : Gauge → Gauge → Type 0
 Kept x z = z ≡ movedTo x (z .mode) (z .charge) (z .spill)
 
-pub stop-kept : (v : Verdict) (x : Gauge) (y : Gauged) → Kept x (y .gauge) → Kept x (stopAt v x y .gauge)
-stop-kept Yes x y kept = kept
-stop-kept (Refused r) x y kept = refl
-
-landed-kept : (x : Gauge) (t : ℕ) (f : Step) → Kept x (landed x t f .gauge)
-landed-kept x t (To e l) =
-    stop-kept (refuse (ltb spillMost (x .spill + l)) (ImpossibleStep 0) Yes) x (gauged Yes (movedTo x t e (x .spill + l))) refl
-landed-kept x t Impossible = refl
-
-moved-kept : (g : Automaton) (b a : ℕ) (x : Gauge) → Kept x (movedOf g b a x .gauge)
-unfolding movedOf
-moved-kept g b a x =
-    let other = refuse (not (eqb (arcAt g a .source) (x .mode))) (OtherMode 0) Yes in
-    let f = stepped b (arcAt g a .weight) (x .charge) in
-    stop-kept (refuse (leb (length (g .arcs)) a) (ArcNumber 0) other) x (landed x (arcAt g a .target) f) (landed-kept x (arcAt g a .target) f)
-
 -- a step keeps them, accepted or refused
 pub step-kept : (n s k : ℕ) (l : Lists) (b a : ℕ) (x : Gauge) → Kept x (steppedOf n s k l b a x .gauge)
-unfolding steppedOf movedLevelled movedMatched
-step-kept n s k l b a x =
-    let g = automatonOf n s k l in
-    stop-kept (fitness n s k l) x (movedLevelled g b a x)
-    (stop-kept (levelsOf b (x .charge)) x (movedMatched g b a x)
-    (stop-kept (refuse (mixedUp n (length (g .arcs)) b x) MixedGauge Yes) x (movedOf g b a x) (moved-kept g b a x)))
+step-kept n s k l b a x = ⊎-elim (λ (r, _, e). rw e refl) (λ (t, e, u, p). rw p refl) (step-outcome n s k l b a x)
 
 -- so the gauge of an accepted one has them
 pub yes-kept : (x u : Gauge) (y : Gauged) → y ≡ gauged Yes u → Kept x (y .gauge) → Kept x u

@@ -1,6 +1,6 @@
 -- Where a step of the gauge stops, on all inputs. Document 01: "A gauge step uses 1 to 6, then 12, 13, 15 with detail 0, and a refusal leaves
 -- the gauge as found." Document 02, Ask 3: 22 "is looked at after 6 and before 12, detail 0". Assumes nothing.
-use mathlib.Core.Path.{_≡_, refl, sym}
+use mathlib.Core.Path.{_≡_, refl, sym, ap}
 use mathlib.Core.Bool.{Bool, true, false, not}
 use mathlib.Core.Logic.{_⊎_, inl, inr}
 use Prim.Native.Nat.{ℕ, _+_}
@@ -15,23 +15,23 @@ use Rattle.refusals.specs.declared.Refusal.the-variants.{ArcNumber, OtherMode, 
 use Rattle.refusals.specs.declared.Verdict.{Verdict}
 use Rattle.refusals.specs.declared.Verdict.the-variants.{Yes, Refused}
 use Rattle.refusals.specs.Refusals.{refuse}
-use Rattle.refusals.proofs.Verdicts.{clash, refuse-yes}
+use Rattle.refusals.proofs.Verdicts.{clash}
 use Rattle.model.specs.Automaton.{Automaton, arcAt}
 use Rattle.model.specs.Lists.{Lists, automatonOf}
 use Rattle.model.specs.Fitness.{fitness, levelsOf}
 use Rattle.gauge.specs.declared.Gauge.{Gauge}
 use Rattle.gauge.specs.declared.Gauged.{Gauged}
 use Rattle.gauge.specs.Gauge.{movedTo, gauged, stopAt, landed, movedOf, Matches, mixedUp, movedMatched, movedLevelled, steppedOf}
-use Rattle.gauge.proofs.Gauges.{mixed-no}
+use Rattle.gauge.proofs.Gauges.{mixed-no, match-through}
 
 module _ (By : Refusal → Type 0) where
   -- what v is refused by
   abbrev OnlyBy : Verdict → Type 0
   OnlyBy v = (r : Refusal) → v ≡ Refused r → By r
 
-  -- the same of y, which then hands x back
-  abbrev Stops : Gauge → Gauged → Type 0
-  Stops x y = (r : Refusal) → y .verdict ≡ Refused r → (y .gauge ≡ x) × By r
+  -- what a step of x hands back: x, refused by one of these, or x moved to another mode, charge and total, and in nothing else
+  abbrev pub Outcome : Gauge → Gauged → Type 0
+  Outcome x y = ((r : Refusal) × By r × (y ≡ gauged (Refused r) x)) ⊎ ((t : ℕ) × (e : ℕ) × (s : ℕ) × (y ≡ gauged Yes (movedTo x t e s)))
 
   -- nothing refuses
   yes-only : OnlyBy Yes
@@ -43,27 +43,27 @@ module _ (By : Refusal → Type 0) where
   row-only false q v here after = after
 
   -- a check that hands x back where it refuses, and then what follows
-  stop-stops : (v : Verdict) (x : Gauge) (y : Gauged) → OnlyBy v → (v ≡ Yes → Stops x y) → Stops x (stopAt v x y)
-  stop-stops Yes x y first second = second refl
-  stop-stops (Refused q) x y first second = λ r e. (refl, first r e)
+  stop-outcome : (v : Verdict) (x : Gauge) (y : Gauged) → OnlyBy v → (v ≡ Yes → Outcome x y) → Outcome x (stopAt v x y)
+  stop-outcome Yes x y first second = second refl
+  stop-outcome (Refused r) x y first second = inl (r, first r refl, refl)
 
   -- 15
-  landed-stops : By (ImpossibleStep 0) → (x : Gauge) (t : ℕ) (s : Step) → Stops x (landed x t s)
-  landed-stops here x t (To e l) =
-      stop-stops (refuse (ltb spillMost (x .spill + l)) (ImpossibleStep 0) Yes) x (gauged Yes (movedTo x t e (x .spill + l)))
-      (row-only (ltb spillMost (x .spill + l)) (ImpossibleStep 0) Yes here yes-only) (λ _ r q. clash (cc))
-  landed-stops here x t Impossible = λ r e. let same : ImpossibleStep 0 ≡ r = cc in (refl, rw (sym same) here)
+  landed-outcome : By (ImpossibleStep 0) → (x : Gauge) (t : ℕ) (s : Step) → Outcome x (landed x t s)
+  landed-outcome here x t (To e l) =
+      stop-outcome (refuse (ltb spillMost (x .spill + l)) (ImpossibleStep 0) Yes) x (gauged Yes (movedTo x t e (x .spill + l)))
+      (row-only (ltb spillMost (x .spill + l)) (ImpossibleStep 0) Yes here yes-only) (λ _. inr (t, e, x .spill + l, refl))
+  landed-outcome here x t Impossible = inl (ImpossibleStep 0, here, refl)
 
   -- 12, 13 and 15
-  moved-stops : By (ArcNumber 0) → By (OtherMode 0) → By (ImpossibleStep 0) → (g : Automaton) (b a : ℕ) (x : Gauge) → Stops x (movedOf g b a x)
+  moved-outcome : By (ArcNumber 0) → By (OtherMode 0) → By (ImpossibleStep 0) → (g : Automaton) (b a : ℕ) (x : Gauge) → Outcome x (movedOf g b a x)
   unfolding movedOf
-  moved-stops number mode step g b a x =
+  moved-outcome number mode step g b a x =
       let other = refuse (not (eqb (arcAt g a .source) (x .mode))) (OtherMode 0) Yes in
       let f = stepped b (arcAt g a .weight) (x .charge) in
-      stop-stops (refuse (leb (length (g .arcs)) a) (ArcNumber 0) other) x (landed x (arcAt g a .target) f)
+      stop-outcome (refuse (leb (length (g .arcs)) a) (ArcNumber 0) other) x (landed x (arcAt g a .target) f)
       (row-only (leb (length (g .arcs)) a) (ArcNumber 0) other number
       (row-only (not (eqb (arcAt g a .source) (x .mode))) (OtherMode 0) Yes mode yes-only))
-      (λ _. landed-stops step x (arcAt g a .target) f)
+      (λ _. landed-outcome step x (arcAt g a .target) f)
 
 -- what a step is refused by: 1 to 5; else 6; else 22, where the gauge does not match; else 12, 13 or 15; the last four have detail 0
 abbrev pub StepRefusal : ℕ → ℕ → ℕ → Lists → ℕ → Gauge → Refusal → Type 0
@@ -83,18 +83,26 @@ match-only g b x r e = (
   row-only (λ r. r ≡ MixedGauge) (mixedUp (g .modes) (length (g .arcs)) b x) MixedGauge Yes refl (yes-only (λ r. r ≡ MixedGauge)) r e,
 )
 
-pub step-stops : (n s k : ℕ) (l : Lists) (b a : ℕ) (x : Gauge) (r : Refusal) → steppedOf n s k l b a x .verdict ≡ Refused r
-    → (steppedOf n s k l b a x .gauge ≡ x) × StepRefusal n s k l b x r
-unfolding steppedOf movedLevelled movedMatched
-step-stops n s k l b a x =
-    let g = automatonOf n s k l in
-    let By : Refusal → Type 0 = StepRefusal n s k l b x in
-    let mixed = mixedUp n (length (g .arcs)) b x in
-    stop-stops By (fitness n s k l) x (movedLevelled g b a x) (λ r e. inl e) λ fit.
-    stop-stops By (levelsOf b (x .charge)) x (movedMatched g b a x) (λ r e. inr (fit, inl e)) λ levels.
-    stop-stops By (refuse mixed MixedGauge Yes) x (movedOf g b a x) (λ r e. inr (fit, inr (levels, inl (match-only g b x r e)))) λ through.
-    let match = mixed-no g b x .0 (refuse-yes mixed MixedGauge Yes .0 through .0) in
-    let last : (r : Refusal) → (r ≡ ArcNumber 0) ⊎ (r ≡ OtherMode 0) ⊎ (r ≡ ImpossibleStep 0) → By r =
-    λ r e. inr (fit, inr (levels, inr (match, e)))
-    in
-    moved-stops By (last (ArcNumber 0) (inl refl)) (last (OtherMode 0) (inr (inl refl))) (last (ImpossibleStep 0) (inr (inr refl))) g b a x
+module _ (n s k : ℕ) (l : Lists) (b a : ℕ) (x : Gauge) where
+  pub step-outcome : Outcome (StepRefusal n s k l b x) x (steppedOf n s k l b a x)
+  unfolding steppedOf movedLevelled movedMatched
+  step-outcome =
+      let g = automatonOf n s k l in
+      let By : Refusal → Type 0 = StepRefusal n s k l b x in
+      stop-outcome By (fitness n s k l) x (movedLevelled g b a x) (λ r e. inl e) λ fit.
+      stop-outcome By (levelsOf b (x .charge)) x (movedMatched g b a x) (λ r e. inr (fit, inl e)) λ levels.
+      stop-outcome By (refuse (mixedUp n (length (g .arcs)) b x) MixedGauge Yes) x (movedOf g b a x)
+      (λ r e. inr (fit, inr (levels, inl (match-only g b x r e)))) λ through.
+      let last : (r : Refusal) → (r ≡ ArcNumber 0) ⊎ (r ≡ OtherMode 0) ⊎ (r ≡ ImpossibleStep 0) → By r =
+      λ r e. inr (fit, inr (levels, inr (match-through g b x through, e)))
+      in
+      moved-outcome By (last (ArcNumber 0) (inl refl)) (last (OtherMode 0) (inr (inl refl))) (last (ImpossibleStep 0) (inr (inr refl))) g b a x
+
+  -- so a refused step hands the gauge back
+  pub step-stops : (r : Refusal) → steppedOf n s k l b a x .verdict ≡ Refused r → (steppedOf n s k l b a x .gauge ≡ x) × StepRefusal n s k l b x r
+  step-stops r e = go step-outcome
+    where
+      go : Outcome (StepRefusal n s k l b x) x (steppedOf n s k l b a x) → (steppedOf n s k l b a x .gauge ≡ x) × StepRefusal n s k l b x r
+      go (inl (q, by, p)) =
+          let same : q ≡ r = cc in (ap {B = Gauge} (λ (y : Gauged). y .gauge) p, rw (sym same) by)
+      go (inr (t, f, u, p)) = clash (cc)
