@@ -19,7 +19,7 @@ enum {
     SET_MOST = 16,
     REPETITIONS = 15,
     SAMPLE_MICROSECONDS = 5000,
-    DRAWS_MOST = 100000,
+    TRIES_MOST = 100000,
     WORK_WORDS = CHARGEPLAN_WORK_WORDS_MOST,
     PLAN_BYTES = CHARGEPLAN_PLAN_BYTES_MOST
 };
@@ -33,7 +33,7 @@ struct version {
 /* A set of inputs of one kind that have the same number as answer. Plans to be judged have `length` arcs; 0 is for search. */
 struct family {
     const char *name;
-    void (*draw)(struct input *in);
+    void (*make)(struct input *in);
     size_t count;
     uint32_t number;
     uint32_t length;
@@ -46,21 +46,24 @@ static const struct version versions[VERSIONS] = {
 };
 
 static const struct family families[] = {
-    {"search, random, 64 modes, 255 arcs, b 127, with a plan", draw_64_modes, 16, 0, 0},
-    {"search, random, 64 modes, 255 arcs, b 127, without", draw_64_modes, 16, 10, 0},
-    {"search, chain of 64 modes with +1 loops, b 127, without", draw_chain, 1, 10, 0},
-    {"search, document 001's figure 6, b 60, with a plan", draw_figure_6, 1, 0, 0},
-    {"search, ring of 64 modes, 255 arcs, b 127, without", draw_ring, 1, 10, 0},
-    {"search, random, 8 modes, 64 arcs, b 1,023, with a plan", draw_8_modes, 16, 0, 0},
-    {"search, random, 8 modes, 64 arcs, b 1,023, without", draw_8_modes, 16, 10, 0},
-    {"search, 1 mode, 255 arcs, b 8,191, k 0, with a plan", draw_one_mode, 16, 0, 0},
-    {"search, 1 mode, 255 arcs, b 8,191, k 4, with a plan", draw_one_mode_colours, 16, 0, 0},
-    {"search, 1 mode, 255 arcs, b 8,191, k 1, without", draw_one_mode_climb, 4, 10, 0},
-    {"judging, 1 arc", draw_plan, 16, 0, 1},
-    {"judging, 255 arcs", draw_plan, 16, 0, 255},
-    {"judging, 4,000 arcs", draw_plan, 16, 0, 4000},
-    {"judging, 65,000 arcs", draw_plan, 16, 0, 65000},
-    {"judging, 65,000 arcs, many steps cut off at the bound", draw_steep_plan, 16, 0, 65000},
+    {"search, random, 64 modes, 255 arcs, b 127, with a plan", make_64_modes, 16, 0, 0},
+    {"search, random, 64 modes, 255 arcs, b 127, without", make_64_modes, 16, 10, 0},
+    {"search, chain of 64 modes with +1 loops, b 127, without", make_chain, 1, 10, 0},
+    {"search, document 001's figure 6, b 60, with a plan", make_figure_6, 1, 0, 0},
+    {"search, ring of 64 modes, 255 arcs, b 127, without", make_ring, 1, 10, 0},
+    {"search, random, 8 modes, 64 arcs, b 1,023, with a plan", make_8_modes, 16, 0, 0},
+    {"search, random, 8 modes, 64 arcs, b 1,023, without", make_8_modes, 16, 10, 0},
+    {"search, 1 mode, 255 arcs, b 8,191, k 0, with a plan", make_one_mode, 16, 0, 0},
+    {"search, 1 mode, 255 arcs, b 8,191, k 4, with a plan", make_one_mode_colours, 16, 0, 0},
+    {"search, 1 mode, 255 arcs, b 8,191, k 1, without", make_one_mode_climb, 4, 10, 0},
+    {"judging, 1 arc", make_plan, 16, 0, 1},
+    {"judging, 255 arcs", make_plan, 16, 0, 255},
+    {"judging, 4,000 arcs", make_plan, 16, 0, 4000},
+    {"judging, 65,000 arcs", make_plan, 16, 0, 65000},
+    {"judging, 65,000 arcs, many steps cut off at the bound", make_steep_plan, 16, 0, 65000},
+    {"draw and gain: search, 64 modes, 255 arcs, b 127, with", make_64_modes_both, 16, 0, 0},
+    {"draw and gain: search, 64 modes, 255 arcs, without", make_64_modes_both, 16, 10, 0},
+    {"draw and gain: judging, 65,000 arcs", make_plan_both, 16, 0, 65000},
 };
 
 /* Allocated once: the inputs of a family, their plans to be judged, the buffers of search, and what the library left in those. */
@@ -77,15 +80,16 @@ static void fail(const struct family *family, const char *what)
 
 static uint64_t call_search(const struct version *version, const struct input *in)
 {
-    return version->search(in->n, in->start, in->k, in->sources, in->arcs, in->targets, in->arcs, in->weights, in->arcs,
-                           in->colours, in->arcs, in->c, in->b, work, chargeplan_work_words(in->n, in->k, in->b), plan,
-                           chargeplan_plan_bytes(in->n, in->k, in->b));
+    return version->search(in->n, in->start, in->k, in->sources, in->arcs, in->targets, in->arcs, in->draws, in->arcs,
+                           in->gains, in->arcs, in->colours, in->arcs, in->c, in->b, work,
+                           chargeplan_work_words(in->n, in->k, in->b), plan, chargeplan_plan_bytes(in->n, in->k, in->b));
 }
 
 static uint64_t call_judge(const struct version *version, const struct input *in)
 {
-    return version->judge(in->n, in->start, in->k, in->sources, in->arcs, in->targets, in->arcs, in->weights, in->arcs,
-                          in->colours, in->arcs, in->c, in->b, in->p, in->q, in->plan, (size_t)in->p + in->q);
+    return version->judge(in->n, in->start, in->k, in->sources, in->arcs, in->targets, in->arcs, in->draws, in->arcs,
+                          in->gains, in->arcs, in->colours, in->arcs, in->c, in->b, in->p, in->q, in->plan,
+                          (size_t)in->p + in->q);
 }
 
 static uint64_t call(const struct family *family, const struct version *version, const struct input *in)
@@ -102,19 +106,19 @@ static void fill_buffers(void)
         plan[i] = (uint8_t)(i * 167 + 1);
 }
 
-/* Draws each input until the answer is the family's. */
-static void draw_inputs(const struct family *family)
+/* Makes each input until the answer is the family's. */
+static void make_inputs(const struct family *family)
 {
     for (size_t i = 0; i < family->count; i++) {
         struct input *in = &inputs[i];
-        size_t draws = 0;
+        size_t tries = 0;
         in->p = family->length / 4;
         in->q = family->length - in->p;
         in->plan = judged[i];
         do {
-            if (draws++ == DRAWS_MOST)
-                fail(family, "no such input was drawn");
-            family->draw(in);
+            if (tries++ == TRIES_MOST)
+                fail(family, "no such input was made");
+            family->make(in);
         } while (chargeplan_number(call(family, &versions[0], in)) != family->number);
     }
 }
@@ -195,7 +199,7 @@ int main(void)
     print_heading();
     for (size_t f = 0; f < sizeof families / sizeof families[0]; f++) {
         double best[VERSIONS];
-        draw_inputs(&families[f]);
+        make_inputs(&families[f]);
         for (size_t i = 0; i < families[f].count; i++)
             compare(&families[f], &inputs[i]);
         measure(&families[f], best);

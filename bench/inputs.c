@@ -1,7 +1,7 @@
 #include "inputs.h"
 
 /* A random number of 32 bits (xorshift64*); the same numbers in every run. */
-static uint32_t draw(void)
+static uint32_t random_word(void)
 {
     static uint64_t state = 0x9e3779b97f4a7c15U;
 
@@ -13,7 +13,7 @@ static uint32_t draw(void)
 
 static uint32_t below(uint32_t count)
 {
-    return (uint32_t)((uint64_t)draw() * count >> 32);
+    return (uint32_t)((uint64_t)random_word() * count >> 32);
 }
 
 static int16_t between(int32_t least, int32_t most)
@@ -22,7 +22,7 @@ static int16_t between(int32_t least, int32_t most)
 }
 
 /* A colour byte: each of k colours with a chance of one in `rarity`. */
-static uint8_t draw_colours(uint32_t k, uint32_t rarity)
+static uint8_t make_colours(uint32_t k, uint32_t rarity)
 {
     uint32_t colours = 0;
 
@@ -42,13 +42,19 @@ static void set_numbers(struct input *in, uint32_t n, uint32_t k, uint32_t c, ui
     in->b = b;
 }
 
-static void add_arc(struct input *in, uint32_t source, uint32_t target, int16_t weight, uint8_t colours)
+static void add_move(struct input *in, uint32_t source, uint32_t target, uint16_t draw, uint16_t gain, uint8_t colours)
 {
     in->sources[in->arcs] = (uint8_t)source;
     in->targets[in->arcs] = (uint8_t)target;
-    in->weights[in->arcs] = weight;
+    in->draws[in->arcs] = draw;
+    in->gains[in->arcs] = gain;
     in->colours[in->arcs] = colours;
     in->arcs++;
+}
+
+static void add_arc(struct input *in, uint32_t source, uint32_t target, int16_t weight, uint8_t colours)
+{
+    add_move(in, source, target, chargeplan_draw_of(weight), chargeplan_gain_of(weight), colours);
 }
 
 static void add_random_arcs(struct input *in, size_t count, int32_t least, int32_t most, uint32_t rarity)
@@ -57,23 +63,35 @@ static void add_random_arcs(struct input *in, size_t count, int32_t least, int32
         uint32_t source = below(in->n);
         uint32_t target = below(in->n);
         int16_t weight = between(least, most);
-        add_arc(in, source, target, weight, draw_colours(in->k, rarity));
+        add_arc(in, source, target, weight, make_colours(in->k, rarity));
     }
 }
 
-void draw_64_modes(struct input *in)
+/* Arcs with both parts. */
+static void add_random_moves(struct input *in, size_t count, uint32_t draw_most, uint32_t gain_most, uint32_t rarity)
+{
+    for (size_t a = 0; a < count; a++) {
+        uint32_t source = below(in->n);
+        uint32_t target = below(in->n);
+        uint16_t draw = (uint16_t)below(draw_most + 1);
+        uint16_t gain = (uint16_t)below(gain_most + 1);
+        add_move(in, source, target, draw, gain, make_colours(in->k, rarity));
+    }
+}
+
+void make_64_modes(struct input *in)
 {
     set_numbers(in, 64, 4, 63, 127);
     add_random_arcs(in, 255, -100, 15, 32);
 }
 
-void draw_8_modes(struct input *in)
+void make_8_modes(struct input *in)
 {
     set_numbers(in, 8, 4, 511, 1023);
     add_random_arcs(in, 64, -800, 120, 32);
 }
 
-void draw_chain(struct input *in)
+void make_chain(struct input *in)
 {
     set_numbers(in, 64, 1, 0, 127);
     for (uint32_t mode = 0; mode < in->n; mode++)
@@ -82,7 +100,7 @@ void draw_chain(struct input *in)
         add_arc(in, mode, mode + 1, -127, 1);
 }
 
-void draw_figure_6(struct input *in)
+void make_figure_6(struct input *in)
 {
     enum { B = 60 };
 
@@ -97,7 +115,7 @@ void draw_figure_6(struct input *in)
     add_arc(in, B + 1, 1, 0, 1);
 }
 
-void draw_ring(struct input *in)
+void make_ring(struct input *in)
 {
     set_numbers(in, 64, 4, 127, 127);
     in->start = 1;
@@ -114,19 +132,19 @@ void draw_ring(struct input *in)
     }
 }
 
-void draw_one_mode(struct input *in)
+void make_one_mode(struct input *in)
 {
     set_numbers(in, 1, 0, 4095, 8191);
     add_random_arcs(in, 255, -10000, 10000, 2);
 }
 
-void draw_one_mode_colours(struct input *in)
+void make_one_mode_colours(struct input *in)
 {
     set_numbers(in, 1, 4, 4095, 8191);
     add_random_arcs(in, 255, -10000, 10000, 2);
 }
 
-void draw_one_mode_climb(struct input *in)
+void make_one_mode_climb(struct input *in)
 {
     set_numbers(in, 1, 1, 0, 8191);
     for (size_t a = 0; a < 254; a++)
@@ -134,13 +152,13 @@ void draw_one_mode_climb(struct input *in)
     add_arc(in, 0, 0, 1, 0);
 }
 
-/* An arc that is possible from a mode with a charge, to a target or (target n) to any. Returns false where some draws give none. */
-static bool draw_step(const struct input *in, uint32_t mode, uint32_t target, int32_t charge, uint8_t *arc)
+/* An arc that is possible from a mode with a charge, to a target or (target n) to any. Returns false where some tries give none. */
+static bool make_step(const struct input *in, uint32_t mode, uint32_t target, uint32_t charge, uint8_t *arc)
 {
     for (size_t tries = 0; tries < 1000; tries++) {
         uint32_t a = below((uint32_t)in->arcs);
         bool right = in->sources[a] == mode && (target == in->n || in->targets[a] == target);
-        if (right && charge + in->weights[a] >= 0) {
+        if (right && charge >= in->draws[a]) {
             *arc = (uint8_t)a;
             return true;
         }
@@ -148,41 +166,56 @@ static bool draw_step(const struct input *in, uint32_t mode, uint32_t target, in
     return false;
 }
 
-/* Draws p + q arcs for a model. The last goes to the mode that the cycle begins in. Returns false where it does not come through. */
-static bool draw_arcs(struct input *in)
+/* Makes p + q arcs for a model. The last goes to the mode that the cycle begins in. Returns false where it does not come through. */
+static bool make_arcs(struct input *in)
 {
     uint32_t mode = in->start;
     uint32_t first = in->start;
-    int32_t charge = (int32_t)in->c;
+    uint32_t charge = in->c;
 
     for (uint32_t i = 0; i < in->p + in->q; i++) {
         if (i == in->p)
             first = mode;
         uint32_t target = i + 1 == in->p + in->q ? first : in->n;
-        if (!draw_step(in, mode, target, charge, &in->plan[i]))
+        if (!make_step(in, mode, target, charge, &in->plan[i]))
             return false;
-        mode = in->targets[in->plan[i]];
-        charge += in->weights[in->plan[i]];
-        if (charge > (int32_t)in->b)
-            charge = (int32_t)in->b;
+        uint8_t arc = in->plan[i];
+        mode = in->targets[arc];
+        charge = charge - in->draws[arc] + in->gains[arc];
+        if (charge > in->b)
+            charge = in->b;
     }
     return true;
 }
 
-static void draw_model_and_arcs(struct input *in, int32_t weight)
+static void make_model_and_arcs(struct input *in, int32_t weight)
 {
     do {
         set_numbers(in, 8, 4, 4095, 8191);
         add_random_arcs(in, 255, -weight, weight, 2);
-    } while (!draw_arcs(in));
+    } while (!make_arcs(in));
 }
 
-void draw_plan(struct input *in)
+void make_plan(struct input *in)
 {
-    draw_model_and_arcs(in, 1000);
+    make_model_and_arcs(in, 1000);
 }
 
-void draw_steep_plan(struct input *in)
+void make_steep_plan(struct input *in)
 {
-    draw_model_and_arcs(in, 8191);
+    make_model_and_arcs(in, 8191);
+}
+
+void make_64_modes_both(struct input *in)
+{
+    set_numbers(in, 64, 4, 63, 127);
+    add_random_moves(in, 255, 100, 75, 32);
+}
+
+void make_plan_both(struct input *in)
+{
+    do {
+        set_numbers(in, 8, 4, 4095, 8191);
+        add_random_moves(in, 255, 1000, 1000, 2);
+    } while (!make_arcs(in));
 }

@@ -1,4 +1,7 @@
-/* The inputs of the benchmark: models with credit and bound, and for judging a plan. */
+/*
+ * The inputs of the benchmark: models with credit and bound, and for judging a plan. Where an arc has a weight w, it draws -w or gains w;
+ * only the last two kinds have arcs that do both.
+ */
 #ifndef INPUTS_H
 #define INPUTS_H
 
@@ -15,7 +18,8 @@ struct input {
     size_t arcs;
     uint8_t sources[CHARGEPLAN_ARCS_MOST];
     uint8_t targets[CHARGEPLAN_ARCS_MOST];
-    int16_t weights[CHARGEPLAN_ARCS_MOST];
+    uint16_t draws[CHARGEPLAN_ARCS_MOST];
+    uint16_t gains[CHARGEPLAN_ARCS_MOST];
     uint8_t colours[CHARGEPLAN_ARCS_MOST];
     uint32_t c;
     uint32_t b;
@@ -25,16 +29,16 @@ struct input {
 };
 
 /* 64 modes, 255 arcs, k 4, b 127. Most arcs draw, and a colour is on one arc in 32, so that some models have a plan and some have none. */
-void draw_64_modes(struct input *in);
+void make_64_modes(struct input *in);
 
 /* 8 modes, 64 arcs, k 4, b 1,023, in the same way. */
-void draw_8_modes(struct input *in);
+void make_8_modes(struct input *in);
 
 /*
  * A chain of 64 modes, k 1, b 127, without a plan: each mode has a +1 loop, and an arc of weight -127 to the next mode that meets the
  * colour. That arc is on no cycle, so no cycle meets the colour. Each pass fills every later mode from 0 to 127, one entry at a time.
  */
-void draw_chain(struct input *in);
+void make_chain(struct input *in);
 
 /*
  * Figure 6 of document 001 (example 4.2) with b 60, where two iterations of its algorithm do not suffice; with a plan. 62 modes, numbered
@@ -44,7 +48,7 @@ void draw_chain(struct input *in);
  * 2, and so on: only the cycle by mode b keeps its charge, and search tries the modes 0 to b. The text of the example gives all weights but
  * those of the loops, which it calls positive: 1 here. It names no credit: 0 here, since the first arc fills the battery from any.
  */
-void draw_figure_6(struct input *in);
+void make_figure_6(struct input *in);
 
 /*
  * A ring of 64 modes on which every peak is lost, 255 arcs, k 4, b 127, without a plan. The start is mode 1 with 127, and the arcs of the
@@ -55,21 +59,27 @@ void draw_figure_6(struct input *in);
  * level 0 of the modes before its own, one entry at a time; each entry has four arcs to try, two of them -1 loops, which raise nothing. In
  * all these are 2.3 million entries, where 64 passes have room for 2.6 million, and 9.2 million tries.
  */
-void draw_ring(struct input *in);
+void make_ring(struct input *in);
 
 /* One mode, 255 arcs of any weight, k 0, b 8,191, with a plan: few entries, so that checks and clearing count. */
-void draw_one_mode(struct input *in);
+void make_one_mode(struct input *in);
 
 /* The same with k 4 and a colour on one arc in 2. */
-void draw_one_mode_colours(struct input *in);
+void make_one_mode_colours(struct input *in);
 
 /* One mode, 255 arcs, k 1, b 8,191, without a plan: no arc meets the colour, one gains 1 and the others draw. The charge climbs from 0. */
-void draw_one_mode_climb(struct input *in);
+void make_one_mode_climb(struct input *in);
 
 /* 8 modes, 255 arcs with weights from -1,000 to 1,000, k 4, b 8,191, and p + q arcs that are possible, gains and draws in random order. */
-void draw_plan(struct input *in);
+void make_plan(struct input *in);
 
 /* The same with weights from -8,191 to 8,191: many steps are cut off at the bound. */
-void draw_steep_plan(struct input *in);
+void make_steep_plan(struct input *in);
+
+/* 64 modes, 255 arcs, k 4, b 127; each arc draws up to 100 and gains up to 75. */
+void make_64_modes_both(struct input *in);
+
+/* As make_plan; each arc draws up to 1,000 and gains up to 1,000. */
+void make_plan_both(struct input *in);
 
 #endif

@@ -23,7 +23,8 @@ struct model {
     size_t arcs;
     const uint8_t *sources;
     const uint8_t *targets;
-    const int16_t *weights;
+    const uint16_t *draws;
+    const uint16_t *gains;
     const uint8_t *colours;
     int32_t bound;
     int32_t credit;
@@ -31,7 +32,8 @@ struct model {
 
 /* An arc as a pass reads it, with its number. */
 struct row {
-    int16_t weight;
+    uint16_t draw;
+    uint16_t gain;
     uint8_t target;
     uint8_t colours;
     uint8_t arc;
@@ -64,27 +66,30 @@ static uint64_t refused(uint64_t number, uint64_t detail)
     return number | detail << 8;
 }
 
-/* The charge after a step; below 0 where the step is not possible. */
-static int32_t step(int32_t charge, int32_t weight, int32_t bound)
+/* The charge after a step, which draws first and then gains; below 0 where the step is not possible. */
+static int32_t step(int32_t charge, int32_t draw, int32_t gain, int32_t bound)
 {
-    int32_t next = charge + weight;
+    if (charge < draw)
+        return -1;
+    int32_t next = charge - draw + gain;
     return next < bound ? next : bound;
 }
 
 static bool unfit_arc(const struct model *m, size_t a)
 {
-    return m->sources[a] >= m->modes || m->targets[a] >= m->modes || m->weights[a] < CHARGEPLAN_WEIGHT_LEAST ||
-           m->weights[a] > CHARGEPLAN_WEIGHT_MOST || m->colours[a] >> m->levels != 0;
+    return m->sources[a] >= m->modes || m->targets[a] >= m->modes || m->draws[a] > CHARGEPLAN_DRAW_MOST ||
+           m->gains[a] > CHARGEPLAN_GAIN_MOST || m->colours[a] >> m->levels != 0;
 }
 
 /* Refusals 1 to 5. */
-static uint64_t check_model(const struct model *m, size_t targets_len, size_t weights_len, size_t colours_len)
+static uint64_t check_model(const struct model *m, size_t targets_len, size_t draws_len, size_t gains_len, size_t colours_len)
 {
     if (m->modes == 0 || m->modes > CHARGEPLAN_MODES_MOST)
         return CHARGEPLAN_MODE_COUNT;
     if (m->start >= m->modes)
         return CHARGEPLAN_START_MODE;
-    if (targets_len != m->arcs || weights_len != m->arcs || colours_len != m->arcs || m->arcs > CHARGEPLAN_ARCS_MOST)
+    if (targets_len != m->arcs || draws_len != m->arcs || gains_len != m->arcs || colours_len != m->arcs ||
+        m->arcs > CHARGEPLAN_ARCS_MOST)
         return CHARGEPLAN_ARC_LISTS;
     if (m->levels > CHARGEPLAN_COLOURS_MOST)
         return CHARGEPLAN_COLOUR_COUNT;
@@ -124,7 +129,8 @@ static void group(const struct model *m, struct groups *groups)
         next[s + 1] = (uint8_t)(next[s + 1] + next[s]);
     memcpy(groups->first, next, sizeof next);
     for (size_t a = 0; a < m->arcs; a++)
-        groups->rows[next[m->sources[a]]++] = (struct row){m->weights[a], m->targets[a], m->colours[a], (uint8_t)a};
+        groups->rows[next[m->sources[a]]++] =
+            (struct row){m->draws[a], m->gains[a], m->targets[a], m->colours[a], (uint8_t)a};
 }
 
 static void push(struct pass *pass, uint32_t node, int32_t charge, size_t parent, uint8_t arc)
@@ -155,7 +161,7 @@ static bool expand(const struct model *m, struct pass *pass, size_t head)
     const struct row *end = pass->groups.rows + pass->groups.first[mode + 1];
 
     for (; row < end; row++) {
-        int32_t charge = step(from, row->weight, m->bound);
+        int32_t charge = step(from, row->draw, row->gain, m->bound);
         if (charge < 0)
             continue;
         uint32_t node = next_level(level, pass->last, row->colours) * m->modes + row->target;
@@ -254,12 +260,13 @@ static uint64_t decide(const struct model *m, uint16_t *work, uint8_t *plan)
 }
 
 uint64_t JOIN(REFERENCE, _search)(uint32_t n, uint32_t start, uint32_t k, const uint8_t *sources, size_t sources_len,
-                                  const uint8_t *targets, size_t targets_len, const int16_t *weights,
-                                  size_t weights_len, const uint8_t *colours, size_t colours_len, uint32_t c,
-                                  uint32_t b, uint16_t *work, size_t work_len, uint8_t *plan, size_t plan_len)
+                                  const uint8_t *targets, size_t targets_len, const uint16_t *draws, size_t draws_len,
+                                  const uint16_t *gains, size_t gains_len, const uint8_t *colours, size_t colours_len,
+                                  uint32_t c, uint32_t b, uint16_t *work, size_t work_len, uint8_t *plan,
+                                  size_t plan_len)
 {
-    struct model m = {n, start, k, sources_len, sources, targets, weights, colours, (int32_t)b, (int32_t)c};
-    uint64_t answer = check_model(&m, targets_len, weights_len, colours_len);
+    struct model m = {n, start, k, sources_len, sources, targets, draws, gains, colours, (int32_t)b, (int32_t)c};
+    uint64_t answer = check_model(&m, targets_len, draws_len, gains_len, colours_len);
 
     if (answer == CHARGEPLAN_YES)
         answer = check_levels(c, b);
@@ -309,7 +316,7 @@ static size_t walk(const struct model *m, const uint8_t *arcs, size_t count, int
     int32_t reached = *charge;
 
     for (size_t i = 0; i < count; i++) {
-        reached = step(reached, m->weights[arcs[i]], m->bound);
+        reached = step(reached, m->draws[arcs[i]], m->gains[arcs[i]], m->bound);
         if (reached < 0)
             return i;
     }
@@ -352,12 +359,12 @@ static uint64_t check_colours(const struct model *m, const uint8_t *cycle, size_
 }
 
 uint64_t JOIN(REFERENCE, _judge)(uint32_t n, uint32_t start, uint32_t k, const uint8_t *sources, size_t sources_len,
-                                 const uint8_t *targets, size_t targets_len, const int16_t *weights,
-                                 size_t weights_len, const uint8_t *colours, size_t colours_len, uint32_t c,
-                                 uint32_t b, uint32_t p, uint32_t q, const uint8_t *plan, size_t plan_len)
+                                 const uint8_t *targets, size_t targets_len, const uint16_t *draws, size_t draws_len,
+                                 const uint16_t *gains, size_t gains_len, const uint8_t *colours, size_t colours_len,
+                                 uint32_t c, uint32_t b, uint32_t p, uint32_t q, const uint8_t *plan, size_t plan_len)
 {
-    struct model m = {n, start, k, sources_len, sources, targets, weights, colours, (int32_t)b, (int32_t)c};
-    uint64_t answer = check_model(&m, targets_len, weights_len, colours_len);
+    struct model m = {n, start, k, sources_len, sources, targets, draws, gains, colours, (int32_t)b, (int32_t)c};
+    uint64_t answer = check_model(&m, targets_len, draws_len, gains_len, colours_len);
 
     if (answer == CHARGEPLAN_YES)
         answer = check_levels(c, b);

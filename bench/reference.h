@@ -6,14 +6,14 @@
 #include <stdint.h>
 
 typedef uint64_t search_entry(uint32_t n, uint32_t start, uint32_t k, const uint8_t *sources, size_t sources_len,
-                              const uint8_t *targets, size_t targets_len, const int16_t *weights, size_t weights_len,
-                              const uint8_t *colours, size_t colours_len, uint32_t c, uint32_t b, uint16_t *work,
-                              size_t work_len, uint8_t *plan, size_t plan_len);
+                              const uint8_t *targets, size_t targets_len, const uint16_t *draws, size_t draws_len,
+                              const uint16_t *gains, size_t gains_len, const uint8_t *colours, size_t colours_len,
+                              uint32_t c, uint32_t b, uint16_t *work, size_t work_len, uint8_t *plan, size_t plan_len);
 
 typedef uint64_t judge_entry(uint32_t n, uint32_t start, uint32_t k, const uint8_t *sources, size_t sources_len,
-                             const uint8_t *targets, size_t targets_len, const int16_t *weights, size_t weights_len,
-                             const uint8_t *colours, size_t colours_len, uint32_t c, uint32_t b, uint32_t p,
-                             uint32_t q, const uint8_t *plan, size_t plan_len);
+                             const uint8_t *targets, size_t targets_len, const uint16_t *draws, size_t draws_len,
+                             const uint16_t *gains, size_t gains_len, const uint8_t *colours, size_t colours_len,
+                             uint32_t c, uint32_t b, uint32_t p, uint32_t q, const uint8_t *plan, size_t plan_len);
 
 /* bench/reference.c, compiled with -O2 and with -O3. */
 search_entry reference_o2_search, reference_o3_search;

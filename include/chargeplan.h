@@ -6,17 +6,19 @@
  * state between calls and no heap: calls on different buffers may run at the same time, and no input traps or hangs a call.
  *
  * THE MODEL. n modes, numbered from 0; a start mode; k colours (duties), numbered from 0; and arcs (moves), numbered from 0 in
- * the order given. Arc a leaves mode sources[a], enters mode targets[a], changes the charge by weights[a], and meets colour j
- * where bit j of colours[a] is set.
+ * the order given. Arc a leaves mode sources[a], enters mode targets[a], has the draw draws[a] and the gain gains[a], and meets
+ * colour j where bit j of colours[a] is set.
  *   n        1 to 64
  *   start    0 to n - 1
  *   k        0 to 4
- *   arcs     0 to 255: four lists of one length
- *   weight   -10,000 to 10,000
+ *   arcs     0 to 255: five lists of one length
+ *   draw     0 to 10,000: what the arc takes from the charge
+ *   gain     0 to 10,000: what it then adds
  *   b        the bound (battery size), 0 to 8,191
  *   c        the credit (charge on arrival), 0 to b
- * A step on an arc of weight w takes charge e to the smaller of e + w and b. It is possible where e + w is at least 0. What e + w
- * has above b is lost: it is the step's spill.
+ * Draws, gains, b and c are in the same whole units. Draw first, then gain: a step is possible where the charge is at least the arc's
+ * draw, however much the arc gains. It then takes charge e to the smaller of e - draw + gain and b. What e - draw + gain has above b
+ * is lost: it is the step's spill.
  *
  * THE PLAN. Arc numbers, a byte each: p of them are the prefix (run-in) and then q, at least 1, the cycle (round), which is
  * repeated for ever. It begins in the start mode with charge c, each arc leaves the mode that the one before entered, and the
@@ -45,6 +47,12 @@
 extern "C" {
 #endif
 
+/*
+ * The version of the entries' signatures, raised whenever one changes. 2: draws and gains. A header without this macro is version 1,
+ * with one list of weights in their place.
+ */
+#define CHARGEPLAN_VERSION 2
+
 /* The ceilings. */
 #define CHARGEPLAN_MODES_MOST 64u
 #define CHARGEPLAN_ARCS_MOST 255u
@@ -52,8 +60,8 @@ extern "C" {
 #define CHARGEPLAN_BOUND_MOST 8191u
 #define CHARGEPLAN_PRODUCT_MOST 8192u /* of n * (b + 1), for search */
 #define CHARGEPLAN_PLAN_MOST 65535u   /* arcs of a plan, for judging */
-#define CHARGEPLAN_WEIGHT_LEAST (-10000)
-#define CHARGEPLAN_WEIGHT_MOST 10000
+#define CHARGEPLAN_DRAW_MOST 10000u
+#define CHARGEPLAN_GAIN_MOST 10000u
 
 /*
  * Buffers of these sizes serve every search that 7 does not refuse: some 328 KB and 49 KB. Every word of working space that is lent is
@@ -71,9 +79,9 @@ enum {
                                         started, or has moved on; walk: the steps are made */
     CHARGEPLAN_MODE_COUNT = 1,       /* n is 0 or above 64 */
     CHARGEPLAN_START_MODE = 2,       /* the start mode is not below n */
-    CHARGEPLAN_ARC_LISTS = 3,        /* the four arc lists are of unequal length, or longer than 255 */
+    CHARGEPLAN_ARC_LISTS = 3,        /* the five arc lists are of unequal length, or longer than 255 */
     CHARGEPLAN_COLOUR_COUNT = 4,     /* k is above 4 */
-    CHARGEPLAN_UNFIT_ARC = 5,        /* a source or target not below n, a weight outside its range, or a colour bit at or
+    CHARGEPLAN_UNFIT_ARC = 5,        /* a source or target not below n, a draw or gain above 10,000, or a colour bit at or
                                         above k; detail: the lowest such arc */
     CHARGEPLAN_LEVELS = 6,           /* b is above 8,191, or c is above b; a step reads the gauge's own charge in place of c */
     CHARGEPLAN_MIXED_GAUGE = 22,     /* a step of a gauge: n, the number of arcs or b is not the one that it was started with */
@@ -85,9 +93,9 @@ enum {
     CHARGEPLAN_ARC_NUMBER = 12,      /* an arc number is not below the number of arcs; detail: its first position */
     CHARGEPLAN_OTHER_MODE = 13,      /* an arc leaves another mode than the current one; detail: its first position */
     CHARGEPLAN_OPEN_CYCLE = 14,      /* the cycle ends in another mode than it began */
-    CHARGEPLAN_IMPOSSIBLE_STEP = 15, /* a step is impossible; detail: the step, counted from 0 over the prefix, the first
-                                        and the second round of the cycle. A step of a gauge: also where it would carry
-                                        the spill past 64 bits */
+    CHARGEPLAN_IMPOSSIBLE_STEP = 15, /* a step is impossible: the charge is below the arc's draw; detail: the step, counted
+                                        from 0 over the prefix, the first and the second round of the cycle. A step of a
+                                        gauge: also where it would carry the spill past 64 bits */
     CHARGEPLAN_FALLING_CYCLE = 16,   /* the first and the second round each end lower than they began */
     CHARGEPLAN_MISSING_COLOUR = 17,  /* a colour stands on no arc of the cycle; detail: the lowest such colour */
     CHARGEPLAN_NO_SUCH_COLOUR = 18   /* j is not below k; looked at after the plan */
@@ -95,8 +103,8 @@ enum {
 
 /*
  * A gauge: where a walk stands on the bench. The mode, the charge, and the spill: all that was lost at the bound since the start.
- * For any accepted steps from a start: c + the weights walked = charge + spill. And what the gauge was started with, which no step
- * changes.
+ * For any accepted steps from a start: c + the gains walked = charge + the draws walked + spill. And what the gauge was started with,
+ * which no step changes.
  */
 struct chargeplan_gauge {
     uint8_t mode;
@@ -113,11 +121,11 @@ struct chargeplan_started {
     struct chargeplan_gauge gauge;
 };
 
-/* A model: its numbers, and its arcs as four lists of one length. */
+/* A model: its numbers, and its arcs as five lists of one length. */
 struct chargeplan_model {
     uint32_t n, start, k;
     const uint8_t *sources, *targets;
-    const int16_t *weights;
+    const uint16_t *draws, *gains;
     const uint8_t *colours;
     size_t arcs;
 };
@@ -193,7 +201,8 @@ uint64_t chargeplan_judge(
     uint32_t n, uint32_t start, uint32_t k,
     const uint8_t *sources, size_t sources_length,
     const uint8_t *targets, size_t targets_length,
-    const int16_t *weights, size_t weights_length,
+    const uint16_t *draws, size_t draws_length,
+    const uint16_t *gains, size_t gains_length,
     const uint8_t *colours, size_t colours_length,
     uint32_t c, uint32_t b,
     uint32_t p, uint32_t q,
@@ -204,7 +213,8 @@ uint64_t chargeplan_search(
     uint32_t n, uint32_t start, uint32_t k,
     const uint8_t *sources, size_t sources_length,
     const uint8_t *targets, size_t targets_length,
-    const int16_t *weights, size_t weights_length,
+    const uint16_t *draws, size_t draws_length,
+    const uint16_t *gains, size_t gains_length,
     const uint8_t *colours, size_t colours_length,
     uint32_t c, uint32_t b,
     uint16_t *work, size_t work_length,
@@ -215,7 +225,8 @@ struct chargeplan_started chargeplan_gauge_start(
     uint32_t n, uint32_t start, uint32_t k,
     const uint8_t *sources, size_t sources_length,
     const uint8_t *targets, size_t targets_length,
-    const int16_t *weights, size_t weights_length,
+    const uint16_t *draws, size_t draws_length,
+    const uint16_t *gains, size_t gains_length,
     const uint8_t *colours, size_t colours_length,
     uint32_t c, uint32_t b);
 
@@ -225,7 +236,8 @@ uint64_t chargeplan_gauge_step(
     uint32_t n, uint32_t start, uint32_t k,
     const uint8_t *sources, size_t sources_length,
     const uint8_t *targets, size_t targets_length,
-    const int16_t *weights, size_t weights_length,
+    const uint16_t *draws, size_t draws_length,
+    const uint16_t *gains, size_t gains_length,
     const uint8_t *colours, size_t colours_length,
     uint32_t b, uint32_t arc);
 
@@ -234,7 +246,8 @@ uint64_t chargeplan_walk(
     uint32_t n, uint32_t start, uint32_t k,
     const uint8_t *sources, size_t sources_length,
     const uint8_t *targets, size_t targets_length,
-    const int16_t *weights, size_t weights_length,
+    const uint16_t *draws, size_t draws_length,
+    const uint16_t *gains, size_t gains_length,
     const uint8_t *colours, size_t colours_length,
     uint32_t c, uint32_t b,
     uint32_t p, uint32_t q,
@@ -277,6 +290,21 @@ static inline uint32_t chargeplan_met(uint64_t answer)
     return (uint32_t)((answer >> 48) & 1u);
 }
 
+/*
+ * The draw and the gain of an arc that has one signed weight: of a negative weight w draw -w, gain 0, else draw 0, gain w. A step on it
+ * is what it was by the weight alone: it takes charge e to the smaller of e + w and b, and is possible where e + w is at least 0. For
+ * every weight: one outside -10,000 to 10,000 gives a draw or a gain that 5 refuses.
+ */
+static inline uint16_t chargeplan_draw_of(int16_t weight)
+{
+    return (uint16_t)(weight < 0 ? -(int32_t)weight : 0);
+}
+
+static inline uint16_t chargeplan_gain_of(int16_t weight)
+{
+    return (uint16_t)(weight < 0 ? 0 : weight);
+}
+
 /* Whether search refuses n, k and b whatever the lists and buffers are (1, 4, 6 or 7). */
 static inline int chargeplan_unsearchable(uint32_t n, uint32_t k, uint32_t b)
 {
@@ -299,35 +327,35 @@ static inline size_t chargeplan_plan_bytes(uint32_t n, uint32_t k, uint32_t b)
 static inline uint64_t chargeplan_model_judge(const struct chargeplan_model *m, uint32_t c, uint32_t b, uint32_t p, uint32_t q,
     const uint8_t *plan)
 {
-    return chargeplan_judge(m->n, m->start, m->k, m->sources, m->arcs, m->targets, m->arcs, m->weights, m->arcs, m->colours, m->arcs,
-        c, b, p, q, plan, (size_t)p + q);
+    return chargeplan_judge(m->n, m->start, m->k, m->sources, m->arcs, m->targets, m->arcs, m->draws, m->arcs, m->gains, m->arcs,
+        m->colours, m->arcs, c, b, p, q, plan, (size_t)p + q);
 }
 
 static inline uint64_t chargeplan_model_search(const struct chargeplan_model *m, uint32_t c, uint32_t b, uint16_t *work,
     size_t work_length, uint8_t *plan, size_t plan_length)
 {
-    return chargeplan_search(m->n, m->start, m->k, m->sources, m->arcs, m->targets, m->arcs, m->weights, m->arcs, m->colours, m->arcs,
-        c, b, work, work_length, plan, plan_length);
+    return chargeplan_search(m->n, m->start, m->k, m->sources, m->arcs, m->targets, m->arcs, m->draws, m->arcs, m->gains, m->arcs,
+        m->colours, m->arcs, c, b, work, work_length, plan, plan_length);
 }
 
 static inline struct chargeplan_started chargeplan_model_gauge_start(const struct chargeplan_model *m, uint32_t c, uint32_t b)
 {
-    return chargeplan_gauge_start(m->n, m->start, m->k, m->sources, m->arcs, m->targets, m->arcs, m->weights, m->arcs, m->colours,
-        m->arcs, c, b);
+    return chargeplan_gauge_start(m->n, m->start, m->k, m->sources, m->arcs, m->targets, m->arcs, m->draws, m->arcs, m->gains, m->arcs,
+        m->colours, m->arcs, c, b);
 }
 
 static inline uint64_t chargeplan_model_gauge_step(struct chargeplan_gauge *gauge, const struct chargeplan_model *m, uint32_t b,
     uint32_t arc)
 {
-    return chargeplan_gauge_step(gauge, m->n, m->start, m->k, m->sources, m->arcs, m->targets, m->arcs, m->weights, m->arcs, m->colours,
-        m->arcs, b, arc);
+    return chargeplan_gauge_step(gauge, m->n, m->start, m->k, m->sources, m->arcs, m->targets, m->arcs, m->draws, m->arcs, m->gains,
+        m->arcs, m->colours, m->arcs, b, arc);
 }
 
 static inline uint64_t chargeplan_model_walk(const struct chargeplan_model *m, uint32_t c, uint32_t b, uint32_t p, uint32_t q,
     const uint8_t *plan, uint32_t j, uint16_t allowance)
 {
-    return chargeplan_walk(m->n, m->start, m->k, m->sources, m->arcs, m->targets, m->arcs, m->weights, m->arcs, m->colours, m->arcs,
-        c, b, p, q, plan, (size_t)p + q, j, allowance);
+    return chargeplan_walk(m->n, m->start, m->k, m->sources, m->arcs, m->targets, m->arcs, m->draws, m->arcs, m->gains, m->arcs,
+        m->colours, m->arcs, c, b, p, q, plan, (size_t)p + q, j, allowance);
 }
 
 #ifdef __cplusplus

@@ -6,8 +6,9 @@
  *     desk MISSION
  *
  * A mission is a text of lines, in any order: "modes N", "start MODE", "colours K", "bound B" and "credit C", each once, and for
- * each arc "arc SOURCE TARGET WEIGHT COLOUR..", with the numbers of the colours that the arc meets. What follows a '#' is a
- * comment. A line has at most 250 characters.
+ * each arc "arc SOURCE TARGET MOVE COLOUR..", with the numbers of the colours that the arc meets. A move is one word: "-9" draws 9, "5"
+ * or "+5" gains 5, "0" does nothing, and "-5+8" draws 5 first and then gains 8. Other numbers have no sign, so that a gain that stands
+ * apart from its draw is not read as a colour. What follows a '#' is a comment. A line has at most 250 characters.
  * Exit status: 0 a plan, 1 no plan exists, 2 refused, 3 the mission cannot be read or there is no memory.
  */
 #include "chargeplan.h"
@@ -36,7 +37,8 @@ struct mission {
     size_t arcs;
     uint8_t sources[ARCS_KEPT];
     uint8_t targets[ARCS_KEPT];
-    int16_t weights[ARCS_KEPT];
+    uint16_t draws[ARCS_KEPT];
+    uint16_t gains[ARCS_KEPT];
     uint8_t met[ARCS_KEPT];
 };
 
@@ -48,9 +50,9 @@ static const struct {
     [CHARGEPLAN_YES] = {"yes", NULL},
     [CHARGEPLAN_MODE_COUNT] = {"the number of modes is 0 or above 64", NULL},
     [CHARGEPLAN_START_MODE] = {"the start mode is not below the number of modes", NULL},
-    [CHARGEPLAN_ARC_LISTS] = {"the arc lists are of unequal length, or longer than 255", NULL},
+    [CHARGEPLAN_ARC_LISTS] = {"the five arc lists are of unequal length, or longer than 255", NULL},
     [CHARGEPLAN_COLOUR_COUNT] = {"there are more than 4 colours", NULL},
-    [CHARGEPLAN_UNFIT_ARC] = {"an arc has a mode, a weight or a colour outside the model's range", "arc"},
+    [CHARGEPLAN_UNFIT_ARC] = {"an arc has a mode or a colour that the model has not, or a draw or a gain above 10,000", "arc"},
     [CHARGEPLAN_LEVELS] = {"the bound is above 8,191, or the credit is above the bound", NULL},
     [CHARGEPLAN_MIXED_GAUGE] = {"the number of modes or arcs, or the bound, is not the one that the gauge was started with", NULL},
     [CHARGEPLAN_PRODUCT] = {"modes times (bound + 1) is above 8,192", NULL},
@@ -93,22 +95,54 @@ static int is_yes(const char *call, uint64_t answer)
     return 0;
 }
 
+static const char blanks[] = " \t\r\n";
+
 /* Whether nothing but blanks is left of a line. */
 static int is_blank(const char *line)
 {
-    return line[strspn(line, " \t\r\n")] == '\0';
+    return line[strspn(line, blanks)] == '\0';
 }
 
-/* The next word of a line as a number from least to most; the answer is 0 where it is none. */
-static int next_number(char **line, long least, long most, long *value)
+/* Whether a word ends before this character. */
+static int is_end(char next)
 {
-    char *end;
+    return next == '\0' || strchr(blanks, next) != NULL;
+}
 
-    *value = strtol(*line, &end, 10);
-    if (end == *line || (*end != '\0' && strchr(" \t\r\n", *end) == NULL) || *value < least || *value > most)
+/* The digits that a text begins with, as a number up to most; the answer is 0 where there are none or the number is greater. */
+static int read_digits(char **text, long most, long *value)
+{
+    if (**text < '0' || **text > '9')
         return 0;
-    *line = end;
-    return 1;
+    *value = strtol(*text, text, 10);
+    return *value <= most;
+}
+
+/* The next word of a line as a number up to most; the answer is 0 where it is none. */
+static int next_number(char **line, long most, long *value)
+{
+    *line += strspn(*line, blanks);
+    return read_digits(line, most, value) && is_end(**line);
+}
+
+/* The next word of a line as a move: "-DRAW", "GAIN", "+GAIN" or "-DRAW+GAIN"; the answer is 0 where it is none. */
+static int next_move(char **line, long *draw, long *gain)
+{
+    *draw = 0;
+    *gain = 0;
+    *line += strspn(*line, blanks);
+    if (**line == '-') {
+        ++*line;
+        if (!read_digits(line, UINT16_MAX, draw))
+            return 0;
+        if (is_end(**line))
+            return 1;
+        if (**line != '+')
+            return 0;
+    }
+    if (**line == '+')
+        ++*line;
+    return read_digits(line, UINT16_MAX, gain) && is_end(**line);
 }
 
 /* The number after its word, to the end of the line; once. */
@@ -116,7 +150,7 @@ static int read_number(struct mission *m, int which, char *line)
 {
     long value;
 
-    if (m->known[which] || !next_number(&line, 0, INT32_MAX, &value) || !is_blank(line))
+    if (m->known[which] || !next_number(&line, INT32_MAX, &value) || !is_blank(line))
         return 0;
     m->numbers[which] = (uint32_t)value;
     m->known[which] = 1;
@@ -126,14 +160,13 @@ static int read_number(struct mission *m, int which, char *line)
 /* One arc, to the end of the line. A number that its list can hold is left to the planner. */
 static int read_arc(struct mission *m, char *line)
 {
-    long source, target, weight, colour;
+    long source, target, draw, gain, colour;
     unsigned met = 0;
 
-    if (!next_number(&line, 0, UINT8_MAX, &source) || !next_number(&line, 0, UINT8_MAX, &target)
-        || !next_number(&line, INT16_MIN, INT16_MAX, &weight))
+    if (!next_number(&line, UINT8_MAX, &source) || !next_number(&line, UINT8_MAX, &target) || !next_move(&line, &draw, &gain))
         return 0;
     while (!is_blank(line)) {
-        if (!next_number(&line, 0, 7, &colour))
+        if (!next_number(&line, 7, &colour))
             return 0;
         met |= 1u << colour;
     }
@@ -141,7 +174,8 @@ static int read_arc(struct mission *m, char *line)
         return 1;
     m->sources[m->arcs] = (uint8_t)source;
     m->targets[m->arcs] = (uint8_t)target;
-    m->weights[m->arcs] = (int16_t)weight;
+    m->draws[m->arcs] = (uint16_t)draw;
+    m->gains[m->arcs] = (uint16_t)gain;
     m->met[m->arcs] = (uint8_t)met;
     m->arcs++;
     return 1;
@@ -209,32 +243,57 @@ static int read_mission(const char *name, struct mission *m)
 /* The mission's model, whose lists stay in the mission. */
 static struct chargeplan_model model_of(const struct mission *m)
 {
-    struct chargeplan_model model = {m->numbers[MODES], m->numbers[START], m->numbers[COLOURS], m->sources, m->targets, m->weights, m->met,
-        m->arcs};
+    struct chargeplan_model model = {m->numbers[MODES], m->numbers[START], m->numbers[COLOURS], m->sources, m->targets, m->draws, m->gains,
+        m->met, m->arcs};
 
     return model;
 }
 
+/* The longest word of a move, with its end. */
+enum { MOVE = sizeof "-65535+65535" };
+
+/* Writes the move of an arc as a mission has it. */
+static void write_move(char word[MOVE], unsigned draw, unsigned gain)
+{
+    if (draw > 0 && gain > 0)
+        snprintf(word, MOVE, "-%u+%u", draw, gain);
+    else
+        snprintf(word, MOVE, "%s%u", draw > 0 ? "-" : "", draw > 0 ? draw : gain);
+}
+
+/* Steps the gauge on an arc, and prints the arc's move, the gauge and the step's spill. The answer is 0 where the step is refused. */
+static int run_arc(const struct chargeplan_model *model, uint32_t b, uint8_t arc, struct chargeplan_gauge *gauge)
+{
+    uint64_t before = gauge->spill;
+    char move[MOVE];
+
+    if (!is_yes("the gauge refuses", chargeplan_model_gauge_step(gauge, model, b, arc)))
+        return 0;
+    write_move(move, model->draws[arc], model->gains[arc]);
+    printf("  arc %3u  move %6s  mode %2u  charge %4u  spill %4" PRIu64 "\n", (unsigned)arc, move, (unsigned)gauge->mode,
+        (unsigned)gauge->charge, gauge->spill - before);
+    return 1;
+}
+
 /*
- * Steps the gauge over some arcs of the plan, and prints it after each with the step's spill; at the end the charge and the spill of
- * them all. The answer is 0 where a step is refused.
+ * Steps the gauge over some arcs of the plan; at the end prints the charge, and what they drew, gained and lost: the charge before and
+ * the gains are the charge after, the draws and the spill. The answer is 0 where a step is refused.
  */
 static int run_arcs(const struct chargeplan_model *model, uint32_t b, const char *title, const uint8_t *arcs, uint32_t count,
     struct chargeplan_gauge *gauge)
 {
-    uint64_t at_first = gauge->spill;
+    uint64_t at_first = gauge->spill, draws = 0, gains = 0;
     uint32_t i;
 
-    printf("%s, %u %s\n", title, (unsigned)count, count == 1 ? "arc" : "arcs");
+    printf("%s, %u %s, from charge %u\n", title, (unsigned)count, count == 1 ? "arc" : "arcs", (unsigned)gauge->charge);
     for (i = 0; i < count; i++) {
-        uint64_t before = gauge->spill;
-
-        if (!is_yes("the gauge refuses", chargeplan_model_gauge_step(gauge, model, b, arcs[i])))
+        if (!run_arc(model, b, arcs[i], gauge))
             return 0;
-        printf("  arc %3u  mode %2u  charge %4u  spill %4" PRIu64 "\n", (unsigned)arcs[i], (unsigned)gauge->mode, (unsigned)gauge->charge,
-            gauge->spill - before);
+        draws += model->draws[arcs[i]];
+        gains += model->gains[arcs[i]];
     }
-    printf("  ends with charge %u; spill %" PRIu64 "\n", (unsigned)gauge->charge, gauge->spill - at_first);
+    printf("  ends with charge %u; draws %" PRIu64 ", gains %" PRIu64 ", spill %" PRIu64 "\n", (unsigned)gauge->charge, draws, gains,
+        gauge->spill - at_first);
     return 1;
 }
 

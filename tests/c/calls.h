@@ -28,7 +28,7 @@ void *copied(const void *from, size_t bytes);
 /* The lists of a model in blocks of their own. */
 struct lent {
     uint8_t *sources, *targets, *colours;
-    int16_t *weights;
+    uint16_t *draws, *gains;
 };
 
 struct lent lend(const struct model *m);
@@ -114,28 +114,57 @@ struct outcome walk_refused(uint32_t number, uint32_t detail);
 /* Every call is refused by one of 1 to 6, whatever plan, colour, allowance, buffers and gauge are. A step reads c from its gauge. */
 void all_refused(const char *what, const struct model *m, uint32_t c, uint32_t b, uint32_t number, uint32_t detail);
 
-/* A model with start mode 0 and lists of one length. */
-struct model model(uint32_t n, uint32_t k, size_t arcs, const uint8_t *sources, const uint8_t *targets, const int16_t *weights,
-    const uint8_t *colours);
+/* A model with start mode 0 and five lists of one length. */
+struct model model(uint32_t n, uint32_t k, size_t arcs, const uint8_t *sources, const uint8_t *targets, const uint16_t *draws,
+    const uint16_t *gains, const uint8_t *colours);
+
+/* A model with start mode 0 and no arcs. */
+struct model without_arcs(uint32_t n, uint32_t k);
 
 /* The model without its last arc, if it has any; the lists are of one length. */
 struct model without_last(const struct model *m);
 
-/* The four lists of a model. */
+/* The five lists of a model. */
 struct lists {
     uint8_t sources[CHARGEPLAN_ARCS_MOST], targets[CHARGEPLAN_ARCS_MOST], colours[CHARGEPLAN_ARCS_MOST];
-    int16_t weights[CHARGEPLAN_ARCS_MOST];
+    uint16_t draws[CHARGEPLAN_ARCS_MOST], gains[CHARGEPLAN_ARCS_MOST];
 };
+
+/* An arc. */
+struct arc {
+    uint32_t source, target, draw, gain, colours;
+};
+
+/* Writes an arc to a place of the lists. What they cannot hold is cut off. */
+void put(struct lists *to, size_t at, struct arc arc);
+
+/* A model with start mode 0 and the first arcs of these lists. */
+struct model listed(uint32_t n, uint32_t k, const struct lists *lists, size_t arcs);
 
 /* The model, which has lists of one length, with its arcs in another order: arc order[i] comes to place i. */
 struct model reordered(const struct model *m, const uint8_t *order, struct lists *to);
+
+/* A random number below n; the same numbers in every run. */
+uint32_t below(uint32_t n);
+
+/* The most arcs of a small random model. */
+enum { SMALL_ARCS_MOST = 8 };
+
+/* A small model in these lists, with 4 modes or fewer. */
+struct model random_fit_model(struct lists *lists);
+
+/* An arc that leaves the mode, most of the time; a few are not of the model. */
+uint8_t random_arc(const struct model *m, uint32_t mode);
+
+/* A plan that follows the arcs as far as it can, most of the time; its length is handed back. */
+size_t random_plan(const struct model *m, uint8_t *plan, size_t most);
 
 /* Puts the numbers into a random order. */
 void shuffle(uint8_t *numbers, size_t count);
 
 /* The models of document 01's examples, and lists that they share. */
 extern const uint8_t zeros[256], g_sources[3], g_targets[3], g_colours[3];
-extern const int16_t flat[256];
+extern const uint16_t nothing[256], g_draws[3], g_gains[3];
 struct model model_a(void);
 struct model model_b(void);
 struct model model_e(void);
@@ -168,8 +197,23 @@ void test_walk_colours(void);
 void test_no_such_colour(void);
 void test_long_walks(void);
 void test_header(void);
+void test_dip(void);
+void test_dip_of_gauge(void);
+void test_draw_first(void);
+void test_small_moves(void);
+void test_extreme_moves(void);
+void test_unfit_moves(void);
+void test_search_draws(void);
+void test_exchanged(void);
+void test_parts_of_weights(void);
+void test_examples_by_weights(void);
+void test_weight_steps(void);
+void test_unfit_weights(void);
 void test_random(unsigned long models);
 void test_random_large(unsigned long models);
+void test_random_draws(unsigned long models);
+void test_random_split(unsigned long models);
 void test_random_weights(unsigned long models);
+void test_random_large_weights(unsigned long models);
 
 #endif

@@ -1,27 +1,45 @@
 #include "calls.h"
 
-#include <string.h>
-
 /* The models of document 01's examples, with start mode 0. */
 const uint8_t zeros[256];
-const int16_t flat[256];
+const uint16_t nothing[256];
 static const uint8_t ones[] = {1, 1, 1};
-static const int16_t minus_one[] = {-1}, there_and_back[] = {3, -3}, g_weights[] = {1, -5, 0}, j_weights[] = {-2, 2};
+static const uint16_t draw_one[] = {1}, e_draws[] = {0, 3}, e_gains[] = {3, 0}, j_draws[] = {2, 0}, j_gains[] = {0, 2};
 static const uint8_t e_sources[] = {0, 1}, e_targets[] = {1, 0};
 const uint8_t g_sources[] = {0, 0, 1}, g_targets[] = {0, 1, 1}, g_colours[] = {0, 0, 1};
+const uint16_t g_draws[] = {0, 5, 0}, g_gains[] = {1, 0, 0};
 static const uint8_t j_colours[] = {1, 2};
 
-struct model model(uint32_t n, uint32_t k, size_t arcs, const uint8_t *sources, const uint8_t *targets,
-    const int16_t *weights, const uint8_t *colours)
+struct model model(uint32_t n, uint32_t k, size_t arcs, const uint8_t *sources, const uint8_t *targets, const uint16_t *draws,
+    const uint16_t *gains, const uint8_t *colours)
 {
-    struct model m = {n, 0, k, sources, arcs, targets, arcs, weights, arcs, colours, arcs};
+    struct model m = {n, 0, k, sources, arcs, targets, arcs, draws, arcs, gains, arcs, colours, arcs, NULL};
     return m;
+}
+
+struct model listed(uint32_t n, uint32_t k, const struct lists *lists, size_t arcs)
+{
+    return model(n, k, arcs, lists->sources, lists->targets, lists->draws, lists->gains, lists->colours);
+}
+
+void put(struct lists *to, size_t at, struct arc arc)
+{
+    to->sources[at] = (uint8_t)arc.source;
+    to->targets[at] = (uint8_t)arc.target;
+    to->draws[at] = (uint16_t)arc.draw;
+    to->gains[at] = (uint16_t)arc.gain;
+    to->colours[at] = (uint8_t)arc.colours;
+}
+
+struct model without_arcs(uint32_t n, uint32_t k)
+{
+    return model(n, k, 0, NULL, NULL, NULL, NULL, NULL);
 }
 
 struct model without_last(const struct model *m)
 {
     size_t arcs = m->sources_length - (m->sources_length > 0);
-    struct model r = model(m->n, m->k, arcs, m->sources, m->targets, m->weights, m->colours);
+    struct model r = model(m->n, m->k, arcs, m->sources, m->targets, m->draws, m->gains, m->colours);
 
     r.start = m->start;
     return r;
@@ -29,27 +47,27 @@ struct model without_last(const struct model *m)
 
 struct model model_a(void)
 {
-    return model(1, 0, 1, zeros, zeros, flat, zeros);
+    return model(1, 0, 1, zeros, zeros, nothing, nothing, zeros);
 }
 
 struct model model_b(void)
 {
-    return model(1, 0, 1, zeros, zeros, minus_one, zeros);
+    return model(1, 0, 1, zeros, zeros, draw_one, nothing, zeros);
 }
 
 struct model model_e(void)
 {
-    return model(2, 0, 2, e_sources, e_targets, there_and_back, zeros);
+    return model(2, 0, 2, e_sources, e_targets, e_draws, e_gains, zeros);
 }
 
 struct model model_g(void)
 {
-    return model(2, 1, 3, g_sources, g_targets, g_weights, g_colours);
+    return model(2, 1, 3, g_sources, g_targets, g_draws, g_gains, g_colours);
 }
 
 struct model model_j(void)
 {
-    return model(1, 2, 2, zeros, zeros, j_weights, j_colours);
+    return model(1, 2, 2, zeros, zeros, j_draws, j_gains, j_colours);
 }
 
 void test_examples(void)
@@ -102,81 +120,138 @@ void test_numbers(void)
     all_refused("1 before 2", &m, 0, 5, CHARGEPLAN_MODE_COUNT, 0);
 }
 
-/* 3, and that it comes before 4. */
+/* The five lists, by their places, and a set of all of them with a bit for each. */
+enum { LISTS = 5, ALL_LISTS = (1 << LISTS) - 1 };
+
+/* So many arcs that change nothing, where the lists of a set have another length. */
+static struct model unequal(size_t arcs, unsigned set, size_t length)
+{
+    struct model m = model(1, 0, arcs, zeros, zeros, nothing, nothing, zeros);
+    size_t *lengths[LISTS] = {&m.sources_length, &m.targets_length, &m.draws_length, &m.gains_length, &m.colours_length};
+    unsigned list;
+
+    for (list = 0; list < LISTS; list++)
+        if (set >> list & 1)
+            *lengths[list] = length;
+    return m;
+}
+
+/* One list with another length. */
+static void one_unequal(const char *what, unsigned list, size_t arcs, size_t length)
+{
+    struct model m = unequal(arcs, 1u << list, length);
+
+    all_refused(what, &m, 0, 5, CHARGEPLAN_ARC_LISTS, 0);
+}
+
+/* The lists of every set with another length, but not of none and not of all. */
+static void some_unequal(const char *what, size_t arcs, size_t length)
+{
+    unsigned set;
+
+    for (set = 1; set < ALL_LISTS; set++) {
+        struct model m = unequal(arcs, set, length);
+
+        all_refused(what, &m, 0, 5, CHARGEPLAN_ARC_LISTS, 0);
+    }
+}
+
+/* 3, and that it comes between 2 and 4. */
 void test_lists(void)
 {
-    struct model m = model_g();
+    static const char *const shorter[] = {"3: sources one short", "3: targets one short", "3: draws one short", "3: gains one short",
+        "3: colours one short"};
+    static const char *const longer[] = {"3: sources one long", "3: targets one long", "3: draws one long", "3: gains one long",
+        "3: colours one long"};
+    static const char *const missing[] = {"3: no sources", "3: no targets", "3: no draws", "3: no gains", "3: no colours"};
+    enum { MOST = CHARGEPLAN_ARCS_MOST };
+    struct model m;
+    unsigned list;
 
-    m.sources_length--;
-    all_refused("3: sources one short", &m, 0, 5, CHARGEPLAN_ARC_LISTS, 0);
-    m = model_g();
-    m.targets_length--;
-    all_refused("3: targets one short", &m, 0, 5, CHARGEPLAN_ARC_LISTS, 0);
-    m = model_g();
-    m.weights_length--;
-    all_refused("3: weights one short", &m, 0, 5, CHARGEPLAN_ARC_LISTS, 0);
-    m = model_g();
-    m.colours_length--;
-    all_refused("3: colours one short", &m, 0, 5, CHARGEPLAN_ARC_LISTS, 0);
-    m = model_g();
-    m.weights = NULL;
-    m.weights_length = 0;
-    all_refused("3: no weights", &m, 0, 5, CHARGEPLAN_ARC_LISTS, 0);
-    m = model_g();
-    m.sources = NULL;
-    m.sources_length = 0;
-    all_refused("3: no sources", &m, 0, 5, CHARGEPLAN_ARC_LISTS, 0);
+    for (list = 0; list < LISTS; list++) {
+        one_unequal(shorter[list], list, 3, 2);
+        one_unequal(longer[list], list, 3, 4);
+        one_unequal(missing[list], list, 3, 0);
+        one_unequal("3: one list longer than 255", list, MOST, MOST + 1);
+        one_unequal("3: one list shorter than 256", list, MOST + 1, MOST);
+    }
+    some_unequal("3: some lists one short", 3, 2);
+    some_unequal("3: some lists, and no arc in the others", 0, 1);
+    m = unequal(3, 1, 0);
     m.k = 5;
     all_refused("3 before 4", &m, 0, 5, CHARGEPLAN_ARC_LISTS, 0);
-    m = model(1, 0, CHARGEPLAN_ARCS_MOST + 1, zeros, zeros, flat, zeros);
+    m.start = 1;
+    all_refused("2 before 3", &m, 0, 5, CHARGEPLAN_START_MODE, 0);
+    m = unequal(MOST + 1, 0, 0);
     all_refused("3: 256 arcs", &m, 0, 5, CHARGEPLAN_ARC_LISTS, 0);
-    m = model(1, 0, CHARGEPLAN_ARCS_MOST, zeros, zeros, flat, zeros);
+    m = unequal(MOST, 0, 0);
     found("255 arcs", &m, 0, 5);
 }
 
-/* One arc of example G changed, at this place. */
-static void unfit_arc(const char *what, size_t at, uint8_t source, uint8_t target, int16_t weight, uint8_t colours, uint32_t number)
+/* Example G in lists of its own, with another arc at this place. */
+static struct model with_arc(struct lists *to, size_t at, struct arc arc)
 {
-    uint8_t sources[3], targets[3], met[3];
-    int16_t weights[3];
-    struct model m = model(2, 1, 3, sources, targets, weights, met);
+    static const uint8_t as_given[] = {0, 1, 2};
+    struct model g = model_g(), m = reordered(&g, as_given, to);
 
-    memcpy(sources, g_sources, 3);
-    memcpy(targets, g_targets, 3);
-    memcpy(weights, g_weights, sizeof g_weights);
-    memcpy(met, g_colours, 3);
-    sources[at] = source;
-    targets[at] = target;
-    weights[at] = weight;
-    met[at] = colours;
-    if (number != 0)
-        all_refused(what, &m, 0, 5, number, (uint32_t)at);
-    else
-        found(what, &m, 0, 5);
-    if (number != 0 && at > 0) {
-        sources[2] = 255;
-        all_refused("5: the lowest unfit arc", &m, 0, 5, number, (uint32_t)at);
-    }
+    put(to, at, arc);
+    return m;
+}
+
+/* It is refused, also where the last arc is unfit, too. */
+static void unfit_arc(const char *what, size_t at, struct arc arc)
+{
+    struct lists lists;
+    struct model m = with_arc(&lists, at, arc);
+
+    all_refused(what, &m, 0, 5, CHARGEPLAN_UNFIT_ARC, (uint32_t)at);
+    lists.sources[2] = 255;
+    all_refused("5: the lowest unfit arc", &m, 0, 5, CHARGEPLAN_UNFIT_ARC, (uint32_t)at);
+}
+
+/* It is fit, and has a plan. */
+static void fit_arc(const char *what, size_t at, struct arc arc)
+{
+    struct lists lists;
+    struct model m = with_arc(&lists, at, arc);
+
+    found(what, &m, 5, 5);
 }
 
 /* 5. */
 void test_arcs(void)
 {
-    size_t at;
+    enum { DRAW = CHARGEPLAN_DRAW_MOST, GAIN = CHARGEPLAN_GAIN_MOST };
+    static const struct {
+        const char *what;
+        struct arc arc;
+    } unfit[] = {
+        {"5: source n", {2, 0, 0, 0, 0}},
+        {"5: source 255", {255, 0, 0, 0, 0}},
+        {"5: target n", {0, 2, 0, 0, 0}},
+        {"5: colour bit k", {0, 0, 0, 0, 2}},
+        {"5: colour bit 7", {0, 0, 0, 0, 129}},
+        {"5: draw 10,001", {0, 0, DRAW + 1, 0, 0}},
+        {"5: gain 10,001", {0, 0, 0, GAIN + 1, 0}},
+        {"5: draw 10,001, the greatest gain", {0, 0, DRAW + 1, GAIN, 0}},
+        {"5: gain 10,001, the greatest draw", {0, 0, DRAW, GAIN + 1, 0}},
+        {"5: draw 32,768", {0, 0, 32768, 0, 0}},
+        {"5: gain 32,768", {0, 0, 0, 32768, 0}},
+        {"5: draw 65,535", {0, 0, UINT16_MAX, 0, 0}},
+        {"5: gain 65,535", {0, 0, 0, UINT16_MAX, 0}},
+        {"5: both 65,535", {0, 0, UINT16_MAX, UINT16_MAX, 0}},
+    };
+    static const struct arc gain_most = {0, 0, 0, GAIN, 0}, draw_most = {0, 0, DRAW, 0, 0}, both_most = {0, 0, DRAW, GAIN, 0},
+                            coloured = {0, 0, 0, 1, 1};
+    size_t at, i;
 
-    for (at = 0; at < 3; at++) {
-        unfit_arc("5: source n", at, 2, 0, 0, 0, CHARGEPLAN_UNFIT_ARC);
-        unfit_arc("5: source 255", at, 255, 0, 0, 0, CHARGEPLAN_UNFIT_ARC);
-        unfit_arc("5: target n", at, 0, 2, 0, 0, CHARGEPLAN_UNFIT_ARC);
-        unfit_arc("5: weight 10,001", at, 0, 0, CHARGEPLAN_WEIGHT_MOST + 1, 0, CHARGEPLAN_UNFIT_ARC);
-        unfit_arc("5: weight -10,001", at, 0, 0, CHARGEPLAN_WEIGHT_LEAST - 1, 0, CHARGEPLAN_UNFIT_ARC);
-        unfit_arc("5: greatest word", at, 0, 0, INT16_MAX, 0, CHARGEPLAN_UNFIT_ARC);
-        unfit_arc("5: least word", at, 0, 0, INT16_MIN, 0, CHARGEPLAN_UNFIT_ARC);
-        unfit_arc("5: colour bit k", at, 0, 0, 0, 2, CHARGEPLAN_UNFIT_ARC);
-        unfit_arc("5: colour bit 7", at, 0, 0, 0, 129, CHARGEPLAN_UNFIT_ARC);
-    }
-    unfit_arc("weight 10,000", 0, 0, 0, CHARGEPLAN_WEIGHT_MOST, 0, CHARGEPLAN_YES);
-    unfit_arc("colour 0 on another arc", 0, 0, 0, 1, 1, CHARGEPLAN_YES);
+    for (at = 0; at < 3; at++)
+        for (i = 0; i < sizeof unfit / sizeof unfit[0]; i++)
+            unfit_arc(unfit[i].what, at, unfit[i].arc);
+    fit_arc("gain 10,000", 0, gain_most);
+    fit_arc("draw 10,000", 0, draw_most);
+    fit_arc("both 10,000", 0, both_most);
+    fit_arc("colour 0 on another arc", 0, coloured);
 }
 
 /* 6. */
@@ -210,7 +285,7 @@ void test_buffers(void)
     check_answer("9: one byte short", search("9", &m, 0, 5, words, bytes - 1, 7), CHARGEPLAN_PLAN_BUFFER, 0);
     check_answer("9: no plan buffer", search("9", &m, 0, 5, words, 0, 7), CHARGEPLAN_PLAN_BUFFER, 0);
     check_answer("8 before 9", search("8", &m, 0, 5, words - 1, bytes - 1, 7), CHARGEPLAN_WORKING_SPACE, 0);
-    m = model(CHARGEPLAN_MODES_MOST, CHARGEPLAN_COLOURS_MOST, CHARGEPLAN_ARCS_MOST, zeros, zeros, flat, zeros);
+    m = model(CHARGEPLAN_MODES_MOST, CHARGEPLAN_COLOURS_MOST, CHARGEPLAN_ARCS_MOST, zeros, zeros, nothing, nothing, zeros);
     check(m.n * (127 + 1) == CHARGEPLAN_PRODUCT_MOST, "the product at its ceiling");
     refused("N: n 64, b 127, with the largest buffers", &m, 0, 127, CHARGEPLAN_NO_PLAN, 0);
     words = chargeplan_work_words(64, 4, 127);

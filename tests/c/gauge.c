@@ -34,7 +34,7 @@ static void step_made(const char *what, const struct model *m, uint32_t b, uint3
 /* Starting. All of 1 to 6 are in the tests of these numbers, for every call. */
 void test_start(void)
 {
-    struct model m = model_g(), none = model(CHARGEPLAN_MODES_MOST, CHARGEPLAN_COLOURS_MOST, 0, NULL, NULL, NULL, NULL);
+    struct model m = model_g(), none = without_arcs(CHARGEPLAN_MODES_MOST, CHARGEPLAN_COLOURS_MOST);
     struct gauge g;
 
     followed("start", &m, 3, 5, NULL, 0);
@@ -78,9 +78,11 @@ void test_extreme_steps(void)
 {
     static const struct stop empty[] = {{0, 0, 8191, 1809}, {0, 0, 8191, 11809}, {2, 0, 8191, 11809}},
                              none[] = {{0, 0, 0, 10000}, {2, 0, 0, 10000}, {0, 0, 0, 20000}};
-    static const int16_t extremes[] = {CHARGEPLAN_WEIGHT_MOST, CHARGEPLAN_WEIGHT_LEAST, 0}, whole[] = {-8191, 8191, 8192, -8190};
+    static const uint16_t most_draws[] = {0, CHARGEPLAN_DRAW_MOST, 0}, most_gains[] = {CHARGEPLAN_GAIN_MOST, 0, 0},
+                          whole_draws[] = {8191, 0, 0, 8190}, whole_gains[] = {0, 8191, 8192, 0};
     static const struct stop there[] = {{0, 0, 0, 0}, {1, 0, 8191, 0}, {0, 0, 0, 0}, {2, 0, 8191, 1}, {3, 0, 1, 1}, {1, 0, 8191, 2}};
-    struct model x = model(1, 0, 3, zeros, zeros, extremes, zeros), y = model(1, 0, 4, zeros, zeros, whole, zeros);
+    struct model x = model(1, 0, 3, zeros, zeros, most_draws, most_gains, zeros),
+                 y = model(1, 0, 4, zeros, zeros, whole_draws, whole_gains, zeros);
     struct gauge at = followed("the greatest gain", &x, 0, 8191, empty, 3);
 
     stepped("the greatest draw", &at, &x, 8191, 1, CHARGEPLAN_IMPOSSIBLE_STEP, 0);
@@ -97,7 +99,7 @@ void test_step_refusals(void)
 {
     static const uint32_t arcs[] = {3, 4, 255, 256, 257, 65536, UINT32_MAX}, modes[] = {1, 2, 3, 255},
                           charges[] = {6, 8191, 8192, UINT16_MAX};
-    struct model m = model_g(), none = model(1, 0, 0, NULL, NULL, NULL, NULL);
+    struct model m = model_g(), none = without_arcs(1, 0);
     struct stop there = {1, 1, 0, 9};
     size_t i;
 
@@ -124,11 +126,11 @@ void test_step_refusals(void)
 }
 
 /* A step that loses the whole gain, at the bound, where the total may still grow by so much. */
-static void total(const char *what, int16_t gain, uint64_t room)
+static void total(const char *what, uint16_t gain, uint64_t room)
 {
-    int16_t weights[3] = {gain, gain, gain};
-    struct model m = model(2, 0, 3, g_sources, g_targets, weights, zeros);
-    uint64_t lost = (uint64_t)gain, spill = UINT64_MAX - room;
+    uint16_t gains[3] = {gain, gain, gain};
+    struct model m = model(2, 0, 3, g_sources, g_targets, nothing, gains, zeros);
+    uint64_t lost = gain, spill = UINT64_MAX - room;
     struct stop stop = {1, 1, 7, spill + lost};
 
     if (lost <= room)
@@ -142,14 +144,14 @@ static void total(const char *what, int16_t gain, uint64_t room)
 /* 15 where the total would pass 64 bits. */
 void test_totals(void)
 {
-    static const int16_t gains[] = {1, 2, 255, 256, CHARGEPLAN_WEIGHT_MOST};
+    static const uint16_t gains[] = {1, 2, 255, 256, CHARGEPLAN_GAIN_MOST};
     static const struct stop down = {1, 0, 0, UINT64_MAX}, up = {0, 0, 7, UINT64_MAX}, flat_on = {2, 0, 7, UINT64_MAX};
-    static const int16_t weights[] = {5, -7, 0};
-    struct model m = model(1, 0, 3, zeros, zeros, weights, zeros);
+    static const uint16_t draw_seven[] = {0, 7, 0}, gain_five[] = {5, 0, 0};
+    struct model m = model(1, 0, 3, zeros, zeros, draw_seven, gain_five, zeros);
     size_t i;
 
     for (i = 0; i < sizeof gains / sizeof gains[0]; i++) {
-        uint64_t lost = (uint64_t)gains[i];
+        uint64_t lost = gains[i];
 
         total("the total comes to 2^64 - 1", gains[i], lost);
         total("15: the total would come to 2^64", gains[i], lost - 1);

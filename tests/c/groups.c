@@ -5,14 +5,15 @@ enum { MODES = CHARGEPLAN_MODES_MOST, ARCS = CHARGEPLAN_ARCS_MOST, OTHER_ORDERS 
 
 struct model reordered(const struct model *m, const uint8_t *order, struct lists *to)
 {
-    struct model r = model(m->n, m->k, m->sources_length, to->sources, to->targets, to->weights, to->colours);
+    struct model r = listed(m->n, m->k, to, m->sources_length);
     size_t i;
 
     r.start = m->start;
     for (i = 0; i < m->sources_length; i++) {
         to->sources[i] = m->sources[order[i]];
         to->targets[i] = m->targets[order[i]];
-        to->weights[i] = m->weights[order[i]];
+        to->draws[i] = m->draws[order[i]];
+        to->gains[i] = m->gains[order[i]];
         to->colours[i] = m->colours[order[i]];
     }
     return r;
@@ -46,18 +47,13 @@ static void in_any_order(const char *what, const struct model *m, uint32_t c, ui
     }
 }
 
+/* An arc more, which draws or gains. */
 static void add(struct lists *to, size_t *arcs, uint32_t source, uint32_t target, int weight, unsigned colours)
 {
-    to->sources[*arcs] = (uint8_t)source;
-    to->targets[*arcs] = (uint8_t)target;
-    to->weights[*arcs] = (int16_t)weight;
-    to->colours[*arcs] = (uint8_t)colours;
-    ++*arcs;
-}
+    struct arc arc = {source, target, chargeplan_draw_of((int16_t)weight), chargeplan_gain_of((int16_t)weight), colours};
 
-static struct model listed(uint32_t n, uint32_t k, const struct lists *lists, size_t arcs)
-{
-    return model(n, k, arcs, lists->sources, lists->targets, lists->weights, lists->colours);
+    put(to, *arcs, arc);
+    ++*arcs;
 }
 
 /* A ring whose arcs come in ascending order of source, and in descending order where the last is first. */
@@ -155,7 +151,7 @@ static void test_last_place(void)
     add(&lists, &arcs, MODES - 1, MODES - 1, 0, 1);
     m = listed(MODES, 1, &lists, arcs);
     in_any_order("one arc from the last mode", &m, 0, 1, 1);
-    lists.weights[ARCS - 1] = -1;
+    lists.draws[ARCS - 1] = 1;
     in_any_order("one arc from the last mode, which draws", &m, 1, 1, 0);
 }
 

@@ -1,4 +1,7 @@
-/* What the header alone has: numbers, layout of the structs, parts of an answer, and the functions over a struct chargeplan_model. */
+/*
+ * What the header alone has: version, numbers, layout of the structs, parts of an answer, and the functions over a struct
+ * chargeplan_model. Draw and gain of a weight are in weights.c.
+ */
 #include "calls.h"
 
 #include <stdlib.h>
@@ -18,6 +21,7 @@ static void test_constants(void)
     for (i = 0; i < sizeof numbers / sizeof numbers[0]; i++)
         check(numbers[i] == i, "a number of the header");
     check(CHARGEPLAN_MIXED_GAUGE == 22, "the number of a mixed-up gauge");
+    check(CHARGEPLAN_VERSION == 2, "the version with draws and gains");
 }
 
 /* Where the library reads and writes. */
@@ -48,7 +52,7 @@ static void test_parts(void)
 /* A model with lists of one length, as the header has it. */
 static struct chargeplan_model in_one(const struct model *m, struct lent l)
 {
-    struct chargeplan_model one = {m->n, m->start, m->k, l.sources, l.targets, l.weights, l.colours, m->sources_length};
+    struct chargeplan_model one = {m->n, m->start, m->k, l.sources, l.targets, l.draws, l.gains, l.colours, m->sources_length};
     return one;
 }
 
@@ -81,8 +85,8 @@ static void same_search(const char *what, const struct model *m, uint32_t c, uin
 
     memset(plan, 0, bytes);
     memset(expected, 0, bytes);
-    answer = chargeplan_search(m->n, m->start, m->k, l.sources, m->sources_length, l.targets, m->targets_length, l.weights,
-        m->weights_length, l.colours, m->colours_length, c, b, work, words, expected, bytes);
+    answer = chargeplan_search(m->n, m->start, m->k, l.sources, m->sources_length, l.targets, m->targets_length, l.draws,
+        m->draws_length, l.gains, m->gains_length, l.colours, m->colours_length, c, b, work, words, expected, bytes);
     check(chargeplan_model_search(&one, c, b, work, words, plan, bytes) == answer, what);
     check(memcmp(plan, expected, bytes) == 0, what);
     free(work);
@@ -146,13 +150,17 @@ static void same_calls(const char *what, const struct model *m, uint32_t c, uint
 static void test_model_functions(void)
 {
     static const uint8_t plan_i[] = {0, 0, 0, 0, 0, 1, 2}, plan_j[] = {1, 0};
-    struct model g = model_g(), j = model_j(), e = model_e(), many = model(1, 0, CHARGEPLAN_ARCS_MOST + 1, zeros, zeros, flat, zeros);
+    static const uint16_t five[] = {5}, eight[] = {8};
+    struct model g = model_g(), j = model_j(), e = model_e(), dip = model(1, 0, 1, zeros, zeros, five, eight, zeros),
+                 many = model(1, 0, CHARGEPLAN_ARCS_MOST + 1, zeros, zeros, nothing, nothing, zeros);
 
     same_calls("example I", &g, 0, 5, 6, 1, plan_i);
     same_calls("example I, another cut", &g, 0, 5, 5, 2, plan_i);
     same_calls("example I, another bound", &g, 0, 4, 6, 1, plan_i);
     same_calls("example E", &e, 10, 10, 0, 2, plan_i + 4);
     same_calls("example J", &j, 0, 2, 0, 2, plan_j);
+    same_calls("an arc with draw and gain", &dip, 5, 7, 0, 1, zeros);
+    same_calls("an arc with draw and gain, too little charge", &dip, 3, 7, 0, 1, zeros);
     same_calls("3: 256 arcs", &many, 0, 2, 0, 2, plan_j);
     same_calls("6: credit", &j, 3, 2, 0, 2, plan_j);
     g.start = 1;

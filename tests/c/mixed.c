@@ -4,7 +4,7 @@
 /* A knee of this size, whose arcs change nothing. */
 static struct model knee(uint32_t n, size_t arcs)
 {
-    return model(n, 0, arcs, zeros, zeros, flat, zeros);
+    return model(n, 0, arcs, zeros, zeros, nothing, nothing, zeros);
 }
 
 /* A gauge that is mixed up for this model and bound: 22, whether there is such an arc or not. */
@@ -157,8 +157,8 @@ void test_mixed_gauges(void)
 static struct model model_like_g(void)
 {
     static const uint8_t sources[] = {1, 0, 0}, targets[] = {0, 0, 1}, colours[] = {8, 4, 2};
-    static const int16_t weights[] = {2, 4, -1};
-    struct model m = model(2, 4, 3, sources, targets, weights, colours);
+    static const uint16_t draws[] = {0, 0, 1}, gains[] = {2, 4, 0};
+    struct model m = model(2, 4, 3, sources, targets, draws, gains, colours);
 
     m.start = 1;
     return m;
@@ -177,7 +177,8 @@ static void not_told(const char *what, struct model m, struct stop stop)
 /* Any part of the model but n and the number of arcs may be another. The step goes by it. */
 static void test_parts(void)
 {
-    static const struct stop as_own = {1, 1, 0, 0}, to_target = {1, 0, 0, 0}, by_weight = {1, 1, 5, 4}, from_source = {2, 1, 5, 0};
+    static const struct stop as_own = {1, 1, 0, 0}, to_target = {1, 0, 0, 0}, by_draw = {1, 1, 5, 0}, by_gain = {1, 1, 4, 0},
+                             by_both = {1, 1, 5, 4}, from_source = {2, 1, 5, 0};
     struct model own = model_g(), like = model_like_g(), m = own;
 
     not_told("its own model", m, as_own);
@@ -192,8 +193,12 @@ static void test_parts(void)
     m.targets = like.targets;
     not_told("other targets", m, to_target);
     m = own;
-    m.weights = like.weights;
-    not_told("other weights", m, by_weight);
+    m.draws = like.draws;
+    not_told("other draws", m, by_draw);
+    m.gains = like.gains;
+    not_told("other draws and gains", m, by_both);
+    m.draws = own.draws;
+    not_told("other gains", m, by_gain);
     m = own;
     m.sources = like.sources;
     not_told("other sources", m, from_source);
@@ -225,13 +230,13 @@ void test_other_models(void)
 void test_kept_numbers(void)
 {
     enum { ROUNDS = 1000, MODES = CHARGEPLAN_MODES_MOST, ARCS = CHARGEPLAN_ARCS_MOST, BOUND = CHARGEPLAN_BOUND_MOST };
-    static int16_t gains[ARCS];
-    struct model e = model_e(), m = model(MODES, 0, ARCS, zeros, zeros, gains, zeros);
+    static uint16_t gains[ARCS];
+    struct model e = model_e(), m = model(MODES, 0, ARCS, zeros, zeros, nothing, gains, zeros);
     struct gauge g;
     uint32_t i;
 
     for (i = 0; i < ARCS; i++)
-        gains[i] = CHARGEPLAN_WEIGHT_MOST;
+        gains[i] = CHARGEPLAN_GAIN_MOST;
     started("example E, many rounds", &g, &e, 10, 10, CHARGEPLAN_YES, 0);
     for (i = 0; i < ROUNDS; i++) {
         stepped("example E, many rounds", &g, &e, 10, 0, CHARGEPLAN_YES, 0);
@@ -246,5 +251,5 @@ void test_kept_numbers(void)
     started("the greatest numbers", &g, &m, BOUND, BOUND, CHARGEPLAN_YES, 0);
     for (i = 0; i < ROUNDS; i++)
         stepped("the greatest numbers", &g, &m, BOUND, i % ARCS, CHARGEPLAN_YES, 0);
-    check_gauge("the greatest numbers", g, gauge_at(&m, BOUND, 0, BOUND, (uint64_t)ROUNDS * CHARGEPLAN_WEIGHT_MOST));
+    check_gauge("the greatest numbers", g, gauge_at(&m, BOUND, 0, BOUND, (uint64_t)ROUNDS * CHARGEPLAN_GAIN_MOST));
 }

@@ -6,10 +6,26 @@ static struct verdict verdict(uint32_t number, uint32_t detail)
     return v;
 }
 
+static int unfit_lists(const struct model *m)
+{
+    size_t arcs = m->sources_length;
+
+    if (m->targets_length != arcs || m->colours_length != arcs || arcs > 255)
+        return 1;
+    return m->weights == NULL && (m->draws_length != arcs || m->gains_length != arcs);
+}
+
+/* By the ranges of draw and gain, or by the weight's. */
+static int unfit_move(const struct model *m, size_t a)
+{
+    if (m->weights != NULL)
+        return m->weights[a] < -10000 || m->weights[a] > 10000;
+    return m->draws[a] > 10000 || m->gains[a] > 10000;
+}
+
 static int unfit_arc(const struct model *m, size_t a)
 {
-    return m->sources[a] >= m->n || m->targets[a] >= m->n || m->weights[a] < -10000 || m->weights[a] > 10000
-        || m->colours[a] >> m->k != 0;
+    return m->sources[a] >= m->n || m->targets[a] >= m->n || unfit_move(m, a) || m->colours[a] >> m->k != 0;
 }
 
 struct verdict plain_fitness(const struct model *m, uint32_t c, uint32_t b)
@@ -20,8 +36,7 @@ struct verdict plain_fitness(const struct model *m, uint32_t c, uint32_t b)
         return verdict(1, 0);
     if (m->start >= m->n)
         return verdict(2, 0);
-    if (m->targets_length != m->sources_length || m->weights_length != m->sources_length
-        || m->colours_length != m->sources_length || m->sources_length > 255)
+    if (unfit_lists(m))
         return verdict(3, 0);
     if (m->k > 4)
         return verdict(4, 0);
@@ -31,6 +46,42 @@ struct verdict plain_fitness(const struct model *m, uint32_t c, uint32_t b)
     if (b > 8191 || c > b)
         return verdict(6, 0);
     return verdict(0, 0);
+}
+
+/* A step: the charge after it and what it loses at the bound, or charge -1 where it is not possible. */
+struct step {
+    int32_t charge;
+    uint32_t lost;
+};
+
+static const struct step impossible = {-1, 0};
+
+/* The smaller of a sum and the bound, and what the sum has above it. */
+static struct step under_bound(uint32_t sum, uint32_t b)
+{
+    struct step s = {(int32_t)(sum < b ? sum : b), sum > b ? sum - b : 0};
+    return s;
+}
+
+/* Document 01: possible where charge + weight is at least 0. */
+static struct step weight_step(uint32_t charge, int32_t weight, uint32_t b)
+{
+    int32_t sum = (int32_t)charge + weight;
+
+    return sum >= 0 ? under_bound((uint32_t)sum, b) : impossible;
+}
+
+/* Ask 4: possible where the charge is at least the draw. */
+static struct step draw_step(uint32_t charge, uint32_t draw, uint32_t gain, uint32_t b)
+{
+    return charge >= draw ? under_bound(charge - draw + gain, b) : impossible;
+}
+
+static struct step step_on(const struct model *m, size_t a, uint32_t charge, uint32_t b)
+{
+    if (m->weights != NULL)
+        return weight_step(charge, m->weights[a], b);
+    return draw_step(charge, m->draws[a], m->gains[a], b);
 }
 
 /* 11 to 14. */
@@ -57,7 +108,7 @@ static struct verdict plain_shape(const struct model *m, uint32_t p, uint32_t q,
 /* 15 and 16: prefix, first and second round, step by step. */
 static struct verdict plain_charges(const struct model *m, uint32_t c, uint32_t b, uint32_t p, uint32_t q, const uint8_t *plan)
 {
-    int64_t charge = c, starts[3] = {0, 0, 0};
+    int32_t charge = (int32_t)c, starts[3] = {0, 0, 0};
     uint64_t step, steps = (uint64_t)p + 2 * (uint64_t)q;
 
     for (step = 0; step < steps; step++) {
@@ -67,11 +118,9 @@ static struct verdict plain_charges(const struct model *m, uint32_t c, uint32_t 
             starts[0] = charge;
         if (step == (uint64_t)p + q)
             starts[1] = charge;
-        charge += m->weights[plan[at]];
+        charge = step_on(m, plan[at], (uint32_t)charge, b).charge;
         if (charge < 0)
             return verdict(15, (uint32_t)step);
-        if (charge > (int64_t)b)
-            charge = b;
     }
     starts[2] = charge;
     return starts[1] < starts[0] && starts[2] < starts[1] ? verdict(16, 0) : verdict(0, 0);
@@ -125,8 +174,7 @@ struct verdict plain_start(struct gauge *g, const struct model *m, uint32_t c, u
 struct verdict plain_step(struct gauge *g, const struct model *m, uint32_t b, uint32_t arc)
 {
     struct verdict v = plain_fitness(m, g->charge, b);
-    int32_t charge;
-    uint32_t lost;
+    struct step s;
 
     if (v.number != 0)
         return v;
@@ -136,15 +184,12 @@ struct verdict plain_step(struct gauge *g, const struct model *m, uint32_t b, ui
         return verdict(12, 0);
     if (m->sources[arc] != g->mode)
         return verdict(13, 0);
-    charge = (int32_t)g->charge + m->weights[arc];
-    if (charge < 0)
-        return verdict(15, 0);
-    lost = (uint32_t)charge > b ? (uint32_t)charge - b : 0;
-    if (UINT64_MAX - g->spill < lost)
+    s = step_on(m, arc, g->charge, b);
+    if (s.charge < 0 || UINT64_MAX - g->spill < s.lost)
         return verdict(15, 0);
     g->mode = m->targets[arc];
-    g->charge = (uint16_t)((uint32_t)charge - lost);
-    g->spill += lost;
+    g->charge = (uint16_t)s.charge;
+    g->spill += s.lost;
     return v;
 }
 
@@ -171,12 +216,10 @@ struct outcome plain_walk(const struct model *m, uint32_t c, uint32_t b, uint32_
 /* The pair of a mode and a charge after an arc, or -1 where the arc does not leave the pair or is not possible there. */
 static int pair_after(const struct model *m, uint32_t b, uint32_t pair, size_t a)
 {
-    int32_t charge = (int32_t)(pair % (b + 1)) + m->weights[a];
+    int32_t charge = step_on(m, a, pair % (b + 1), b).charge;
 
     if (m->sources[a] != pair / (b + 1) || charge < 0)
         return -1;
-    if (charge > (int32_t)b)
-        charge = (int32_t)b;
     return m->targets[a] * (int)(b + 1) + charge;
 }
 

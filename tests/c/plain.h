@@ -1,5 +1,5 @@
 /*
- * Judging, the existence of a plan, gauge and walk, as plainly as document 01 and Asks 2 and 3 of document 02 have them and with no
+ * Judging, the existence of a plan, gauge and walk, as plainly as document 01 and Asks 2 to 4 of document 02 have them and with no
  * code of the library: what the C tests compare with.
  */
 #ifndef PLAIN_H
@@ -8,17 +8,23 @@
 #include <stddef.h>
 #include <stdint.h>
 
-/* A model as a call is lent it: the four lists may be of unequal length, and null where they have none. */
+/*
+ * A model as a call is lent it: the five lists may be of unequal length, and null where they have none. Where there are weights, as
+ * many as sources, the plain reading goes by them, as document 01 has it, and does not look at draws and gains. No call is lent them.
+ */
 struct model {
     uint32_t n, start, k;
     const uint8_t *sources;
     size_t sources_length;
     const uint8_t *targets;
     size_t targets_length;
-    const int16_t *weights;
-    size_t weights_length;
+    const uint16_t *draws;
+    size_t draws_length;
+    const uint16_t *gains;
+    size_t gains_length;
     const uint8_t *colours;
     size_t colours_length;
+    const int16_t *weights;
 };
 
 /* A number of document 01's table, or 22, with its detail. */

@@ -7,7 +7,7 @@ void test_shape(void)
 {
     static const uint8_t plan[] = {0, 0, 0, 0, 0, 1, 2}, three[] = {0, 3, 3}, twelve[] = {2, 0, 3}, thirteen[] = {0, 2, 2},
                          open[] = {0, 1}, beyond[] = {255};
-    struct model m = model_g(), none = model(1, 0, 0, NULL, NULL, NULL, NULL);
+    struct model m = model_g(), none = without_arcs(1, 0);
 
     judged("11: q 0", &m, 0, 5, 7, 0, plan, 7, CHARGEPLAN_PLAN_LENGTH, 0);
     judged("11: one more", &m, 0, 5, 6, 2, plan, 7, CHARGEPLAN_PLAN_LENGTH, 0);
@@ -31,8 +31,8 @@ void test_long(void)
 {
     enum { MOST = CHARGEPLAN_PLAN_MOST };
     static uint8_t plan[MOST + 1];
-    static const int16_t change[] = {-1, 0, 1};
-    struct model a = model_a(), e = model_e(), m = model(1, 0, 3, zeros, zeros, change, zeros);
+    static const uint16_t draws[] = {1, 0, 0}, gains[] = {0, 0, 1};
+    struct model a = model_a(), e = model_e(), m = model(1, 0, 3, zeros, zeros, draws, gains, zeros);
     size_t i;
 
     judged("65,535 arcs", &a, 0, 0, 0, MOST, plan, MOST, CHARGEPLAN_YES, 0);
@@ -56,10 +56,12 @@ void test_long(void)
 void test_charges(void)
 {
     static const uint8_t arcs01[] = {0, 1}, arcs001[] = {0, 0, 1}, arcs02[] = {0, 2}, arc0[] = {0}, arc1[] = {1}, arc2[] = {2};
-    static const int16_t step[] = {1, -1, 0}, extremes[] = {CHARGEPLAN_WEIGHT_MOST, CHARGEPLAN_WEIGHT_LEAST, 0};
+    static const uint16_t draw_one[] = {0, 1, 0}, gain_one[] = {1, 0, 0}, draw_most[] = {0, CHARGEPLAN_DRAW_MOST, 0},
+                          gain_most[] = {CHARGEPLAN_GAIN_MOST, 0, 0};
     static const uint8_t high[] = {8, 4, 0}, low[] = {2, 1, 1};
-    struct model b = model_b(), x = model(1, 0, 3, zeros, zeros, extremes, zeros),
-                 y = model(1, 4, 3, zeros, zeros, extremes, high), z = model(1, 2, 3, zeros, zeros, step, low);
+    struct model b = model_b(), x = model(1, 0, 3, zeros, zeros, draw_most, gain_most, zeros),
+                 y = model(1, 4, 3, zeros, zeros, draw_most, gain_most, high),
+                 z = model(1, 2, 3, zeros, zeros, draw_one, gain_one, low);
 
     judged("15: first step of the prefix", &b, 0, 5, 1, 1, zeros, 2, CHARGEPLAN_IMPOSSIBLE_STEP, 0);
     judged("15: second step of the prefix", &b, 1, 5, 2, 1, zeros, 3, CHARGEPLAN_IMPOSSIBLE_STEP, 1);
@@ -81,9 +83,10 @@ void test_charges(void)
 /* Models without a plan, or with one that is easy to miss. */
 void test_search(void)
 {
-    static const int16_t rising[] = {1, 1, 1}, falling[] = {-1, -1, -1};
-    struct model none = model(1, 0, 0, NULL, NULL, NULL, NULL), j = model_j(), up = model(2, 0, 3, g_sources, g_targets, rising, zeros),
-                 down = model(2, 0, 3, g_sources, g_targets, falling, zeros), e = model_e(), twins = model(1, 0, 2, zeros, zeros, flat, zeros);
+    static const uint16_t ones[] = {1, 1, 1};
+    struct model none = without_arcs(1, 0), j = model_j(), up = model(2, 0, 3, g_sources, g_targets, nothing, ones, zeros),
+                 down = model(2, 0, 3, g_sources, g_targets, ones, nothing, zeros), e = model_e(),
+                 twins = model(1, 0, 2, zeros, zeros, nothing, nothing, zeros);
 
     refused("no arcs", &none, 0, 5, CHARGEPLAN_NO_PLAN, 0);
     none.n = 64;
@@ -100,10 +103,10 @@ void test_search(void)
 /* Plans that must be long: their lengths do not fit a byte. */
 void test_long_plans(void)
 {
-    static const int16_t climb[] = {1, -300}, climb_once[] = {1, -300, 0};
+    static const uint16_t draws[] = {0, 300, 0}, gains[] = {1, 0, 0};
     static const uint8_t second[] = {0, 1};
-    struct model cycle = model(1, 1, 2, zeros, zeros, climb, second),
-                 prefix = model(2, 1, 3, g_sources, g_targets, climb_once, g_colours);
+    struct model cycle = model(1, 1, 2, zeros, zeros, draws, gains, second),
+                 prefix = model(2, 1, 3, g_sources, g_targets, draws, gains, g_colours);
 
     found("a cycle of 301 arcs or more", &cycle, 0, 300);
     refused("the same with a bound one lower", &cycle, 0, 299, CHARGEPLAN_NO_PLAN, 0);
@@ -116,18 +119,19 @@ void test_ring(void)
 {
     enum { MODES = CHARGEPLAN_MODES_MOST };
     static uint8_t sources[MODES], targets[MODES], colours[MODES];
-    static int16_t weights[MODES];
-    struct model m = model(MODES, CHARGEPLAN_COLOURS_MOST, MODES, sources, targets, weights, colours);
+    static uint16_t draws[MODES], gains[MODES];
+    struct model m = model(MODES, CHARGEPLAN_COLOURS_MOST, MODES, sources, targets, draws, gains, colours);
     uint32_t i;
 
     for (i = 0; i < MODES; i++) {
         sources[i] = (uint8_t)i;
         targets[i] = (uint8_t)((i + 1) % MODES);
-        weights[i] = 1;
+        gains[i] = 1;
     }
     for (i = 0; i < CHARGEPLAN_COLOURS_MOST; i++)
         colours[13 * (i + 1)] = (uint8_t)(1u << i);
-    weights[MODES - 1] = -(MODES - 1);
+    gains[MODES - 1] = 0;
+    draws[MODES - 1] = MODES - 1;
     found("a ring of 64 modes", &m, 0, 127);
     found("the same where the bound is just high enough", &m, 0, MODES - 1);
     refused("and where it is one too low", &m, 0, MODES - 2, CHARGEPLAN_NO_PLAN, 0);

@@ -5,10 +5,12 @@
 /* The longest plan that is found where there are few pairs. */
 enum { FOUND_MOST = (CHARGEPLAN_COLOURS_MOST + 2) * PLAIN_PAIRS_MOST };
 
-/* Random numbers, the same in every run. */
+/* How many bounds small models are tried with, from 0 on: they have at most 4 modes. */
+enum { SMALL_BOUNDS = PLAIN_PAIRS_MOST / 4 };
+
 static uint64_t random_state = 88172645463325252u;
 
-static uint32_t below(uint32_t n)
+uint32_t below(uint32_t n)
 {
     random_state ^= random_state << 13;
     random_state ^= random_state >> 7;
@@ -27,31 +29,63 @@ void shuffle(uint8_t *numbers, size_t count)
     }
 }
 
-/* A small model in these lists; one in eight has something unfit. */
-static struct model random_model(uint8_t *sources, uint8_t *targets, int16_t *weights, uint8_t *colours)
+/* An arc between n modes without colours; of three, one draws, one gains, and one does both, up to these. */
+static struct arc random_move(uint32_t n, uint32_t draw_most, uint32_t gain_most)
 {
-    uint32_t n = 1 + below(4), k = below(5), arcs = below(9), a;
-    struct model m = model(n, k, arcs, sources, targets, weights, colours);
+    struct arc arc = {below(n), below(n), below(draw_most + 1), below(gain_most + 1), 0};
+    uint32_t kind = below(3);
+
+    if (kind == 0)
+        arc.draw = 0;
+    if (kind == 1)
+        arc.gain = 0;
+    return arc;
+}
+
+struct model random_fit_model(struct lists *lists)
+{
+    uint32_t n = 1 + below(4), k = below(5), arcs = below(SMALL_ARCS_MOST + 1), a;
+    struct model m = listed(n, k, lists, arcs);
 
     m.start = below(n);
     for (a = 0; a < arcs; a++) {
-        sources[a] = (uint8_t)below(n);
-        targets[a] = (uint8_t)below(n);
-        weights[a] = (int16_t)((int)below(13) - 6);
-        colours[a] = (uint8_t)(below(1u << k) & below(256));
+        struct arc arc = random_move(n, 6, 6);
+
+        arc.colours = below(1u << k) & below(256);
+        put(lists, a, arc);
     }
+    return m;
+}
+
+/* A small model in these lists; one in six has something unfit. Lists of another length have elements enough. */
+static struct model random_model(struct lists *lists)
+{
+    struct model m = random_fit_model(lists);
+    size_t other_length = SMALL_ARCS_MOST + 1 - m.sources_length;
+    uint32_t at = below(SMALL_ARCS_MOST);
+
     switch (below(64)) {
     case 0: m.n = below(2) * 65; break;
-    case 1: m.start = n; break;
+    case 1: m.start = m.n; break;
     case 2: m.k = 5 + below(300); break;
-    case 3: m.targets_length = 9 - arcs; break;
-    case 4: sources[below(8)] = (uint8_t)n; break;
-    case 5: weights[below(8)] = (int16_t)(below(2) ? 10001 : -10001); break;
-    case 6: colours[below(8)] = (uint8_t)(1u << k); break;
-    case 7: targets[below(8)] = 255; break;
+    case 3: m.targets_length = other_length; break;
+    case 4: m.draws_length = other_length; break;
+    case 5: m.gains_length = other_length; break;
+    case 6: lists->sources[at] = (uint8_t)m.n; break;
+    case 7: lists->targets[at] = 255; break;
+    case 8: lists->draws[at] = (uint16_t)(10001 + below(UINT16_MAX - 10000)); break;
+    case 9: lists->gains[at] = (uint16_t)(10001 + below(UINT16_MAX - 10000)); break;
+    case 10: lists->colours[at] = (uint8_t)(1u << m.k); break;
     default: break;
     }
     return m;
+}
+
+static int has_equal_lists(const struct model *m)
+{
+    size_t arcs = m->sources_length;
+
+    return m->targets_length == arcs && m->draws_length == arcs && m->gains_length == arcs && m->colours_length == arcs;
 }
 
 /* A number below n or, in one of so many calls, up to n. */
@@ -60,8 +94,7 @@ static uint32_t up_to(uint32_t n, uint32_t calls)
     return below(n + (n == 0 || below(calls) == 0));
 }
 
-/* An arc that leaves the mode, most of the time; a few are not of the model. */
-static uint8_t random_arc(const struct model *m, uint32_t mode)
+uint8_t random_arc(const struct model *m, uint32_t mode)
 {
     uint32_t arcs = (uint32_t)m->sources_length, arc = up_to(arcs, 50), tries;
 
@@ -70,8 +103,7 @@ static uint8_t random_arc(const struct model *m, uint32_t mode)
     return (uint8_t)arc;
 }
 
-/* A plan that follows the arcs as far as it can, most of the time. */
-static size_t random_plan(const struct model *m, uint8_t *plan, size_t most)
+size_t random_plan(const struct model *m, uint8_t *plan, size_t most)
 {
     size_t length = below((uint32_t)most + 1), i;
     uint32_t mode = m->start;
@@ -176,13 +208,12 @@ static struct gauge random_gauge(const struct model *m, uint32_t b)
 
 /*
  * Steps of a gauge on random arcs of its model or of the other one with the same n and number of arcs, some with a call mixed up. At
- * each: the charge at first + the weights walked = the charge + the spill since then.
+ * each: the charge at first + the gains walked = the charge + the draws walked + the spill since then.
  */
 static void random_steps(struct gauge g, const struct model *m, const struct model *other, uint32_t b, uint32_t steps)
 {
     struct gauge plain = g;
-    int64_t balance = g.charge;
-    uint64_t spill = g.spill;
+    uint64_t draws = 0, gains = 0, charge = g.charge, spill = g.spill;
 
     for (; steps > 0; steps--) {
         struct model called = below(4) == 0 ? *other : *m;
@@ -198,9 +229,11 @@ static void random_steps(struct gauge g, const struct model *m, const struct mod
         answer = step_gauge("random step", &g, &called, bound, arc);
         check_answer("random step", answer, v.number, v.detail);
         check_gauge("random step", g, plain);
-        if (chargeplan_number(answer) == CHARGEPLAN_YES)
-            balance += called.weights[arc];
-        check(balance == (int64_t)(g.charge + (g.spill - spill)), "balance");
+        if (chargeplan_number(answer) == CHARGEPLAN_YES) {
+            draws += called.draws[arc];
+            gains += called.gains[arc];
+        }
+        check(charge + gains == g.charge + draws + (g.spill - spill), "balance");
     }
 }
 
@@ -226,7 +259,7 @@ static void test_random_order(const struct model *m, uint32_t c, uint32_t b, uin
     struct model r;
     uint64_t other;
 
-    if (m->targets_length != m->sources_length)
+    if (!has_equal_lists(m))
         return;
     r = shuffled(m, &lists);
     other = search("random order", &r, c, b, chargeplan_work_words(m->n, m->k, b), chargeplan_plan_bytes(m->n, m->k, b), 0xc3c3u);
@@ -237,30 +270,41 @@ static void test_random_order(const struct model *m, uint32_t c, uint32_t b, uin
         check(chargeplan_detail(other) == chargeplan_detail(answer), "random order");
 }
 
+/* What search answers, and whether it had to. */
+static void test_random_answer(const struct model *m, uint32_t c, uint32_t b, uint64_t answer)
+{
+    struct verdict v = plain_fitness(m, c, b);
+
+    if (v.number != 0)
+        check_answer("random unfit model", answer, v.number, v.detail);
+    else
+        check(chargeplan_number(answer) == (plain_has_plan(m, c, b) ? CHARGEPLAN_YES : CHARGEPLAN_NO_PLAN), "random model");
+}
+
+/* Every call, with a random bound and credit of few pairs. */
+static void test_random_calls(const struct model *m, uint32_t bounds, uint32_t steps)
+{
+    uint8_t plan[FOUND_MOST];
+    uint32_t b = below(bounds), c = below(b + 1) + (below(40) == 0 ? bounds : 0);
+    uint64_t answer = search_exactly("random model", m, c, b, plan);
+
+    test_random_plan(m, c, b);
+    test_random_found(m, c, b, answer, plan);
+    test_random_gauges(m, c, b, steps);
+    test_random_order(m, c, b, answer);
+    test_random_answer(m, c, b, answer);
+}
+
 void test_random(unsigned long models)
 {
-    uint8_t sources[9], targets[9], colours[9], plan[FOUND_MOST];
-    int16_t weights[9];
+    struct lists lists;
     unsigned long i;
 
-    memset(sources, 0, sizeof sources);
-    memset(targets, 0, sizeof targets);
-    memset(weights, 0, sizeof weights);
-    memset(colours, 0, sizeof colours);
+    memset(&lists, 0, sizeof lists);
     for (i = 0; i < models; i++) {
-        struct model m = random_model(sources, targets, weights, colours);
-        uint32_t b = below(16), c = below(b + 1) + (below(40) == 0 ? 16 : 0);
-        struct verdict v = plain_fitness(&m, c, b);
-        uint64_t answer = search_exactly("random model", &m, c, b, plan);
+        struct model m = random_model(&lists);
 
-        test_random_plan(&m, c, b);
-        test_random_found(&m, c, b, answer, plan);
-        test_random_gauges(&m, c, b, 4);
-        test_random_order(&m, c, b, answer);
-        if (v.number != 0)
-            check_answer("random unfit model", answer, v.number, v.detail);
-        else
-            check(chargeplan_number(answer) == (plain_has_plan(&m, c, b) ? CHARGEPLAN_YES : CHARGEPLAN_NO_PLAN), "random model");
+        test_random_calls(&m, SMALL_BOUNDS, 4);
     }
 }
 
@@ -268,14 +312,15 @@ void test_random(unsigned long models)
 static struct model random_large_model(struct lists *lists)
 {
     uint32_t n = 1 + below(CHARGEPLAN_MODES_MOST), k = below(5), arcs = below(CHARGEPLAN_ARCS_MOST + 1), with_arcs = 1 + below(n), a;
-    struct model m = model(n, k, arcs, lists->sources, lists->targets, lists->weights, lists->colours);
+    struct model m = listed(n, k, lists, arcs);
 
     m.start = below(n);
     for (a = 0; a < arcs; a++) {
-        lists->sources[a] = (uint8_t)(below(with_arcs) * 7 % n);
-        lists->targets[a] = (uint8_t)below(n);
-        lists->weights[a] = (int16_t)((int)below(10) - 6);
-        lists->colours[a] = (uint8_t)(below(1u << k) & below(256) & below(256));
+        struct arc arc = random_move(n, 6, 3);
+
+        arc.source = below(with_arcs) * 7 % n;
+        arc.colours = below(1u << k) & below(256) & below(256);
+        put(lists, a, arc);
     }
     return m;
 }
@@ -283,34 +328,87 @@ static struct model random_large_model(struct lists *lists)
 void test_random_large(unsigned long models)
 {
     struct lists lists;
-    uint8_t plan[FOUND_MOST];
     unsigned long i;
 
     for (i = 0; i < models; i++) {
         struct model m = random_large_model(&lists);
-        uint32_t b = below(PLAIN_PAIRS_MOST / m.n), c = below(b + 1);
-        uint64_t answer = search_exactly("random large model", &m, c, b, plan);
 
-        test_random_found(&m, c, b, answer, plan);
-        test_random_gauges(&m, c, b, 10);
-        check(chargeplan_number(answer) == (plain_has_plan(&m, c, b) ? CHARGEPLAN_YES : CHARGEPLAN_NO_PLAN), "random large model");
-        test_random_order(&m, c, b, answer);
+        test_random_calls(&m, PLAIN_PAIRS_MOST / m.n, 10);
     }
 }
 
-/* Gauges of models with weights and bounds of every size. */
+/* Gauges of a model, with a bound and credit of every size. */
+static void test_random_bounds(const struct model *m)
+{
+    uint32_t b = below(CHARGEPLAN_BOUND_MOST + 1), c = below(b + 1);
+
+    test_random_gauges(m, c, b, 100);
+}
+
+void test_random_draws(unsigned long models)
+{
+    struct lists lists;
+    unsigned long i;
+    size_t a;
+
+    for (i = 0; i < models; i++) {
+        struct model m = random_large_model(&lists);
+
+        for (a = 0; a < m.sources_length; a++) {
+            lists.draws[a] = (uint16_t)below(CHARGEPLAN_DRAW_MOST + 1);
+            lists.gains[a] = (uint16_t)below(CHARGEPLAN_GAIN_MOST + 1);
+        }
+        test_random_bounds(&m);
+    }
+}
+
+/*
+ * The model with random weights in place of its draws and gains, from least up to most: draw -w, gain 0 where w is negative, else draw 0,
+ * gain w. The plain reading goes by the weights.
+ */
+static struct model weighed(const struct model *m, struct lists *lists, int16_t *weights, int32_t least, int32_t most)
+{
+    struct model r = *m;
+    size_t a;
+
+    for (a = 0; a < m->sources_length; a++) {
+        int32_t w = least + (int32_t)below((uint32_t)(most - least + 1));
+
+        weights[a] = (int16_t)w;
+        lists->draws[a] = (uint16_t)(w < 0 ? -w : 0);
+        lists->gains[a] = (uint16_t)(w < 0 ? 0 : w);
+    }
+    r.draws_length = r.sources_length;
+    r.gains_length = r.sources_length;
+    r.weights = weights;
+    return r;
+}
+
 void test_random_weights(unsigned long models)
 {
+    int16_t weights[CHARGEPLAN_ARCS_MOST];
+    struct lists lists;
+    unsigned long i;
+
+    memset(&lists, 0, sizeof lists);
+    for (i = 0; i < models; i++) {
+        struct model m = random_model(&lists), w = weighed(&m, &lists, weights, -6, 6);
+
+        test_random_calls(&w, SMALL_BOUNDS, 4);
+    }
+}
+
+void test_random_large_weights(unsigned long models)
+{
+    int16_t weights[CHARGEPLAN_ARCS_MOST];
     struct lists lists;
     unsigned long i;
 
     for (i = 0; i < models; i++) {
-        struct model m = random_large_model(&lists);
-        uint32_t b = below(CHARGEPLAN_BOUND_MOST + 1), c = below(b + 1);
-        size_t a;
+        struct model m = random_large_model(&lists), w = weighed(&m, &lists, weights, -6, 3);
 
-        for (a = 0; a < m.sources_length; a++)
-            lists.weights[a] = (int16_t)((int)below(CHARGEPLAN_WEIGHT_MOST - CHARGEPLAN_WEIGHT_LEAST + 1) + CHARGEPLAN_WEIGHT_LEAST);
-        test_random_gauges(&m, c, b, 100);
+        test_random_calls(&w, PLAIN_PAIRS_MOST / m.n, 10);
+        w = weighed(&m, &lists, weights, -10000, 10000);
+        test_random_bounds(&w);
     }
 }

@@ -22,9 +22,24 @@ static void test_random_large_models(void)
     test_random_large(random_models / 200);
 }
 
-static void test_random_large_weights(void)
+static void test_random_draws_and_gains(void)
 {
-    test_random_weights(random_models / 200);
+    test_random_draws(random_models / 200);
+}
+
+static void test_random_splits(void)
+{
+    test_random_split(random_models / 10);
+}
+
+static void test_random_models_by_weights(void)
+{
+    test_random_weights(random_models / 4);
+}
+
+static void test_random_large_models_by_weights(void)
+{
+    test_random_large_weights(random_models / 200);
 }
 
 static const struct {
@@ -56,10 +71,25 @@ static const struct {
     {"walk, colours", test_walk_colours},
     {"walk, 18", test_no_such_colour},
     {"walk, long plans", test_long_walks},
+    {"draw first: the dip, judged and walked", test_dip},
+    {"draw first: the dip on the gauge", test_dip_of_gauge},
+    {"draw first: where gain first would differ", test_draw_first},
+    {"draw first: every small move", test_small_moves},
+    {"draw first: the greatest draws and gains", test_extreme_moves},
+    {"draw first: 5, the lowest unfit draw or gain", test_unfit_moves},
+    {"draw first: search", test_search_draws},
+    {"draw first: draws and gains exchanged", test_exchanged},
+    {"weights: draw and gain of each", test_parts_of_weights},
+    {"weights: document 01's examples", test_examples_by_weights},
+    {"weights: steps", test_weight_steps},
+    {"weights: 5", test_unfit_weights},
     {"header", test_header},
     {"random models and plans", test_random_models},
     {"random models with many arcs", test_random_large_models},
-    {"random gauges, weights of every size", test_random_large_weights},
+    {"random gauges, draws and gains of every size", test_random_draws_and_gains},
+    {"random models with each arc split into draw and gain", test_random_splits},
+    {"random models and plans, by weights", test_random_models_by_weights},
+    {"random models with many arcs and every weight, by weights", test_random_large_models_by_weights},
 };
 
 int main(int argc, char **argv)

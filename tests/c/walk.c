@@ -24,7 +24,7 @@ void test_walk(void)
 void test_walk_colours(void)
 {
     static const uint8_t plan[] = {1, 1, 0, 1, 0}, four[] = {1, 2, 4, 8, 9}, round[] = {0, 1, 2, 3}, back[] = {4, 3, 2, 1};
-    struct model m = model_j(), f = model(1, 4, 5, zeros, zeros, flat, four);
+    struct model m = model_j(), f = model(1, 4, 5, zeros, zeros, nothing, nothing, four);
     uint32_t j;
 
     walked("J: on the first arc", &m, 0, 2, 0, 2, plan + 3, 2, 1, 9, met(1));
@@ -71,7 +71,7 @@ void test_long_walks(void)
     enum { MOST = CHARGEPLAN_PLAN_MOST };
     static uint8_t plan[MOST + 1];
     static const uint8_t second[] = {0, 1};
-    struct model m = model(1, 1, 2, zeros, zeros, flat, second);
+    struct model m = model(1, 1, 2, zeros, zeros, nothing, nothing, second);
 
     plan[MOST - 1] = 1;
     walked("a cycle of 65,535, met at its end", &m, 0, 0, 0, MOST, plan, MOST, 0, MOST, met(MOST));

@@ -21,7 +21,8 @@ fn print_case(letter: u8, verdict: Verdict) {
 fn print_draining(letter: u8, level: u32) {
     let sources = [0u8];
     let targets = [0u8];
-    let weights = [-1i16];
+    let draws = [1u16];
+    let gains = [0u16];
     let colours = [0u8];
     let plan = [0u8];
     let verdict = judge(
@@ -30,7 +31,8 @@ fn print_draining(letter: u8, level: u32) {
         0,
         &sources,
         &targets,
-        &weights,
+        &draws,
+        &gains,
         &colours,
         level,
         level,
@@ -45,7 +47,8 @@ fn print_draining(letter: u8, level: u32) {
 fn print_balanced(letter: u8, level: u32) {
     let sources = [0u8, 1u8];
     let targets = [1u8, 0u8];
-    let weights = [3i16, -3i16];
+    let draws = [0u16, 3u16];
+    let gains = [3u16, 0u16];
     let colours = [0u8, 0u8];
     let plan = [0u8, 1u8];
     let verdict = judge(
@@ -54,7 +57,8 @@ fn print_balanced(letter: u8, level: u32) {
         0,
         &sources,
         &targets,
-        &weights,
+        &draws,
+        &gains,
         &colours,
         level,
         level,
@@ -69,7 +73,8 @@ fn print_balanced(letter: u8, level: u32) {
 fn print_charged(letter: u8) {
     let sources = [0u8, 0u8, 1u8];
     let targets = [0u8, 1u8, 1u8];
-    let weights = [1i16, -5i16, 0i16];
+    let draws = [0u16, 5u16, 0u16];
+    let gains = [1u16, 0u16, 0u16];
     let colours = [0u8, 0u8, 1u8];
     let plan = [0u8, 0u8, 0u8, 0u8, 0u8, 1u8, 2u8];
     let verdict = judge(
@@ -78,7 +83,8 @@ fn print_charged(letter: u8) {
         1,
         &sources,
         &targets,
-        &weights,
+        &draws,
+        &gains,
         &colours,
         0,
         5,
@@ -93,7 +99,8 @@ fn print_charged(letter: u8) {
 fn print_coloured(letter: u8, round: &[u8], q: u32) {
     let sources = [0u8, 0u8];
     let targets = [0u8, 0u8];
-    let weights = [-2i16, 2i16];
+    let draws = [2u16, 0u16];
+    let gains = [0u16, 2u16];
     let colours = [1u8, 2u8];
     let verdict = judge(
         1,
@@ -101,7 +108,8 @@ fn print_coloured(letter: u8, round: &[u8], q: u32) {
         2,
         &sources,
         &targets,
-        &weights,
+        &draws,
+        &gains,
         &colours,
         0,
         2,

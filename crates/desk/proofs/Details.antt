@@ -20,7 +20,7 @@ use Rattle.refusals.specs.declared.Verdict.the-variants.{Yes, Refused}
 use Rattle.refusals.specs.Refusals.{numbered, answerOf, refuse, andThen}
 use Rattle.refusals.proofs.Scan.{Scan}
 use Rattle.model.specs.declared.Arc.{Arc}
-use Rattle.model.specs.Automaton.{Automaton, arcAt, meets}
+use Rattle.model.specs.Automaton.{Automaton, arcAt, meets, moveOf}
 use Rattle.model.specs.Lists.{Lists, arcsOf, automatonOf}
 use Rattle.model.specs.Fitness.{unfitLists, header, headerOf, arcsVerdict, fitness, levelsOf}
 use Rattle.model.specs.Plans.{Plan}
@@ -91,12 +91,12 @@ module _ {d : ℕ} where
     scan-within = from-within n 0 (omega arith)
 
   -- 1 to 4
-  header-within : (n s k sources targets weights colours : ℕ) → Within d (header n s k sources targets weights colours)
+  header-within : (n s k sources targets draws gains colours : ℕ) → Within d (header n s k sources targets draws gains colours)
   unfolding header
-  header-within n s k sources targets weights colours =
+  header-within n s k sources targets draws gains colours =
       refuse-within (eqb n 0 || ltb modesMost n) ModeCount (omega arith)
       (refuse-within (leb n s) StartMode (omega arith)
-      (refuse-within (unfitLists sources targets weights colours) ArcLists (omega arith)
+      (refuse-within (unfitLists sources targets draws gains colours) ArcLists (omega arith)
       (refuse-within (ltb coloursMost k) ColourCount (omega arith)
       yes-within)))
 
@@ -108,7 +108,7 @@ module _ {d : ℕ} where
   fitness-within : (n s k : ℕ) (l : Lists) → arcsMost ≤ d → Within d (fitness n s k l)
   unfolding fitness
   fitness-within n s k l h =
-      then-within (headerOf n s k l) (header-within n s k _ _ _ _) λ e.
+      then-within (headerOf n s k l) (header-within n s k _ _ _ _ _) λ e.
       arcs-within n (2 ^ k) (arcsOf l) (omega (arith, header-yes n s k l .0 e .few-arcs, arcs-length l (length (l .sources)) 0))
 
   -- 6
@@ -155,7 +155,7 @@ module _ {d : ℕ} where
     ran-within : (w : List ℕ) (i e : ℕ) {f : ℕ → Verdict} → i + length w ≤ d → ((x : ℕ) → Within d (f x)) → Within d (afterRan (ran g b w i e) f)
     unfolding ran
     ran-within [] i e h after = after e
-    ran-within (a ∷ w) i e {f} h after = on (stepped b (arcAt g a .weight) e) λ y. ran-within w (suc i) y (omega arith) after
+    ran-within (a ∷ w) i e {f} h after = on (stepped b (moveOf (arcAt g a)) e) λ y. ran-within w (suc i) y (omega arith) after
       where
         on : (s : Step) → ((y : ℕ) → Within d (afterRan (ran g b w (suc i) y) f)) → Within d (afterRan (ranOn s i (ran g b w (suc i))) f)
         on (To y l) ih = ih y

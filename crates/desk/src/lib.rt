@@ -52,7 +52,8 @@ pub extern "C" fn chargeplan_judge(
     k: u32,
     sources: &[u8],
     targets: &[u8],
-    weights: &[i16],
+    draws: &[u16],
+    gains: &[u16],
     colours: &[u8],
     c: u32,
     b: u32,
@@ -60,7 +61,7 @@ pub extern "C" fn chargeplan_judge(
     q: u32,
     plan: &[u8],
 ) -> u64
-    ensures { λ r. ⌜ r ≡ deskJudged n start k (lists (now (sources .entry)) (now (targets .entry)) (now (weights .entry)) (now (colours .entry))) b c p q (now (plan .entry)) ⌝ }
+    ensures { λ r. ⌜ r ≡ deskJudged n start k (lists (now (sources .entry)) (now (targets .entry)) (now (draws .entry)) (now (gains .entry)) (now (colours .entry))) b c p q (now (plan .entry)) ⌝ }
 {
     let verdict = judge(
         n,
@@ -68,7 +69,8 @@ pub extern "C" fn chargeplan_judge(
         k,
         sources,
         targets,
-        weights,
+        draws,
+        gains,
         colours,
         c,
         b,
@@ -88,14 +90,15 @@ pub extern "C" fn chargeplan_search(
     k: u32,
     sources: &[u8],
     targets: &[u8],
-    weights: &[i16],
+    draws: &[u16],
+    gains: &[u16],
     colours: &[u8],
     c: u32,
     b: u32,
     work: &mut [u16],
     plan: &mut [u8],
 ) -> u64
-    ensures { λ r. ⌜ DeskSearched n start k (lists (now (sources .entry)) (now (targets .entry)) (now (weights .entry)) (now (colours .entry))) b c (now (work .entry)) (now (plan .entry)) (now (work .exit)) (now (plan .exit)) r ⌝ }
+    ensures { λ r. ⌜ DeskSearched n start k (lists (now (sources .entry)) (now (targets .entry)) (now (draws .entry)) (now (gains .entry)) (now (colours .entry))) b c (now (work .entry)) (now (plan .entry)) (now (work .exit)) (now (plan .exit)) r ⌝ }
 {
     let searched = search(
         n,
@@ -103,7 +106,8 @@ pub extern "C" fn chargeplan_search(
         k,
         sources,
         targets,
-        weights,
+        draws,
+        gains,
         colours,
         c,
         b,
@@ -124,14 +128,15 @@ pub extern "C" fn chargeplan_gauge_start(
     k: u32,
     sources: &[u8],
     targets: &[u8],
-    weights: &[i16],
+    draws: &[u16],
+    gains: &[u16],
     colours: &[u8],
     c: u32,
     b: u32,
 ) -> Started
-    ensures { λ r. ⌜ r ≡ deskStarted n start k (lists (now (sources .entry)) (now (targets .entry)) (now (weights .entry)) (now (colours .entry))) b c ⌝ }
+    ensures { λ r. ⌜ r ≡ deskStarted n start k (lists (now (sources .entry)) (now (targets .entry)) (now (draws .entry)) (now (gains .entry)) (now (colours .entry))) b c ⌝ }
 {
-    let gauged = Gauge::start(n, start, k, sources, targets, weights, colours, c, b);
+    let gauged = Gauge::start(n, start, k, sources, targets, draws, gains, colours, c, b);
     let verdict = gauged.verdict;
     let gauge = gauged.gauge;
     let answer = pack_alone(verdict.answer());
@@ -148,12 +153,13 @@ pub extern "C" fn chargeplan_gauge_step(
     k: u32,
     sources: &[u8],
     targets: &[u8],
-    weights: &[i16],
+    draws: &[u16],
+    gains: &[u16],
     colours: &[u8],
     b: u32,
     arc: u32,
 ) -> u64
-    ensures { λ r. ⌜ DeskStepped n start k (lists (now (sources .entry)) (now (targets .entry)) (now (weights .entry)) (now (colours .entry))) b arc (now (gauge .entry)) (now (gauge .exit)) r ⌝ }
+    ensures { λ r. ⌜ DeskStepped n start k (lists (now (sources .entry)) (now (targets .entry)) (now (draws .entry)) (now (gains .entry)) (now (colours .entry))) b arc (now (gauge .entry)) (now (gauge .exit)) r ⌝ }
 {
     let answer = step(
         gauge,
@@ -162,7 +168,8 @@ pub extern "C" fn chargeplan_gauge_step(
         k,
         sources,
         targets,
-        weights,
+        draws,
+        gains,
         colours,
         b,
         arc,
@@ -179,7 +186,8 @@ pub extern "C" fn chargeplan_walk(
     k: u32,
     sources: &[u8],
     targets: &[u8],
-    weights: &[i16],
+    draws: &[u16],
+    gains: &[u16],
     colours: &[u8],
     c: u32,
     b: u32,
@@ -189,7 +197,7 @@ pub extern "C" fn chargeplan_walk(
     j: u32,
     allowance: u16,
 ) -> u64
-    ensures { λ r. ⌜ r ≡ deskWalked n start k (lists (now (sources .entry)) (now (targets .entry)) (now (weights .entry)) (now (colours .entry))) b c p q (now (plan .entry)) j allowance ⌝ }
+    ensures { λ r. ⌜ r ≡ deskWalked n start k (lists (now (sources .entry)) (now (targets .entry)) (now (draws .entry)) (now (gains .entry)) (now (colours .entry))) b c p q (now (plan .entry)) j allowance ⌝ }
 {
     let walked = walk(
         n,
@@ -197,7 +205,8 @@ pub extern "C" fn chargeplan_walk(
         k,
         sources,
         targets,
-        weights,
+        draws,
+        gains,
         colours,
         c,
         b,

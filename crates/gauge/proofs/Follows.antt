@@ -7,13 +7,13 @@ use Prim.Native.Nat.{ℕ, _+_, _*_, _≤_, _<_}
 use native.Mathlib.Omega.{arith}
 use native.Mathlib.Decide.{decLe, ℕ-discrete}
 use lib.ListN.{length, take, length-take}
-use Rattle.limits.specs.Ceilings.{boundMost, spillMost}
+use Rattle.limits.specs.Ceilings.{boundMost, gainMost, spillMost}
 use Rattle.walks.specs.declared.Step.{Step}
 use Rattle.walks.specs.declared.Step.the-variants.{To, Impossible}
 use Rattle.walks.specs.BoundedStep.{stepped}
 use Rattle.walks.specs.Walk.{Ends, walked, times}
 use Rattle.walks.specs.Spill.{spilled}
-use Rattle.walks.proofs.Weights.{walked-cons}
+use Rattle.walks.proofs.Walks.{walked-cons}
 use Rattle.walks.proofs.Charges.{stepped-bound}
 use Rattle.walks.proofs.Spill.{spilled-cons}
 use Rattle.refusals.specs.declared.Refusal.{Refusal}
@@ -21,7 +21,7 @@ use Rattle.refusals.specs.declared.Refusal.the-variants.{ArcNumber, OtherMode, 
 use Rattle.refusals.specs.declared.Verdict.{Verdict}
 use Rattle.refusals.specs.declared.Verdict.the-variants.{Yes, Refused}
 use Rattle.refusals.proofs.Verdicts.{clash}
-use Rattle.model.specs.Automaton.{Automaton, arcAt, weights}
+use Rattle.model.specs.Automaton.{Automaton, arcAt, moveOf, movesOf}
 use Rattle.model.specs.Lists.{Lists, automatonOf}
 use Rattle.model.specs.Fitness.{fitness, levelsOf}
 use Rattle.model.specs.Plans.{Plan, Leads, walkedArcs, Serves}
@@ -31,7 +31,7 @@ use Rattle.gauge.specs.declared.Gauge.{Gauge}
 use Rattle.gauge.specs.declared.Gauged.{Gauged}
 use Rattle.gauge.specs.Gauge.{newGauge, movedTo, noGauge, gauged, startedOf, landed, movedOf, Matches, steppedOf, stopAt, afterGauged}
 use Rattle.gauge.specs.History.{calledAll, stepsOf}
-use Rattle.gauge.proofs.Losses.{lossMost, spilled-most}
+use Rattle.gauge.proofs.Losses.{spilled-most}
 use Rattle.gauge.proofs.Gauges.{landed-off, landed-full, landed-on, moved-number, moved-mode, moved-lands}
 use Rattle.gauge.proofs.Matching.{old-by, matching-step, mixed-step, yes-kept, step-kept, kept-matches, new-matches}
 
@@ -73,10 +73,10 @@ landed-yes z u Impossible t x y = (λ q. not-yes (ImpossibleStep 0) z (movedTo z
 -- the total does not pass 64 bits
 pub moved-yes : (g : Automaton) (b a : ℕ) (z : Gauge) (t x y : ℕ) → (movedOf g b a z ≡ gauged Yes (movedTo z t x y))
     ↔ ((a < length (g .arcs)) × (arcAt g a .source ≡ z .mode) × (arcAt g a .target ≡ t)
-    × Spills (stepped b (arcAt g a .weight) (z .charge)) (z .spill) x y)
+    × Spills (stepped b (moveOf (arcAt g a)) (z .charge)) (z .spill) x y)
 moved-yes g b a z t x y =
     let z′ = movedTo z t x y in
-    let lands = landed-yes z (arcAt g a .target) (stepped b (arcAt g a .weight) (z .charge)) t x y in (
+    let lands = landed-yes z (arcAt g a .target) (stepped b (moveOf (arcAt g a)) (z .charge)) t x y in (
       λ q.
           elim (decLe (length (g .arcs)) a) [
             | yes h ↦ not-yes (ArcNumber 0) z z′ (sym (moved-number g b a z h) ∙ q)
@@ -128,7 +128,7 @@ module _ (n s k : ℕ) (l : Lists) (b : ℕ) (fit : fitness n s k l ≡ Yes) (hb
   pub gauge-follows : (w : List ℕ) (z : Gauge) (t x y : ℕ) → Matches (automatonOf n s k l) b z → z .charge ≤ b → z .spill ≤ spillMost
       → (stepsOf n s k l b w z ≡ gauged Yes (movedTo z t x y))
       ↔ (Leads (automatonOf n s k l) (z .mode) w t × (walkedArcs (automatonOf n s k l) b w (z .charge) ≡ Ends x)
-      × (y ≡ z .spill + spilled b (weights (automatonOf n s k l) w) (z .charge)) × (y ≤ spillMost))
+      × (y ≡ z .spill + spilled b (movesOf (automatonOf n s k l) w) (z .charge)) × (y ≤ spillMost))
   unfolding calledAll walked spilled
   gauge-follows [] z t x y match h hi =
       let same = same-gauge z (z .mode) (z .charge) (z .spill) t x y in (
@@ -137,11 +137,11 @@ module _ (n s k : ℕ) (l : Lists) (b : ℕ) (fit : fitness n s k l ≡ Yes) (hb
       )
   gauge-follows (a ∷ w) z t x y match h hi =
       let g = automatonOf n s k l in
-      let f = arcAt g a .weight in
+      let f = moveOf (arcAt g a) in
       let e = z .charge in
       let step = step-moved n s k l b a z fit (levels-yes b e .1 (hb, h)) match in
       let after = after-yes (steppedOf n s k l b a z) (stepsOf n s k l b w) (movedTo z t x y) in
-      let walk = walked-cons b f (weights g w) e x in (
+      let walk = walked-cons b f (movesOf g w) e x in (
         λ q.
             let (u, p, r) = after .0 q in
             let kept = yes-kept z u (steppedOf n s k l b a z) p (step-kept n s k l b a z) in
@@ -154,13 +154,13 @@ module _ (n s k : ℕ) (l : Lists) (b : ℕ) (fit : fitness n s k l ≡ Yes) (hb
             in (
               (below, source, rw target leads),
               walk .1 (u .charge, lost, to, ends),
-              omega (arith, spilled-cons b f (weights g w) e (u .charge) lost to),
+              omega (arith, spilled-cons b f (movesOf g w) e (u .charge) lost to),
               most,
             ),
         λ ((below, source, leads), q, all, most).
             let (v, lost, to, ends) = walk .0 q in
             let u = movedTo z (arcAt g a .target) v (z .spill + lost) in
-            let sum = spilled-cons b f (weights g w) e v lost to in
+            let sum = spilled-cons b f (movesOf g w) e v lost to in
             after .1 (
               u,
               step ∙ moved-yes g b a z (u .mode) v (u .spill) .1 (below, source, refl, (lost, to, refl, omega (arith, sum))),
@@ -178,13 +178,13 @@ started-yes n s k l b c fit levels = rw (fit, levels) refl
 -- total would pass 64 bits: else it has the mode that the arcs lead to, the charge of their walk, and what the walk lost.
 pub plan-followed : (n s k : ℕ) (l : Lists) (b c : ℕ) (p : Plan) → fitness n s k l ≡ Yes → b ≤ boundMost → c ≤ b
     → Serves (automatonOf n s k l) b c p → (r i : ℕ) → let w = take i (p .prefix ++ times r (p .cycle)) in
-    let y = spilled b (weights (automatonOf n s k l) w) c in
+    let y = spilled b (movesOf (automatonOf n s k l) w) c in
     (t : ℕ) × (x : ℕ) × Leads (automatonOf n s k l) s w t × (walkedArcs (automatonOf n s k l) b w c ≡ Ends x)
     × ((afterGauged (startedOf n s k l b c) (stepsOf n s k l b w) ≡ gauged Yes (movedTo (newGauge (automatonOf n s k l) b c) t x y)) ↔ (y ≤ spillMost))
 plan-followed n s k l b c p fit hb hc serves r i =
     let (t, x, leads, ends) = serves-walked (automatonOf n s k l) b c p serves r i in
     let w = take i (p .prefix ++ times r (p .cycle)) in
-    let y = spilled b (weights (automatonOf n s k l) w) c in
+    let y = spilled b (movesOf (automatonOf n s k l) w) c in
     let z = newGauge (automatonOf n s k l) b c in
     let follows = gauge-follows n s k l b fit hb w z t x y (new-matches (automatonOf n s k l) b c) hc (omega arith) in (
       t,
@@ -196,11 +196,11 @@ plan-followed n s k l b c p fit hb hc serves r i =
 
 -- .. so not within the first 1,844,674,407,370,955 steps: none loses more than 10,000
 pub plan-never-full : (n s k : ℕ) (l : Lists) (b c : ℕ) (p : Plan) → fitness n s k l ≡ Yes → b ≤ boundMost → c ≤ b
-    → Serves (automatonOf n s k l) b c p → (r i : ℕ) → i * lossMost ≤ spillMost → let w = take i (p .prefix ++ times r (p .cycle)) in
+    → Serves (automatonOf n s k l) b c p → (r i : ℕ) → i * gainMost ≤ spillMost → let w = take i (p .prefix ++ times r (p .cycle)) in
     (x : Gauge) × (afterGauged (startedOf n s k l b c) (stepsOf n s k l b w) ≡ gauged Yes x)
 plan-never-full n s k l b c p fit hb hc serves r i few =
     let (t, x, leads, ends, followed) = plan-followed n s k l b c p fit hb hc serves r i in
     let all = p .prefix ++ times r (p .cycle) in
     let most = spilled-most n s k l b fit (take i all) s c t x hc leads ends in
     let g = automatonOf n s k l in
-    (movedTo (newGauge g b c) t x (spilled b (weights g (take i all)) c), followed .1 (omega (arith, length-take i all)))
+    (movedTo (newGauge g b c) t x (spilled b (movesOf g (take i all)) c), followed .1 (omega (arith, length-take i all)))

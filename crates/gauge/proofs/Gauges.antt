@@ -21,7 +21,7 @@ use Rattle.refusals.proofs.Verdicts.{refuse-yes}
 use Rattle.refusals.proofs.Tests.{or-no, differ-no}
 use Rattle.model.specs.declared.Model.{Model}
 use Rattle.model.specs.declared.Fitted.{Fitted}
-use Rattle.model.specs.Automaton.{Automaton, arcAt}
+use Rattle.model.specs.Automaton.{Automaton, arcAt, moveOf}
 use Rattle.model.specs.Lists.{Lists, automatonOf, held}
 use Rattle.model.specs.Fitness.{fittedOf, levelsOf, Holds}
 use Rattle.model.proofs.Held.{arcIn, held-arc, told-verdict, told-holds, told-held}
@@ -56,7 +56,7 @@ module _ (g : Automaton) (b a : ℕ) (x : Gauge) where
 
     -- neither does: the bounded step decides
     pub moved-lands : arcAt g a .source ≡ x .mode
-        → movedOf g b a x ≡ landed x (arcAt g a .target) (stepped b (arcAt g a .weight) (x .charge))
+        → movedOf g b a x ≡ landed x (arcAt g a .target) (stepped b (moveOf (arcAt g a)) (x .charge))
     unfolding movedOf
     moved-lands q = rw (lt-leb (length (g .arcs)) a h, eq-eqb (arcAt g a .source) (x .mode) q) refl
 
@@ -114,7 +114,7 @@ module _ (g : Model) (holds : Holds g) (b a : ℕ) (x : Gauge) where
     held-mode q = moved-mode (held g) b a x below (rw (held-arc g a h) q)
 
     -- neither does: the bounded step decides
-    pub held-lands : arcIn g a .source ≡ x .mode → (s : Step) → stepped b (arcIn g a .weight) (x .charge) ≡ s
+    pub held-lands : arcIn g a .source ≡ x .mode → (s : Step) → stepped b (moveOf (arcIn g a)) (x .charge) ≡ s
         → movedOf (held g) b a x ≡ landed x (arcIn g a .target) s
     held-lands q s e = moved-lands (held g) b a x below (rw (held-arc g a h) q) ∙ rw (held-arc g a h, e) refl
 

@@ -1,29 +1,28 @@
--- Histories of steps, each call with a model and a bound of its own. Document 02, Ask 2: "For any sequence of accepted steps from a start, c plus
--- the weights walked equals charge plus the sum, over the history, of what each step lost, and the gauge's total is that sum." Ask 3: accepted
--- calls had the gauge's n, m and b, and these are all that it is told apart by. Assumes nothing.
+-- Histories of steps, each call with a model and a bound of its own. Document 02, Ask 2: "For any sequence of accepted steps from a start, ..
+-- the gauge's total is that sum", of what each step lost; Ask 4: "c plus gains equals charge plus draws plus spill." Ask 3: accepted calls had the
+-- gauge's n, m and b, and these are all that it is told apart by. Assumes nothing.
 use mathlib.Core.Path.{_≡_, refl, sym, ap, _∙_}
 use mathlib.Core.List.{List, [], _∷_, _++_, map}
 use Prim.Native.Nat.{ℕ, _+_}
 use native.Mathlib.Omega.{arith}
-use lib.IntN.{ℤ, pos, _+ℤ_}
 use lib.ListN.{length}
 use Rattle.walks.specs.declared.Step.the-variants.{To}
 use Rattle.walks.specs.BoundedStep.{stepped}
-use Rattle.walks.specs.Walk.{total}
+use Rattle.walks.specs.Moves.{draws, gains}
 use Rattle.walks.specs.Spill.{spilled}
-use Rattle.walks.proofs.Spill.{step-balance, then-balance, spilled-cons}
+use Rattle.walks.proofs.Spill.{step-balance, spilled-cons}
 use Rattle.refusals.specs.declared.Refusal.{Refusal}
 use Rattle.refusals.specs.declared.Refusal.the-variants.{MixedGauge}
 use Rattle.refusals.specs.declared.Verdict.{Verdict}
 use Rattle.refusals.specs.declared.Verdict.the-variants.{Yes, Refused}
 use Rattle.refusals.specs.Refusals.{refuse, andThen}
-use Rattle.model.specs.Automaton.{arcAt, weights}
+use Rattle.model.specs.Automaton.{arcAt, moveOf, movesOf}
 use Rattle.model.specs.Lists.{Lists, automatonOf}
 use Rattle.model.specs.Fitness.{fitness, levelsOf}
 use Rattle.gauge.specs.declared.Gauge.{Gauge}
 use Rattle.gauge.specs.declared.Gauged.{Gauged}
 use Rattle.gauge.specs.Gauge.{newGauge, gauged, noGauge, stopAt, startedOf, movedOf, Matches, mixedUp, movedMatched, movedLevelled, steppedOf, oldRule, afterGauged}
-use Rattle.gauge.specs.History.{Call, callModel, called, calledAll, callsOf, stepsOf, weightOf, lostBy}
+use Rattle.gauge.specs.History.{Call, callModel, called, calledAll, callsOf, stepsOf, callMove, lostBy}
 use Rattle.gauge.proofs.Gauges.{match-through}
 use Rattle.gauge.proofs.Matching.{matching-step, mixed-step, Kept, step-kept, yes-kept, kept-on, kept-matches, new-matches}
 use Rattle.gauge.proofs.Follows.{Spills, not-yes, moved-yes, after-yes, after-refused}
@@ -50,13 +49,13 @@ called-kept d x y q = yes-kept x y (called d x) q (step-kept (d .modes) (d .star
 
 -- the step is possible, and the total grows by what it lost
 called-spills : (d : Call) (x y : Gauge) → called d x ≡ gauged Yes y
-    → Spills (stepped (d .bound) (weightOf d) (x .charge)) (x .spill) (y .charge) (y .spill)
+    → Spills (stepped (d .bound) (callMove d) (x .charge)) (x .spill) (y .charge) (y .spill)
 called-spills d x y q =
     moved-yes (callModel d) (d .bound) (d .arc) x (y .mode) (y .charge) (y .spill) .0
     (called-yes d x y q .1 ∙ ap {B = Gauged} (gauged Yes) (called-kept d x y q)) .3
 
 -- what a history lost: its first step, and the others
-lost-cons : (d : Call) (h : List Call) (x u : Gauge) (e l : ℕ) → stepped (d .bound) (weightOf d) (x .charge) ≡ To e l → called d x ≡ gauged Yes u
+lost-cons : (d : Call) (h : List Call) (x u : Gauge) (e l : ℕ) → stepped (d .bound) (callMove d) (x .charge) ≡ To e l → called d x ≡ gauged Yes u
     → lostBy (d ∷ h) x ≡ l + lostBy h u
 unfolding lostBy
 lost-cons d h x u e l to p = rw (to, p) (omega arith)
@@ -68,22 +67,18 @@ calls-stop d h x r e = after-refused (called d x) (calledAll h) r e
 
 -- what is lost and gained over a history of accepted steps, from any gauge
 pub history-balance : (h : List Call) (x y : Gauge) → calledAll h x ≡ gauged Yes y
-    → (pos (x .charge) +ℤ total (map weightOf h) ≡ pos (y .charge + lostBy h x)) × (y .spill ≡ x .spill + lostBy h x)
+    → (x .charge + gains (map callMove h) ≡ y .charge + draws (map callMove h) + lostBy h x) × (y .spill ≡ x .spill + lostBy h x)
 unfolding calledAll lostBy
 history-balance [] x y q =
     let e : x .charge ≡ y .charge = ap {B = ℕ} (λ (z : Gauged). z .gauge .charge) q in
     let s : x .spill ≡ y .spill = ap {B = ℕ} (λ (z : Gauged). z .gauge .spill) q in
-    (ap {B = ℤ} pos (omega arith), omega arith)
+    (omega arith, omega arith)
 history-balance (d ∷ h) x y q =
     let (u, p, r) = after-yes (called d x) (calledAll h) y .0 q in
     let (lost, to, sum, low) = called-spills d x u p in
     let (i, j) = history-balance h u y r in
-    let all : lostBy (d ∷ h) x ≡ lost + lostBy h u = lost-cons d h x u (u .charge) lost to p in (
-      rw all
-          (then-balance (x .charge) (u .charge) lost (y .charge) (lostBy h u) (weightOf d) (total (map weightOf h))
-          (step-balance (d .bound) (weightOf d) (x .charge) (u .charge) lost to) i),
-      omega arith,
-    )
+    let all = lost-cons d h x u (u .charge) lost to p in
+    (omega (arith, all, step-balance (d .bound) (callMove d) (x .charge) (u .charge) lost to), omega (arith, all))
 
 -- a start that is accepted, and the calls after it
 start-yes : (n s k : ℕ) (l : Lists) (b c : ℕ) (h : List Call) (y : Gauge) → afterGauged (startedOf n s k l b c) (calledAll h) ≡ gauged Yes y
@@ -97,14 +92,14 @@ start-yes n s k l b c h y q =
 
 -- from a start
 pub start-balance : (n s k : ℕ) (l : Lists) (b c : ℕ) (h : List Call) (y : Gauge) → afterGauged (startedOf n s k l b c) (calledAll h) ≡ gauged Yes y
-    → let x = newGauge (automatonOf n s k l) b c in (pos c +ℤ total (map weightOf h) ≡ pos (y .charge + lostBy h x)) × (y .spill ≡ lostBy h x)
+    → let x = newGauge (automatonOf n s k l) b c in (c + gains (map callMove h) ≡ y .charge + draws (map callMove h) + y .spill) × (y .spill ≡ lostBy h x)
 start-balance n s k l b c h y q =
     let (i, j) = history-balance h (newGauge (automatonOf n s k l) b c) y (start-yes n s k l b c h y q) in
-    (i, omega arith)
+    (omega arith, omega arith)
 
 -- on the arcs of one model that is what its walk lost
 pub lost-spilled : (n s k : ℕ) (l : Lists) (b : ℕ) (w : List ℕ) (x y : Gauge) → stepsOf n s k l b w x ≡ gauged Yes y
-    → lostBy (callsOf n s k l b w) x ≡ spilled b (weights (automatonOf n s k l) w) (x .charge)
+    → lostBy (callsOf n s k l b w) x ≡ spilled b (movesOf (automatonOf n s k l) w) (x .charge)
 unfolding calledAll lostBy spilled
 lost-spilled n s k l b [] x y q = refl
 lost-spilled n s k l b (a ∷ w) x y q =
@@ -114,7 +109,7 @@ lost-spilled n s k l b (a ∷ w) x y q =
     let (lost, to, _, _) = called-spills d x u p in
     lost-cons d (callsOf n s k l b w) x u (u .charge) lost to p
     ∙ ap {B = ℕ} (λ (i : ℕ). lost + i) (lost-spilled n s k l b w u y r)
-    ∙ sym (spilled-cons b (arcAt g a .weight) (weights g w) (x .charge) (u .charge) lost to)
+    ∙ sym (spilled-cons b (moveOf (arcAt g a)) (movesOf g w) (x .charge) (u .charge) lost to)
 
 -- calls keep the gauge's n, m and b, accepted or refused
 pub calls-kept : (h : List Call) (x : Gauge) → Kept x (calledAll h x .gauge)

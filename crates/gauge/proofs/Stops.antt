@@ -16,7 +16,7 @@ use Rattle.refusals.specs.declared.Verdict.{Verdict}
 use Rattle.refusals.specs.declared.Verdict.the-variants.{Yes, Refused}
 use Rattle.refusals.specs.Refusals.{refuse}
 use Rattle.refusals.proofs.Verdicts.{clash}
-use Rattle.model.specs.Automaton.{Automaton, arcAt}
+use Rattle.model.specs.Automaton.{Automaton, arcAt, moveOf}
 use Rattle.model.specs.Lists.{Lists, automatonOf}
 use Rattle.model.specs.Fitness.{fitness, levelsOf}
 use Rattle.gauge.specs.declared.Gauge.{Gauge}
@@ -59,7 +59,7 @@ module _ (By : Refusal → Type 0) where
   unfolding movedOf
   moved-outcome number mode step g b a x =
       let other = refuse (not (eqb (arcAt g a .source) (x .mode))) (OtherMode 0) Yes in
-      let f = stepped b (arcAt g a .weight) (x .charge) in
+      let f = stepped b (moveOf (arcAt g a)) (x .charge) in
       stop-outcome (refuse (leb (length (g .arcs)) a) (ArcNumber 0) other) x (landed x (arcAt g a .target) f)
       (row-only (leb (length (g .arcs)) a) (ArcNumber 0) other number
       (row-only (not (eqb (arcAt g a .source) (x .mode))) (OtherMode 0) Yes mode yes-only))

@@ -14,7 +14,7 @@ use Rattle.refusals.specs.declared.Refusal.the-variants.{ArcNumber, OtherMode, 
 use Rattle.refusals.specs.declared.Verdict.{Verdict}
 use Rattle.refusals.specs.declared.Verdict.the-variants.{Yes, Refused}
 use Rattle.refusals.specs.Refusals.{refuse, andThen}
-use Rattle.model.specs.Automaton.{Automaton, arcAt}
+use Rattle.model.specs.Automaton.{Automaton, arcAt, moveOf}
 use Rattle.model.specs.Lists.{Lists, automatonOf}
 use Rattle.model.specs.Fitness.{fitness, levelsOf}
 use Rattle.gauge.specs.declared.Gauge.{Gauge}
@@ -63,7 +63,7 @@ movedOf g b a x =
     (refuse (leb (length (g .arcs)) a) (ArcNumber 0)
     (refuse (not (eqb (arcAt g a .source) (x .mode))) (OtherMode 0)
     Yes))
-    x (landed x (arcAt g a .target) (stepped b (arcAt g a .weight) (x .charge)))
+    x (landed x (arcAt g a .target) (stepped b (moveOf (arcAt g a)) (x .charge)))
 
 -- Ask 3: "any of the three differs from the call's" n, m and b
 unfoldable pub mixedUp : ℕ → ℕ → ℕ → Gauge → Bool

@@ -1,12 +1,11 @@
--- Steps one after the other. Document 02, Ask 2: "For any sequence of accepted steps from a start, c plus the weights walked equals charge plus
--- the sum, over the history, of what each step lost, and the gauge's total is that sum."
+-- Steps one after the other. Document 02, Ask 2: "For any sequence of accepted steps from a start", with "the sum, over the history, of what
+-- each step lost"; Ask 4: "c plus gains equals charge plus draws plus spill."
 use Prim.Native.Nat.{ℕ, _+_}
 use mathlib.Core.List.{List, [], _∷_, map}
-use lib.IntN.{ℤ}
-use Rattle.walks.specs.BoundedStep.{stepped}
+use Rattle.walks.specs.BoundedStep.{Move, stepped}
 use Rattle.walks.specs.Spill.{lostIn}
 use Rattle.refusals.specs.declared.Verdict.the-variants.{Yes}
-use Rattle.model.specs.Automaton.{Automaton, arcAt}
+use Rattle.model.specs.Automaton.{Automaton, arcAt, moveOf}
 use Rattle.model.specs.Lists.{Lists, automatonOf}
 use Rattle.gauge.specs.declared.Gauge.{Gauge}
 use Rattle.gauge.specs.declared.Gauged.{Gauged}
@@ -39,11 +38,11 @@ callsOf n s k l b w = map (λ a. record { modes = n; start = s; colours = k; lis
 abbrev pub stepsOf : ℕ → ℕ → ℕ → Lists → ℕ → List ℕ → Gauge → Gauged
 stepsOf n s k l b w = calledAll (callsOf n s k l b w)
 
--- the weight that a call walks
-abbrev pub weightOf : Call → ℤ
-weightOf d = arcAt (callModel d) (d .arc) .weight
+-- what the arc of a call draws and gains
+abbrev pub callMove : Call → Move
+callMove d = moveOf (arcAt (callModel d) (d .arc))
 
 -- "the sum, over the history, of what each step lost"
 unfoldable pub lostBy : List Call → Gauge → ℕ
 lostBy [] x = 0
-lostBy (d ∷ h) x = lostIn (stepped (d .bound) (weightOf d) (x .charge)) + lostBy h (called d x .gauge)
+lostBy (d ∷ h) x = lostIn (stepped (d .bound) (callMove d) (x .charge)) + lostBy h (called d x .gauge)

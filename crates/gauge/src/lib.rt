@@ -116,7 +116,7 @@ fn step_on(gauge: Gauge, model: Model, b: u16, arc: u32) -> Gauged
     if taken.source != gauge.mode {
         return refused(gauge, Refusal::OtherMode(0));
     }
-    let next = bounded_step(gauge.charge, taken.weight, b);
+    let next = bounded_step(gauge.charge, taken.draw, taken.gain, b);
     match next {
         Step::To(charge, lost) => land(gauge, taken.target, charge, lost),
         Step::Impossible => refused(gauge, Refusal::ImpossibleStep(0)),
@@ -169,14 +169,15 @@ impl Gauge {
         k: u32,
         sources: &[u8],
         targets: &[u8],
-        weights: &[i16],
+        draws: &[u16],
+        gains: &[u16],
         colours: &[u8],
         c: u32,
         b: u32,
     ) -> Gauged
-        ensures { λ r. ⌜ r ≡ startedOf n start k (lists (now (sources .entry)) (now (targets .entry)) (now (weights .entry)) (now (colours .entry))) b c ⌝ }
+        ensures { λ r. ⌜ r ≡ startedOf n start k (lists (now (sources .entry)) (now (targets .entry)) (now (draws .entry)) (now (gains .entry)) (now (colours .entry))) b c ⌝ }
     {
-        let fitted = check_model(n, start, k, sources, targets, weights, colours);
+        let fitted = check_model(n, start, k, sources, targets, draws, gains, colours);
         let verdict = fitted.verdict;
         match verdict {
             Verdict::Yes => start_levelled(
@@ -199,14 +200,15 @@ impl Gauge {
         k: u32,
         sources: &[u8],
         targets: &[u8],
-        weights: &[i16],
+        draws: &[u16],
+        gains: &[u16],
         colours: &[u8],
         b: u32,
         arc: u32,
     ) -> Gauged
-        ensures { λ r. ⌜ r ≡ steppedOf n start k (lists (now (sources .entry)) (now (targets .entry)) (now (weights .entry)) (now (colours .entry))) b arc self ⌝ }
+        ensures { λ r. ⌜ r ≡ steppedOf n start k (lists (now (sources .entry)) (now (targets .entry)) (now (draws .entry)) (now (gains .entry)) (now (colours .entry))) b arc self ⌝ }
     {
-        let fitted = check_model(n, start, k, sources, targets, weights, colours);
+        let fitted = check_model(n, start, k, sources, targets, draws, gains, colours);
         let verdict = fitted.verdict;
         match verdict {
             Verdict::Yes => step_levelled(self, fitted.model, b, arc),

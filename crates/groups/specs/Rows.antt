@@ -5,7 +5,6 @@ use mathlib.Core.Path.{_≡_}
 use mathlib.Core.List.{List, [], _∷_, _++_}
 use lib.ListN.{getD}
 use Rattle.limits.specs.Ceilings.{arcsMost}
-use Rattle.walks.specs.Moves.{drawOf, gainOf}
 use Rattle.model.specs.declared.Arc.{Arc}
 use Rattle.model.specs.declared.Model.{Model}
 use Rattle.model.specs.Automaton.{noArc}
@@ -21,7 +20,7 @@ wordsMost = rowWords * arcsMost
 
 -- source, target, draw, gain, colours
 abbrev pub rowOf : Arc → List ℕ
-rowOf a = a .source ∷ a .target ∷ drawOf (a .weight) ∷ gainOf (a .weight) ∷ a .colours ∷ []
+rowOf a = a .source ∷ a .target ∷ a .draw ∷ a .gain ∷ a .colours ∷ []
 
 -- the rows of m arcs
 abbrev pub rowsUpTo : (ℕ → Arc) → ℕ → List ℕ
@@ -60,6 +59,6 @@ coloursAt w a = getD w (rowWords * a + 4) 0
 pub record ReadsArc (w : List ℕ) (a : ℕ) (x : Arc) : Type 0 where
   pub source : sourceAt w a ≡ x .source
   pub target : targetAt w a ≡ x .target
-  pub draw : drawAt w a ≡ drawOf (x .weight)
-  pub gain : gainAt w a ≡ gainOf (x .weight)
+  pub draw : drawAt w a ≡ x .draw
+  pub gain : gainAt w a ≡ x .gain
   pub colours : coloursAt w a ≡ x .colours

@@ -22,7 +22,7 @@ use Rattle.refusals.specs.declared.Verdict.{Verdict}
 use Rattle.refusals.specs.declared.Verdict.the-variants.{Yes, Refused}
 use Rattle.refusals.specs.Refusals.{refuse}
 use Rattle.refusals.proofs.Verdicts.{clash, refuse-not, and-then-second}
-use Rattle.model.specs.Automaton.{Automaton, arcAt}
+use Rattle.model.specs.Automaton.{Automaton, arcAt, moveOf}
 use Rattle.model.specs.Plans.{Plan, walkedArcs}
 use Rattle.judge.specs.declared.Ran.{Ran}
 use Rattle.judge.specs.declared.Ran.the-variants.{Through, Stops}
@@ -73,7 +73,7 @@ module _ (g : Automaton) (b : ℕ) where
   ran-append : (u v : List ℕ) (i e : ℕ) → ran g b (u ++ v) i e ≡ thenRan (ran g b u i e) (λ x. ran g b v (i + length u) x)
   unfolding ran
   ran-append [] v i e = rw (add-zero i) refl
-  ran-append (a ∷ u) v i e = go (stepped b (arcAt g a .weight) e) (ran-append u v (suc i))
+  ran-append (a ∷ u) v i e = go (stepped b (moveOf (arcAt g a)) e) (ran-append u v (suc i))
     where
       go : (s : Step) → ((y : ℕ) → ran g b (u ++ v) (suc i) y ≡ thenRan (ran g b u (suc i) y) (λ x. ran g b v (suc i + length u) x))
           → ranOn s i (ran g b (u ++ v) (suc i)) ≡ thenRan (ranOn s i (ran g b u (suc i))) (λ x. ran g b v (i + suc (length u)) x)
@@ -94,15 +94,15 @@ module _ (g : Automaton) (b : ℕ) where
 
   -- the walk of the first i arcs ends at some charge, from which the next step is not possible
   abbrev pub StopsAt : List ℕ → ℕ → ℕ → Type 0
-  StopsAt w c i = (i < length w) × ((x : ℕ) × (walkedArcs g b (take i w) c ≡ Ends x) × (stepped b (arcAt g (getD w i 0) .weight) x ≡ Impossible))
+  StopsAt w c i = (i < length w) × ((x : ℕ) × (walkedArcs g b (take i w) c ≡ Ends x) × (stepped b (moveOf (arcAt g (getD w i 0))) x ≡ Impossible))
 
   -- the step where a walk stops, counted from k on
   stops-at : (w : List ℕ) (k c d : ℕ) → ran g b w k c ≡ Stops d → (i : ℕ) × (k + i ≡ d) × StopsAt w c i
   unfolding ran walked
   stops-at [] k c d q = clash (cc)
-  stops-at (a ∷ w) k c d q = go (stepped b (arcAt g a .weight) c) refl (λ y. stops-at w (suc k) y d) q
+  stops-at (a ∷ w) k c d q = go (stepped b (moveOf (arcAt g a)) c) refl (λ y. stops-at w (suc k) y d) q
     where
-      go : (s : Step) → stepped b (arcAt g a .weight) c ≡ s → ((y : ℕ) → ran g b w (suc k) y ≡ Stops d → (i : ℕ) × (suc k + i ≡ d) × StopsAt w y i)
+      go : (s : Step) → stepped b (moveOf (arcAt g a)) c ≡ s → ((y : ℕ) → ran g b w (suc k) y ≡ Stops d → (i : ℕ) × (suc k + i ≡ d) × StopsAt w y i)
           → ranOn s k (ran g b w (suc k)) ≡ Stops d → (i : ℕ) × (k + i ≡ d) × StopsAt (a ∷ w) c i
       go (To y l) e ih q = let (i, n, (h, (x, u, v))) = ih y q in (suc i, omega arith, (omega arith, (x, rw e u, v)))
       go Impossible e ih q = let z : k ≡ d = cc in (0, omega arith, (omega arith, (c, refl, e)))

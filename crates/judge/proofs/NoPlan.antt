@@ -2,7 +2,7 @@
 -- walk there meets. Assumes nothing.
 use mathlib.Core.Path.{_≡_, refl}
 use mathlib.Core.Bool.{Bool, true, false, true≢false, not, _&&_, _||_, and-eq-true-iff}
-use mathlib.Core.List.{List, [], _∷_, map}
+use mathlib.Core.List.{List, [], _∷_}
 use mathlib.Core.Logic.{inl, ⊎-elim}
 use Prim.Native.Nat.{ℕ, zero, suc, _≤_, _<_}
 use native.Mathlib.Omega.{arith}
@@ -10,10 +10,11 @@ use native.Mathlib.Decide.{ℕ-discrete}
 use lib.Dec.{leb}
 use lib.ListN.{length}
 use borrow.Author.Tests.{leb-true, leb-false, le-leb, not-true}
-use Rattle.walks.specs.Moves.{moveOf, drawOf, after, Possible}
-use Rattle.walks.proofs.Weights.{walked-to}
+use Rattle.walks.specs.BoundedStep.{after}
+use Rattle.walks.specs.Moves.{Possible}
+use Rattle.walks.proofs.Walks.{walked-to}
 use Rattle.walks.proofs.Charges.{walked-bound}
-use Rattle.model.specs.Automaton.{Automaton, arcAt, meets, weights}
+use Rattle.model.specs.Automaton.{Automaton, arcAt, meets, movesOf, moveOf}
 use Rattle.model.specs.Plans.{Plan, Leads, SomeArc, Accepted, SomePlan}
 use Rattle.model.proofs.Plans.{feasible-rounds}
 
@@ -23,7 +24,7 @@ sought g j a = leb (g .colours) j || meets g j a
 
 -- an arc can be used from inside: its source is inside, and the bound is at least what it draws
 abbrev usable : Automaton → ℕ → (ℕ → Bool) → ℕ → Bool
-usable g b inside a = inside (arcAt g a .source) && leb (drawOf (arcAt g a .weight)) b
+usable g b inside a = inside (arcAt g a .source) && leb (arcAt g a .draw) b
 
 -- where it can be used, it leads to a mode inside, and does not have colour j
 abbrev harmless : Automaton → ℕ → (ℕ → Bool) → ℕ → ℕ → Bool
@@ -63,19 +64,19 @@ sought-met g p j h m = go (leb (g .colours) j) refl
 
 module _ (g : Automaton) (b : ℕ) (inside : ℕ → Bool) (j : ℕ) (all : (a : ℕ) → a < length (g .arcs) → harmless g b inside j a ≡ true) where
   -- an arc that is walked from inside leads to a mode inside, and does not have colour j
-  step-inside : (a : ℕ) → a < length (g .arcs) → inside (arcAt g a .source) ≡ true → drawOf (arcAt g a .weight) ≤ b
+  step-inside : (a : ℕ) → a < length (g .arcs) → inside (arcAt g a .source) ≡ true → arcAt g a .draw ≤ b
       → (inside (arcAt g a .target) ≡ true) × (sought g j a ≡ false)
   step-inside a h s d =
-      let k = and-eq-true-iff (inside (arcAt g a .target)) (not (sought g j a)) .0 (rw (s, le-leb (drawOf (arcAt g a .weight)) b d) at (all a h)) in
+      let k = and-eq-true-iff (inside (arcAt g a .target)) (not (sought g j a)) .0 (rw (s, le-leb (arcAt g a .draw) b d) at (all a h)) in
       (k .0, not-true (sought g j a) (k .1))
 
   -- a walk from inside stays there, and no arc of it has colour j
-  stays : (w : List ℕ) (s t e : ℕ) → e ≤ b → inside s ≡ true → Leads g s w t → Possible b (map moveOf (weights g w)) e
+  stays : (w : List ℕ) (s t e : ℕ) → e ≤ b → inside s ≡ true → Leads g s w t → Possible b (movesOf g w) e
       → (inside t ≡ true) × (SomeArc (sought g j) w → ⊥)
   stays [] s t e h i l p = (rw l at i, λ m. m)
   stays (a ∷ w) s t e h i l p =
       let (k, n) = step-inside a (l .0) (rw (l .1) i) (omega arith) in
-      let (o, none) = stays w (arcAt g a .target) t (after b (moveOf (arcAt g a .weight)) e) (omega arith) k (l .2) (p .1) in
+      let (o, none) = stays w (arcAt g a .target) t (after b (moveOf (arcAt g a)) e) (omega arith) k (l .2) (p .1) in
       (o, λ m. ⊎-elim (λ q. true≢false (cc)) none m)
 
 -- No plan of any length is feasible and accepted, where the certificate passes its test. inside: modes that are not left; j: a colour that
@@ -87,7 +88,7 @@ no-plan g b c inside j r (p, s) =
     let h : c ≤ b = leb-true c b low in
     let stay = stays g b inside j (each-holds (harmless g b inside j) (length (g .arcs)) r₂) in
     let (e, q, (x, k, z)) = feasible-rounds g b c p h .0 (s .feasible) in
-    let (here, _) = stay (p .prefix) (g .start) (s .plan .mode) c h start (s .plan .leads-in) (walked-to b (weights g (p .prefix)) c e q .0) in
-    let u = walked-bound b (weights g (p .prefix)) c e h q in
-    stay (p .cycle) (s .plan .mode) (s .plan .mode) e u here (s .plan .leads-cycle) (walked-to b (weights g (p .cycle)) e x k .0) .1
+    let (here, _) = stay (p .prefix) (g .start) (s .plan .mode) c h start (s .plan .leads-in) (walked-to b (movesOf g (p .prefix)) c e q .0) in
+    let u = walked-bound b (movesOf g (p .prefix)) c e h q in
+    stay (p .cycle) (s .plan .mode) (s .plan .mode) e u here (s .plan .leads-cycle) (walked-to b (movesOf g (p .cycle)) e x k .0) .1
     (sought-met g p j (s .plan .some-arc) (s .accepted))

@@ -20,7 +20,7 @@ use Rattle.refusals.specs.declared.Refusal.the-variants.{ImpossibleStep, Fallin
 use Rattle.refusals.specs.declared.Verdict.{Verdict}
 use Rattle.refusals.specs.declared.Verdict.the-variants.{Yes, Refused}
 use Rattle.refusals.proofs.Verdicts.{clash, refuse-yes}
-use Rattle.model.specs.Automaton.{Automaton, arcAt, weights}
+use Rattle.model.specs.Automaton.{Automaton, arcAt, movesOf, moveOf}
 use Rattle.model.specs.Plans.{Plan, walkedArcs, Feasible}
 use Rattle.model.proofs.Plans.{feasible-rounds}
 use Rattle.judge.specs.declared.Ran.{Ran}
@@ -56,11 +56,11 @@ falls-no e x y =
     ]
 
 module _ (g : Automaton) (b : ℕ) where
-  -- the arcs are walked through to x exactly where the walk of their weights ends at x
+  -- the arcs are walked through to x exactly where their walk ends at x
   pub ran-walked : (w : List ℕ) (i e x : ℕ) → (ran g b w i e ≡ Through x) ↔ (walkedArcs g b w e ≡ Ends x)
   unfolding ran walked
   ran-walked [] i e x = (λ q. cc, λ q. cc)
-  ran-walked (a ∷ w) i e x = on (stepped b (arcAt g a .weight) e) (λ y. ran-walked w (suc i) y x)
+  ran-walked (a ∷ w) i e x = on (stepped b (moveOf (arcAt g a)) e) (λ y. ran-walked w (suc i) y x)
     where
       on : (s : Step) → ((y : ℕ) → (ran g b w (suc i) y ≡ Through x) ↔ (walkedArcs g b w y ≡ Ends x))
           → (ranOn s i (ran g b w (suc i)) ≡ Through x) ↔ (afterStep s (walkedArcs g b w) ≡ Ends x)
@@ -68,11 +68,11 @@ module _ (g : Automaton) (b : ℕ) where
       on Impossible ih = (λ q. clash (cc), λ q. clash (cc))
 
   -- two rounds say yes exactly where the first is possible and ends no lower than it began, or the second is also possible and does
-  pub rounds-yes : (w : List ℕ) (i e : ℕ) → (rounds g b w i e ≡ Yes) ↔ RoundsHold b (weights g w) e
+  pub rounds-yes : (w : List ℕ) (i e : ℕ) → (rounds g b w i e ≡ Yes) ↔ RoundsHold b (movesOf g w) e
   unfolding rounds secondRound
   rounds-yes w i e = (to, from)
     where
-      to : rounds g b w i e ≡ Yes → RoundsHold b (weights g w) e
+      to : rounds g b w i e ≡ Yes → RoundsHold b (movesOf g w) e
       to q =
           let (x, r, k) = after-ran-yes (ran g b w i e) _ .0 q in
           let (y, s, l) = after-ran-yes (ran g b w (i + length w) x) _ .0 k in (
@@ -84,9 +84,9 @@ module _ (g : Automaton) (b : ℕ) where
                 (falls-no e x y .0 (refuse-yes (ltb x e && ltb y x) FallingCycle Yes .0 l .0)),
           )
 
-      from : RoundsHold b (weights g w) e → rounds g b w i e ≡ Yes
+      from : RoundsHold b (movesOf g w) e → rounds g b w i e ≡ Yes
       from (x, r, k) =
-          let (y, s, h) = ⊎-elim (λ h. walked-mono b (weights g w) e x x h r) (λ t. t) k in
+          let (y, s, h) = ⊎-elim (λ h. walked-mono b (movesOf g w) e x x h r) (λ t. t) k in
           after-ran-yes (ran g b w i e) _ .1 (
             x,
             ran-walked w i e x .1 r,

@@ -16,7 +16,7 @@ use Rattle.refusals.specs.declared.Verdict.the-variants.{Yes, Refused}
 use Rattle.refusals.specs.Refusals.{refuse}
 use Rattle.model.specs.declared.Arc.{Arc}
 use Rattle.model.specs.declared.Model.{Model}
-use Rattle.model.specs.Automaton.{arcAt}
+use Rattle.model.specs.Automaton.{arcAt, moveOf}
 use Rattle.model.specs.Lists.{held}
 use Rattle.model.proofs.Held.{arcIn, held-arc}
 use Rattle.judge.specs.declared.Ran.the-variants.{Through, Stops}
@@ -53,7 +53,7 @@ module _ (g : Model) (b : ℕ) (w : List ℕ) (i j e : ℕ) where
 
   module _ (h : i < length w) (below : getD w i 0 < g .count) where
     -- a step that is possible leads on
-    pub ran-on : (x l : ℕ) → stepped b (arcIn g (getD w i 0) .weight) e ≡ To x l
+    pub ran-on : (x l : ℕ) → stepped b (moveOf (arcIn g (getD w i 0))) e ≡ To x l
         → ran (held g) b (drop i w) (j + i) e ≡ ran (held g) b (drop (i + 1) w) (j + (i + 1)) x
     unfolding ran
     ran-on x l q =
@@ -61,7 +61,7 @@ module _ (g : Model) (b : ℕ) (w : List ℕ) (i j e : ℕ) where
         rw (drop-cons w i 0 h, held-arc g (getD w i 0) below, q, add-one i, n) refl
 
     -- one that is not stops the walk
-    pub ran-stop : stepped b (arcIn g (getD w i 0) .weight) e ≡ Impossible → ran (held g) b (drop i w) (j + i) e ≡ Stops (j + i)
+    pub ran-stop : stepped b (moveOf (arcIn g (getD w i 0))) e ≡ Impossible → ran (held g) b (drop i w) (j + i) e ≡ Stops (j + i)
     unfolding ran
     ran-stop q = rw (drop-cons w i 0 h, held-arc g (getD w i 0) below, q) refl
 

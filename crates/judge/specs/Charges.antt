@@ -11,7 +11,7 @@ use Rattle.refusals.specs.declared.Refusal.the-variants.{ImpossibleStep, Fallin
 use Rattle.refusals.specs.declared.Verdict.{Verdict}
 use Rattle.refusals.specs.declared.Verdict.the-variants.{Yes, Refused}
 use Rattle.refusals.specs.Refusals.{refuse}
-use Rattle.model.specs.Automaton.{Automaton, arcAt}
+use Rattle.model.specs.Automaton.{Automaton, arcAt, moveOf}
 use Rattle.model.specs.Plans.{Plan}
 use Rattle.judge.specs.declared.Ran.{Ran}
 use Rattle.judge.specs.declared.Ran.the-variants.{Through, Stops}
@@ -24,7 +24,7 @@ ranOn Impossible i f = Stops i
 -- the arcs walked one after the other from charge e: the charge at the end, or the step that is not possible; the first step has the number i
 unfoldable pub ran : Automaton → ℕ → List ℕ → ℕ → ℕ → Ran
 ran g b [] i e = Through e
-ran g b (a ∷ w) i e = ranOn (stepped b (arcAt g a .weight) e) i (ran g b w (suc i))
+ran g b (a ∷ w) i e = ranOn (stepped b (moveOf (arcAt g a)) e) i (ran g b w (suc i))
 
 -- 15: "a step is impossible in run-in, first or second round", with the "step counted from 0 over all three"; else the charge goes on
 abbrev pub afterRan : Ran → (ℕ → Verdict) → Verdict

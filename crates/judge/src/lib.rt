@@ -122,7 +122,7 @@ fn run(model: Model, arcs: &[u8], bound: u16, charge: u16, step: u32) -> Ran
     let mut i = 0;
     while i < arcs.len() {
         let arc = model.arcs[arcs[i] as usize];
-        let next = bounded_step(reached, arc.weight, bound);
+        let next = bounded_step(reached, arc.draw, arc.gain, bound);
         match next {
             Step::To(charge, _) => {
                 reached = charge;
@@ -273,7 +273,8 @@ pub fn judge_model(
     k: u32,
     sources: &[u8],
     targets: &[u8],
-    weights: &[i16],
+    draws: &[u16],
+    gains: &[u16],
     colours: &[u8],
     c: u32,
     b: u32,
@@ -281,9 +282,9 @@ pub fn judge_model(
     q: u32,
     plan: &[u8],
 ) -> JudgedModel
-    ensures { λ r. ⌜ r ≡ judgedModel n start k (lists (now (sources .entry)) (now (targets .entry)) (now (weights .entry)) (now (colours .entry))) b c p q (now (plan .entry)) ⌝ }
+    ensures { λ r. ⌜ r ≡ judgedModel n start k (lists (now (sources .entry)) (now (targets .entry)) (now (draws .entry)) (now (gains .entry)) (now (colours .entry))) b c p q (now (plan .entry)) ⌝ }
 {
-    let fitted = check_model(n, start, k, sources, targets, weights, colours);
+    let fitted = check_model(n, start, k, sources, targets, draws, gains, colours);
     let verdict = fitted.verdict;
     let model = fitted.model;
     match verdict {
@@ -305,7 +306,8 @@ pub fn judge(
     k: u32,
     sources: &[u8],
     targets: &[u8],
-    weights: &[i16],
+    draws: &[u16],
+    gains: &[u16],
     colours: &[u8],
     c: u32,
     b: u32,
@@ -313,7 +315,7 @@ pub fn judge(
     q: u32,
     plan: &[u8],
 ) -> Verdict
-    ensures { λ r. ⌜ r ≡ judged n start k (lists (now (sources .entry)) (now (targets .entry)) (now (weights .entry)) (now (colours .entry))) b c p q (now (plan .entry)) ⌝ }
+    ensures { λ r. ⌜ r ≡ judged n start k (lists (now (sources .entry)) (now (targets .entry)) (now (draws .entry)) (now (gains .entry)) (now (colours .entry))) b c p q (now (plan .entry)) ⌝ }
 {
     let judged = judge_model(
         n,
@@ -321,7 +323,8 @@ pub fn judge(
         k,
         sources,
         targets,
-        weights,
+        draws,
+        gains,
         colours,
         c,
         b,

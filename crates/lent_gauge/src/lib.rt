@@ -20,14 +20,15 @@ fn step_by_value(
     k: u32,
     sources: &[u8],
     targets: &[u8],
-    weights: &[i16],
+    draws: &[u16],
+    gains: &[u16],
     colours: &[u8],
     b: u32,
     arc: u32,
 ) -> Moved
-    ensures { λ r. ⌜ r ≡ moved (steppedOf n start k (lists (now (sources .entry)) (now (targets .entry)) (now (weights .entry)) (now (colours .entry))) b arc gauge) ⌝ }
+    ensures { λ r. ⌜ r ≡ moved (steppedOf n start k (lists (now (sources .entry)) (now (targets .entry)) (now (draws .entry)) (now (gains .entry)) (now (colours .entry))) b arc gauge) ⌝ }
 {
-    let gauged = gauge.step(n, start, k, sources, targets, weights, colours, b, arc);
+    let gauged = gauge.step(n, start, k, sources, targets, draws, gains, colours, b, arc);
     let verdict = gauged.verdict;
     let after = gauged.gauge;
     Moved {
@@ -45,12 +46,13 @@ pub fn step(
     k: u32,
     sources: &[u8],
     targets: &[u8],
-    weights: &[i16],
+    draws: &[u16],
+    gains: &[u16],
     colours: &[u8],
     b: u32,
     arc: u32,
 ) -> Answer
-    ensures { λ r. ⌜ LentStep n start k (lists (now (sources .entry)) (now (targets .entry)) (now (weights .entry)) (now (colours .entry))) b arc (now (gauge .entry)) (now (gauge .exit)) r ⌝ }
+    ensures { λ r. ⌜ LentStep n start k (lists (now (sources .entry)) (now (targets .entry)) (now (draws .entry)) (now (gains .entry)) (now (colours .entry))) b arc (now (gauge .entry)) (now (gauge .exit)) r ⌝ }
 {
     let done = step_by_value(
         *gauge,
@@ -59,7 +61,8 @@ pub fn step(
         k,
         sources,
         targets,
-        weights,
+        draws,
+        gains,
         colours,
         b,
         arc,

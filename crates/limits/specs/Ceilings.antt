@@ -1,7 +1,6 @@
 -- The ceilings. Document 01, "Ceilings": "Every ceiling here is kept in one place under its name." `Limits::agree` ties each numeral to the
 -- constant of the code.
 use Prim.Native.Nat.{ℕ, _+_, _*_}
-use lib.IntN.{ℤ, pos, negℤ}
 
 -- "n 1 to 64"
 abbrev pub modesMost : ℕ
@@ -27,12 +26,12 @@ productMost = 8192
 abbrev pub planMost : ℕ
 planMost = 65535
 
--- "a weight from −10,000 to 10,000"
-abbrev pub weightLeast : ℤ
-weightLeast = negℤ (pos 10000)
+-- document 02, Ask 4: "An arc now has a draw and a gain, each 0 to 10,000"
+abbrev pub drawMost : ℕ
+drawMost = 10000
 
-abbrev pub weightMost : ℤ
-weightMost = pos 10000
+abbrev pub gainMost : ℕ
+gainMost = 10000
 
 -- document 02, Ask 2: "a spill total, kept as a 64-bit number"
 abbrev pub spillMost : ℕ

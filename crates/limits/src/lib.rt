@@ -9,8 +9,8 @@ ghost use Rattle.limits.specs.Ceilings.{
   boundMost,
   productMost,
   planMost,
-  weightLeast,
-  weightMost,
+  drawMost,
+  gainMost,
   spillMost,
   workWords,
   workLevels,
@@ -39,11 +39,11 @@ impl Limits {
     // The longest plan that judging takes.
     pub const PLAN: usize = 65535;
 
-    // The least weight of an arc.
-    pub const WEIGHT_LEAST: i16 = -10000;
+    // The greatest draw of an arc.
+    pub const DRAW: u16 = 10000;
 
-    // The greatest weight of an arc.
-    pub const WEIGHT_MOST: i16 = 10000;
+    // The greatest gain of an arc.
+    pub const GAIN: u16 = 10000;
 
     // The greatest total of charge that spilled over, the last number of 64 bits.
     pub const SPILL: u64 = 18446744073709551615;
@@ -69,8 +69,8 @@ impl Limits {
         ensures bound { λ _. do ⌜ (← ⟦Limits::BOUND⟧ .entry) ≡ boundMost ⌝ }
         ensures product { λ _. do ⌜ (← ⟦Limits::PRODUCT⟧ .entry) ≡ productMost ⌝ }
         ensures plan { λ _. do ⌜ (← ⟦Limits::PLAN⟧ .entry) ≡ planMost ⌝ }
-        ensures weight_least { λ _. do ⌜ (← ⟦Limits::WEIGHT_LEAST⟧ .entry) ≡ weightLeast ⌝ }
-        ensures weight_most { λ _. do ⌜ (← ⟦Limits::WEIGHT_MOST⟧ .entry) ≡ weightMost ⌝ }
+        ensures draw { λ _. do ⌜ (← ⟦Limits::DRAW⟧ .entry) ≡ drawMost ⌝ }
+        ensures gain { λ _. do ⌜ (← ⟦Limits::GAIN⟧ .entry) ≡ gainMost ⌝ }
         ensures spill { λ _. do ⌜ (← ⟦Limits::SPILL⟧ .entry) ≡ spillMost ⌝ }
         ensures work_words { λ _. do ⌜ (← ⟦Limits::WORK_WORDS⟧ .entry) ≡ workWords ⌝ }
         ensures work_levels { λ _. do ⌜ (← ⟦Limits::WORK_LEVELS⟧ .entry) ≡ workLevels ⌝ }

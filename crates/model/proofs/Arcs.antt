@@ -1,4 +1,4 @@
--- The arcs of four lists: as a list, as the array that is filled from it, and the verdict on them. Assumes nothing.
+-- The arcs of five lists: as a list, as the array that is filled from it, and the verdict on them. Assumes nothing.
 use mathlib.Core.Path.{_≡_, refl, sym, ap, _∙_}
 use mathlib.Core.Bool.{true, false}
 use mathlib.Core.List.{List, _∷_}
@@ -7,7 +7,6 @@ use native.Mathlib.Nat.{add-zero}
 use native.Mathlib.Numerals.{add-one}
 use native.Mathlib.Omega.{arith}
 use native.Mathlib.Decide.{decLe, ℕ-discrete}
-use lib.IntN.{pos}
 use lib.ListN.{length, getD, set, take, replicate, length-set, length-replicate, getD-replicate, List·getD-eq-default}
 use lib.Seq.{getD-set-same, getD-set-other, ext-getD}
 use Rattle.limits.specs.Ceilings.{arcsMost}
@@ -42,13 +41,14 @@ module _ (l : Lists) where
       rw e (ap {B = List Arc} (λ x. arcOf l i ∷ x) (arcs-take m r (suc i)))
 
   -- past the last arc nothing stands
-  pub arc-none : (a : ℕ) → length (l .sources) ≤ a → length (l .targets) ≤ a → length (l .weights) ≤ a → length (l .colours) ≤ a
+  pub arc-none : (a : ℕ) → length (l .sources) ≤ a → length (l .targets) ≤ a → length (l .draws) ≤ a → length (l .gains) ≤ a → length (l .colours) ≤ a
       → arcOf l a ≡ noArc
-  arc-none a hs ht hw hc =
+  arc-none a hs ht hd hg hc =
       simp (
         List·getD-eq-default (l .sources) 0 hs,
         List·getD-eq-default (l .targets) 0 ht,
-        List·getD-eq-default (l .weights) (pos 0) hw,
+        List·getD-eq-default (l .draws) 0 hd,
+        List·getD-eq-default (l .gains) 0 hg,
         List·getD-eq-default (l .colours) 0 hc,
       )
 
@@ -84,7 +84,7 @@ module _ (l : Lists) where
       ext-getD noArc arcs (arcsFrom l arcsMost 0) (f .long ∙ sym (arcs-length arcsMost 0)) λ a h.
       let q : a < arcsMost = omega (arith, f .long) in
       elim (decLe (length (l .sources)) a) [
-        | yes p ↦ f .blank a p q ∙ sym (arc-none a p (omega (arith, equal .targets)) (omega (arith, equal .weights)) (omega (arith, equal .colours))) ∙ sym (arcs-here arcsMost a q)
+        | yes p ↦ f .blank a p q ∙ sym (arc-none a p (omega (arith, equal .targets)) (omega (arith, equal .draws)) (omega (arith, equal .gains)) (omega (arith, equal .colours))) ∙ sym (arcs-here arcsMost a q)
         | no p ↦ f .done a (omega arith) ∙ sym (arcs-here arcsMost a q)
       ]
 

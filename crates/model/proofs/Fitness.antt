@@ -1,4 +1,4 @@
--- What the verdicts mean: fitness is yes exactly for four equal lists and a fit model, levels exactly for c ≤ b ≤ 8,191; and the model that
+-- What the verdicts mean: fitness is yes exactly for five equal lists and a fit model, levels exactly for c ≤ b ≤ 8,191; and the model that
 -- the code holds is the model of the lists. Assumes nothing.
 use mathlib.Core.Path.{_≡_, refl, sym, ap, _∙_, subst}
 use mathlib.Core.Bool.{Bool, true, false, not, _||_}
@@ -7,12 +7,10 @@ use mathlib.Core.Logic.{_↔_}
 use Prim.Native.Nat.{ℕ, _+_, _-_, _^_, _≤_, _<_}
 use native.Mathlib.Omega.{arith}
 use lib.Dec.{leb, ltb, eqb}
-use lib.IntN.{ℤ}
 use lib.ListN.{length, getD, drop}
 use lib.Seq.{drop-cons, drop-length}
-use lib.Signed.{ltZ, _≤ℤ_, ltZ-no, clashℤ, ltZ-yes}
 use borrow.Author.Tests.{eqb-false, ne-eqb}
-use Rattle.limits.specs.Ceilings.{modesMost, arcsMost, coloursMost, boundMost, weightLeast, weightMost}
+use Rattle.limits.specs.Ceilings.{modesMost, arcsMost, coloursMost, boundMost, drawMost, gainMost}
 use Rattle.model.specs.declared.Arc.{Arc}
 use Rattle.refusals.specs.declared.Refusal.{Refusal}
 use Rattle.refusals.specs.declared.Refusal.the-variants.{UnfitArc, ModeCount, StartMode, ArcLists, ColourCount, Levels}
@@ -26,13 +24,6 @@ use Rattle.model.specs.Lists.{Lists, arcsOf, automatonOf, modelOf, blank
 use Rattle.model.specs.Fitness.{unfitLists, header, headerOf, arcsFitness, unfitArc, arcsVerdict, fitness, fittedIf, fittedArcs, fittedOf, levelsOf, EqualLists, Header, ArcFits, Fit, Holds}
 use Rattle.model.proofs.Bits.{colours-below}
 use Rattle.model.proofs.Arcs.{arcs-length, arcs-take}
-
-ltZ-false : (a b : ℤ) → (ltZ a b ≡ false) ↔ (b ≤ℤ a)
-ltZ-false a b = (λ e. ltZ-no (rw e tt), λ h. go (ltZ a b) refl h)
-  where
-    go : (t : Bool) → ltZ a b ≡ t → b ≤ℤ a → ltZ a b ≡ false
-    go true e h = clashℤ (ltZ-yes (rw e tt)) h
-    go false e h = e
 
 -- none of four, none of five
 or4-no : (a b c d : Bool) → ((a || b || c || d) ≡ false) ↔ ((a ≡ false) × (b ≡ false) × (c ≡ false) × (d ≡ false))
@@ -51,22 +42,22 @@ or5-no a b c d e = (
 pub unfit-no : (n k : ℕ) (a : Arc) → (unfitArc n (2 ^ k) a ≡ false) ↔ ArcFits n k a
 unfolding unfitArc
 unfit-no n k a =
-    let five = or5-no (leb n (a .source)) (leb n (a .target)) (ltZ (a .weight) weightLeast) (ltZ weightMost (a .weight)) (leb (2 ^ k) (a .colours)) in (
+    let five = or5-no (leb n (a .source)) (leb n (a .target)) (ltb drawMost (a .draw)) (ltb gainMost (a .gain)) (leb (2 ^ k) (a .colours)) in (
       λ e.
           let t = five .0 e in
           record {
             source = le-no n (a .source) .0 (t .0);
             target = le-no n (a .target) .0 (t .1);
-            weight-least = ltZ-false (a .weight) weightLeast .0 (t .2);
-            weight-most = ltZ-false weightMost (a .weight) .0 (t .3);
+            draw-most = lt-no drawMost (a .draw) .0 (t .2);
+            gain-most = lt-no gainMost (a .gain) .0 (t .3);
             colours = colours-below (a .colours) k .0 (le-no (2 ^ k) (a .colours) .0 (t .4));
           },
       λ f.
           five .1 (
             le-no n (a .source) .1 (f .source),
             le-no n (a .target) .1 (f .target),
-            ltZ-false (a .weight) weightLeast .1 (f .weight-least),
-            ltZ-false weightMost (a .weight) .1 (f .weight-most),
+            lt-no drawMost (a .draw) .1 (f .draw-most),
+            lt-no gainMost (a .gain) .1 (f .gain-most),
             le-no (2 ^ k) (a .colours) .1 (colours-below (a .colours) k .1 (f .colours)),
           ),
     )
@@ -76,13 +67,16 @@ pub header-yes : (n s k : ℕ) (l : Lists) → (headerOf n s k l ≡ Yes) ↔ He
 unfolding header unfitLists
 header-yes n s k l =
     let m = length (l .sources) in
-    let four = or4-no (not (eqb (length (l .targets)) m)) (not (eqb (length (l .weights)) m)) (not (eqb (length (l .colours)) m)) (ltb arcsMost m) in (
+    let five =
+    or5-no (not (eqb (length (l .targets)) m)) (not (eqb (length (l .draws)) m)) (not (eqb (length (l .gains)) m)) (not (eqb (length (l .colours)) m))
+    (ltb arcsMost m)
+    in (
       λ e.
           let r1 = refuse-yes (eqb n 0 || ltb modesMost n) ModeCount _ .0 e in
           let o1 = or-no (eqb n 0) (ltb modesMost n) .0 (r1 .0) in
           let r2 = refuse-yes (leb n s) StartMode _ .0 (r1 .1) in
           let r3 = refuse-yes _ ArcLists _ .0 (r2 .1) in
-          let o3 = four .0 (r3 .0) in
+          let o3 = five .0 (r3 .0) in
           let r4 = refuse-yes (ltb coloursMost k) ColourCount _ .0 (r3 .1) in
           record {
             some-mode = omega (arith, eqb-false n 0 (o1 .0));
@@ -91,10 +85,11 @@ header-yes n s k l =
             equal =
                 record {
                   targets = differ-no (length (l .targets)) m .0 (o3 .0);
-                  weights = differ-no (length (l .weights)) m .0 (o3 .1);
-                  colours = differ-no (length (l .colours)) m .0 (o3 .2);
+                  draws = differ-no (length (l .draws)) m .0 (o3 .1);
+                  gains = differ-no (length (l .gains)) m .0 (o3 .2);
+                  colours = differ-no (length (l .colours)) m .0 (o3 .3);
                 };
-            few-arcs = lt-no arcsMost m .0 (o3 .3);
+            few-arcs = lt-no arcsMost m .0 (o3 .4);
             few-colours = lt-no coloursMost k .0 (r4 .0);
           },
       λ h.
@@ -103,9 +98,10 @@ header-yes n s k l =
             refuse-yes (leb n s) StartMode _ .1 (
               le-no n s .1 (h .starts),
               refuse-yes _ ArcLists _ .1 (
-                four .1 (
+                five .1 (
                   differ-no (length (l .targets)) m .1 (h .equal .targets),
-                  differ-no (length (l .weights)) m .1 (h .equal .weights),
+                  differ-no (length (l .draws)) m .1 (h .equal .draws),
+                  differ-no (length (l .gains)) m .1 (h .equal .gains),
                   differ-no (length (l .colours)) m .1 (h .equal .colours),
                   lt-no arcsMost m .1 (h .few-arcs),
                 ),
@@ -130,7 +126,7 @@ pub arcs-first : (n power : ℕ) (l : List Arc) (d : ℕ) → (arcsVerdict n pow
     ↔ FirstOf (λ j. unfitArc n power (getD l j noArc)) (length l) d
 arcs-first n power l = scan-first _ UnfitArc (length l) (λ k. arcsVerdict n power (drop k l) k) (arcs-scan n power l)
 
--- the verdict is yes exactly for four equal lists and a fit model
+-- the verdict is yes exactly for five equal lists and a fit model
 pub fitness-yes : (n s k : ℕ) (l : Lists) → (fitness n s k l ≡ Yes) ↔ (EqualLists l × Fit (automatonOf n s k l))
 unfolding fitness
 fitness-yes n s k l =

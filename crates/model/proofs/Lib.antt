@@ -1,6 +1,7 @@
--- Laws of models and plans, one idea a file; Arcs and Bits serve the proofs of the code too, and Held those of the code above.
+-- Laws of models and plans, one idea a file; Weights says what lists with weights mean; Arcs and Bits serve the proofs of the code too, and Held those of the code above.
 pub mod Bits
 pub mod Arcs
+pub mod Weights
 pub mod Fitness
 pub mod Held
 pub mod SomeArc

@@ -5,51 +5,51 @@ use mathlib.Core.List.{List, _++_, map-append, append-nil, append-assoc}
 use mathlib.Core.Logic.{_↔_}
 use Prim.Native.Nat.{ℕ, zero, suc, _≤_, _<_}
 use native.Mathlib.Omega.{arith}
-use lib.IntN.{ℤ}
+use Rattle.walks.specs.BoundedStep.{Move}
 use lib.ListN.{length, take, drop, length-append, take-append-drop}
 use lib.Seq.{drop-append-le, drop-append-seam}
 use Rattle.walks.specs.Walk.{End, Ends, Blocked, afterWalk, walked, IsPossible, RoundsHold, times}
-use Rattle.walks.proofs.Weights.{walked-append, map-times}
+use Rattle.walks.proofs.Walks.{walked-append, map-times}
 use Rattle.walks.proofs.Charges.{walked-bound}
 use Rattle.walks.proofs.Rounds.{rounds-hold}
-use Rattle.model.specs.Automaton.{Automaton, arcAt, meets, weights}
+use Rattle.model.specs.Automaton.{Automaton, arcAt, meets, moveOf, movesOf}
 use Rattle.model.specs.Plans.{Plan, Leads, walkedArcs, Feasible, Meets, Accepted, Serves}
 use Rattle.model.proofs.Leads.{leads-append, leads-cut, leads-times}
 use Rattle.model.proofs.SomeArc.{some-right, some-times}
 
 module _ (g : Automaton) (b c : ℕ) (p : Plan) where
   -- the walk of a plan with its cycle r times over is the walk of the prefix, and then that of the cycle repeated
-  plan-walked : (r : ℕ) → walked b (weights g (p .prefix ++ times r (p .cycle))) c
-      ≡ afterWalk (walked b (weights g (p .prefix)) c) (walked b (times r (weights g (p .cycle))))
+  plan-walked : (r : ℕ) → walked b (movesOf g (p .prefix ++ times r (p .cycle))) c
+      ≡ afterWalk (walked b (movesOf g (p .prefix)) c) (walked b (times r (movesOf g (p .cycle))))
   plan-walked r =
-      let arc : ℕ → ℤ = λ a. arcAt g a .weight in
-      ap (λ (l : List ℤ). walked b l c)
-      (map-append arc (p .prefix) (times r (p .cycle)) ∙ ap {B = List ℤ} (λ l. weights g (p .prefix) ++ l) (map-times arc r (p .cycle)))
-      ∙ walked-append b (weights g (p .prefix)) (times r (weights g (p .cycle))) c
+      let arc : ℕ → Move = λ a. moveOf (arcAt g a) in
+      ap (λ (l : List Move). walked b l c)
+      (map-append arc (p .prefix) (times r (p .cycle)) ∙ ap {B = List Move} (λ l. movesOf g (p .prefix) ++ l) (map-times arc r (p .cycle)))
+      ∙ walked-append b (movesOf g (p .prefix)) (times r (movesOf g (p .cycle))) c
 
   -- feasible: the prefix ends at some charge e, from which the first round ends no lower than it began, or the second does
-  pub feasible-rounds : c ≤ b → Feasible g b c p ↔ ((e : ℕ) × (walked b (weights g (p .prefix)) c ≡ Ends e) × RoundsHold b (weights g (p .cycle)) e)
-  feasible-rounds h = (λ f. to (walked b (weights g (p .prefix)) c) refl (λ r. subst IsPossible (plan-walked r) (f r)), from)
+  pub feasible-rounds : c ≤ b → Feasible g b c p ↔ ((e : ℕ) × (walked b (movesOf g (p .prefix)) c ≡ Ends e) × RoundsHold b (movesOf g (p .cycle)) e)
+  feasible-rounds h = (λ f. to (walked b (movesOf g (p .prefix)) c) refl (λ r. subst IsPossible (plan-walked r) (f r)), from)
     where
-      bounded : (e : ℕ) → walked b (weights g (p .prefix)) c ≡ Ends e → e ≤ b
-      bounded e q = walked-bound b (weights g (p .prefix)) c e h q
+      bounded : (e : ℕ) → walked b (movesOf g (p .prefix)) c ≡ Ends e → e ≤ b
+      bounded e q = walked-bound b (movesOf g (p .prefix)) c e h q
 
-      to : (s : End) → walked b (weights g (p .prefix)) c ≡ s
-          → ((r : ℕ) → IsPossible (afterWalk (walked b (weights g (p .prefix)) c) (walked b (times r (weights g (p .cycle))))))
-          → (e : ℕ) × (walked b (weights g (p .prefix)) c ≡ Ends e) × RoundsHold b (weights g (p .cycle)) e
-      to (Ends e) q f = (e, q, rounds-hold b (weights g (p .cycle)) e (bounded e q) .0 (λ r. rw q at (f r)))
+      to : (s : End) → walked b (movesOf g (p .prefix)) c ≡ s
+          → ((r : ℕ) → IsPossible (afterWalk (walked b (movesOf g (p .prefix)) c) (walked b (times r (movesOf g (p .cycle))))))
+          → (e : ℕ) × (walked b (movesOf g (p .prefix)) c ≡ Ends e) × RoundsHold b (movesOf g (p .cycle)) e
+      to (Ends e) q f = (e, q, rounds-hold b (movesOf g (p .cycle)) e (bounded e q) .0 (λ r. rw q at (f r)))
       to Blocked q f = absurd (rw q at (f 0))
 
-      from : ((e : ℕ) × (walked b (weights g (p .prefix)) c ≡ Ends e) × RoundsHold b (weights g (p .cycle)) e) → Feasible g b c p
-      from (e, q, k) r = subst IsPossible (sym (plan-walked r)) (rw q (rounds-hold b (weights g (p .cycle)) e (bounded e q) .1 k r))
+      from : ((e : ℕ) × (walked b (movesOf g (p .prefix)) c ≡ Ends e) × RoundsHold b (movesOf g (p .cycle)) e) → Feasible g b c p
+      from (e, q, k) r = subst IsPossible (sym (plan-walked r)) (rw q (rounds-hold b (movesOf g (p .cycle)) e (bounded e q) .1 k r))
 
 -- the first arcs of a walk that is possible end at some charge
 walked-part : (g : Automaton) (b : ℕ) (u v : List ℕ) (e : ℕ) → IsPossible (walkedArcs g b (u ++ v) e) → (x : ℕ) × (walkedArcs g b u e ≡ Ends x)
 walked-part g b u v e h =
     go (walkedArcs g b u e)
-    (rw (walked-append b (weights g u) (weights g v) e) at (rw (map-append (λ a. arcAt g a .weight) u v) at h))
+    (rw (walked-append b (movesOf g u) (movesOf g v) e) at (rw (map-append (λ a. moveOf (arcAt g a)) u v) at h))
   where
-    go : (y : End) → IsPossible (afterWalk y (walked b (weights g v))) → (x : ℕ) × (y ≡ Ends x)
+    go : (y : End) → IsPossible (afterWalk y (walked b (movesOf g v))) → (x : ℕ) × (y ≡ Ends x)
     go (Ends x) p = (x, refl)
     go Blocked p = absurd p
 

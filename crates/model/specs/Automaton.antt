@@ -4,8 +4,8 @@ use Prim.Native.Nat.{ℕ, _/_, _%_, _^_}
 use mathlib.Core.Bool.{Bool}
 use mathlib.Core.List.{List, map}
 use lib.Dec.{eqb}
-use lib.IntN.{ℤ, pos}
 use lib.ListN.{getD}
+use Rattle.walks.specs.BoundedStep.{Move}
 use Rattle.model.specs.declared.Arc.{Arc}
 
 -- modes: document 01's n; colours: its k; arcs: the m arcs, in the order given
@@ -17,7 +17,7 @@ pub record Automaton : Type 0 where
 
 -- what stands for an arc that is not there
 abbrev pub noArc : Arc
-noArc = record { source = 0; target = 0; weight = pos 0; colours = 0 }
+noArc = record { source = 0; target = 0; draw = 0; gain = 0; colours = 0 }
 
 -- the arc with number a
 abbrev pub arcAt : Automaton → ℕ → Arc
@@ -31,6 +31,10 @@ bit x j = eqb (x / 2 ^ j % 2) 1
 abbrev pub meets : Automaton → ℕ → ℕ → Bool
 meets g j a = bit (arcAt g a .colours) j
 
--- the weights of the arcs with these numbers
-abbrev pub weights : Automaton → List ℕ → List ℤ
-weights g w = map (λ a. arcAt g a .weight) w
+-- what an arc draws and gains
+abbrev pub moveOf : Arc → Move
+moveOf a = record { draw = a .draw; gain = a .gain }
+
+-- the moves of the arcs with these numbers
+abbrev pub movesOf : Automaton → List ℕ → List Move
+movesOf g w = map (λ a. moveOf (arcAt g a)) w

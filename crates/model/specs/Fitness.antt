@@ -5,8 +5,7 @@ use mathlib.Core.List.{List, [], _∷_}
 use mathlib.Core.Path.{_≡_}
 use lib.Dec.{leb, ltb, eqb}
 use lib.ListN.{length}
-use lib.Signed.{ltZ, _≤ℤ_}
-use Rattle.limits.specs.Ceilings.{modesMost, arcsMost, coloursMost, boundMost, weightLeast, weightMost}
+use Rattle.limits.specs.Ceilings.{modesMost, arcsMost, coloursMost, boundMost, drawMost, gainMost}
 use Rattle.model.specs.declared.Arc.{Arc}
 use Rattle.model.specs.declared.Model.{Model}
 use Rattle.model.specs.declared.Fitted.{Fitted}
@@ -17,25 +16,26 @@ use Rattle.refusals.specs.Refusals.{refuse, andThen}
 use Rattle.model.specs.Automaton.{Automaton, arcAt, bit}
 use Rattle.model.specs.Lists.{Lists, arcsOf, modelOf, blankModel, held}
 
--- "arc lists unequal or longer than 255", by the lengths of the four
-unfoldable pub unfitLists : ℕ → ℕ → ℕ → ℕ → Bool
-unfitLists sources targets weights colours =
-    not (eqb targets sources) || not (eqb weights sources) || not (eqb colours sources) || ltb arcsMost sources
+-- "arc lists unequal or longer than 255", by the lengths of the five
+unfoldable pub unfitLists : ℕ → ℕ → ℕ → ℕ → ℕ → Bool
+unfitLists sources targets draws gains colours =
+    not (eqb targets sources) || not (eqb draws sources) || not (eqb gains sources) || not (eqb colours sources) || ltb arcsMost sources
 
--- 1 to 4, by the numbers and the lengths of the four lists
-unfoldable pub header : ℕ → ℕ → ℕ → ℕ → ℕ → ℕ → ℕ → Verdict
-header n s k sources targets weights colours =
+-- 1 to 4, by the numbers and the lengths of the five lists
+unfoldable pub header : ℕ → ℕ → ℕ → ℕ → ℕ → ℕ → ℕ → ℕ → Verdict
+header n s k sources targets draws gains colours =
     refuse (eqb n 0 || ltb modesMost n) ModeCount
     (refuse (leb n s) StartMode
-    (refuse (unfitLists sources targets weights colours) ArcLists
+    (refuse (unfitLists sources targets draws gains colours) ArcLists
     (refuse (ltb coloursMost k) ColourCount
     Yes)))
 
--- "an arc's source or target not below n, weight outside its range, or a colour bit at or above k". A byte has a bit at or above k where
+-- "an arc's source or target not below n, weight outside its range, or a colour bit at or above k"; Ask 4: "refusal 5 checks the
+-- two ranges in place of the weight's". A byte has a bit at or above k where
 -- it is at least power, 2 ^ k: the law colours-below.
 unfoldable pub unfitArc : ℕ → ℕ → Arc → Bool
 unfitArc n power a =
-    leb n (a .source) || leb n (a .target) || ltZ (a .weight) weightLeast || ltZ weightMost (a .weight) || leb power (a .colours)
+    leb n (a .source) || leb n (a .target) || ltb drawMost (a .draw) || ltb gainMost (a .gain) || leb power (a .colours)
 
 -- 5, with the lowest such arc; the list's first arc has the number i
 unfoldable pub arcsVerdict : ℕ → ℕ → List Arc → ℕ → Verdict
@@ -44,7 +44,7 @@ arcsVerdict n power (a ∷ l) i = refuse (unfitArc n power a) (UnfitArc i) (arcs
 
 -- 1 to 4, of the lists
 abbrev pub headerOf : ℕ → ℕ → ℕ → Lists → Verdict
-headerOf n s k l = header n s k (length (l .sources)) (length (l .targets)) (length (l .weights)) (length (l .colours))
+headerOf n s k l = header n s k (length (l .sources)) (length (l .targets)) (length (l .draws)) (length (l .gains)) (length (l .colours))
 
 -- 5, of the lists
 abbrev pub arcsFitness : ℕ → ℕ → Lists → Verdict
@@ -73,7 +73,8 @@ levelsOf b c = refuse (ltb boundMost b || ltb b c) Levels Yes
 -- What is fit, as facts. "Arcs come as four lent lists of equal length."
 pub record EqualLists (l : Lists) : Type 0 where
   pub targets : length (l .targets) ≡ length (l .sources)
-  pub weights : length (l .weights) ≡ length (l .sources)
+  pub draws : length (l .draws) ≡ length (l .sources)
+  pub gains : length (l .gains) ≡ length (l .sources)
   pub colours : length (l .colours) ≡ length (l .sources)
 
 -- none of 1 to 4 applies
@@ -89,8 +90,8 @@ pub record Header (n s k : ℕ) (l : Lists) : Type 0 where
 pub record ArcFits (n k : ℕ) (a : Arc) : Type 0 where
   pub source : a .source < n
   pub target : a .target < n
-  pub weight-least : weightLeast ≤ℤ a .weight
-  pub weight-most : a .weight ≤ℤ weightMost
+  pub draw-most : a .draw ≤ drawMost
+  pub gain-most : a .gain ≤ gainMost
   pub colours : (j : ℕ) → k ≤ j → bit (a .colours) j ≡ false
 
 -- "A model is fit where none of the numbers 1 to 5 below applies to it." (Theorem fitness-yes.)

@@ -1,9 +1,11 @@
--- The model of four lent lists, and the model as the code holds it. Document 01: "Arcs come as four lent lists of equal length."
+-- The model of five lent lists, and the model as the code holds it. Document 01: "Arcs come as four lent lists of equal length"; document 02,
+-- Ask 4: "a draw and a gain .. in two lent lists that replace the weights'."
 use Prim.Native.Nat.{ℕ, zero, suc}
-use mathlib.Core.List.{List, [], _∷_}
-use lib.IntN.{ℤ, pos}
+use mathlib.Core.List.{List, [], _∷_, map}
+use lib.IntN.{ℤ}
 use lib.ListN.{length, getD, take}
 use Rattle.limits.specs.Ceilings.{arcsMost}
+use Rattle.walks.specs.Weights.{drawOf, gainOf}
 use Rattle.model.specs.declared.Arc.{Arc}
 use Rattle.model.specs.declared.Model.{Model}
 use Rattle.model.specs.Automaton.{Automaton}
@@ -11,15 +13,28 @@ use Rattle.model.specs.Automaton.{Automaton}
 pub record Lists : Type 0 where
   pub sources : List ℕ
   pub targets : List ℕ
-  pub weights : List ℤ
+  pub draws : List ℕ
+  pub gains : List ℕ
   pub colours : List ℕ
 
-abbrev pub lists : List ℕ → List ℕ → List ℤ → List ℕ → Lists
-lists ss ts ws cs = record { sources = ss; targets = ts; weights = ws; colours = cs }
+abbrev pub lists : List ℕ → List ℕ → List ℕ → List ℕ → List ℕ → Lists
+lists ss ts ds gs cs = record { sources = ss; targets = ts; draws = ds; gains = gs; colours = cs }
+
+-- the lists of a model with one weight for each arc, as they were before Ask 4: "An old weight w means draw −w, gain 0 where w is negative,
+-- else draw 0, gain w"
+abbrev pub weighted : List ℕ → List ℕ → List ℤ → List ℕ → Lists
+weighted ss ts ws cs = lists ss ts (map drawOf ws) (map gainOf ws) cs
 
 -- arc a: what stands at place a of each list
 abbrev pub arcOf : Lists → ℕ → Arc
-arcOf l a = record { source = getD (l .sources) a 0; target = getD (l .targets) a 0; weight = getD (l .weights) a (pos 0); colours = getD (l .colours) a 0 }
+arcOf l a =
+    record {
+      source = getD (l .sources) a 0;
+      target = getD (l .targets) a 0;
+      draw = getD (l .draws) a 0;
+      gain = getD (l .gains) a 0;
+      colours = getD (l .colours) a 0;
+    }
 
 -- m arcs, numbered from a on
 abbrev pub arcsFrom : Lists → ℕ → ℕ → List Arc
@@ -39,7 +54,7 @@ abbrev pub modelOf : ℕ → ℕ → ℕ → Lists → Model
 modelOf n s k l = record { modes = n; start = s; colours = k; count = length (l .sources); arcs = arcsFrom l arcsMost 0 }
 
 abbrev pub noLists : Lists
-noLists = lists [] [] [] []
+noLists = lists [] [] [] [] []
 
 -- what is handed back where a model is refused
 abbrev pub blankModel : Model

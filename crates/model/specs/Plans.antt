@@ -7,7 +7,7 @@ use mathlib.Core.List.{List, [], _∷_, _++_}
 use mathlib.Core.Logic.{_⊎_}
 use lib.ListN.{length}
 use Rattle.walks.specs.Walk.{End, walked, IsPossible, times}
-use Rattle.model.specs.Automaton.{Automaton, arcAt, meets, weights}
+use Rattle.model.specs.Automaton.{Automaton, arcAt, meets, movesOf}
 
 -- arc numbers. prefix: document 01's run-in, of length p; cycle: its round, of length q. Document 001 calls the two a lasso.
 pub record Plan : Type 0 where
@@ -28,7 +28,7 @@ pub record IsPlan (g : Automaton) (p : Plan) : Type 0 where
 
 -- the walk of these arcs, one after the other, from charge e under the bound b
 abbrev pub walkedArcs : Automaton → ℕ → List ℕ → ℕ → End
-walkedArcs g b w e = walked b (weights g w) e
+walkedArcs g b w e = walked b (movesOf g w) e
 
 -- "Feasible: with the round repeated any number of times, every step is possible."
 abbrev pub Feasible : Automaton → ℕ → ℕ → Plan → Type 0

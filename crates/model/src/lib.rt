@@ -8,11 +8,12 @@ use limits::Limits;
 use refusals::Refusal;
 use refusals::Verdict;
 
-// An arc: its two modes, its weight, and its colour byte, whose bit j says that the arc meets colour j.
+// An arc: its two modes, its draw and its gain, and its colour byte, whose bit j says that the arc meets colour j.
 pub struct Arc {
     pub source: u8,
     pub target: u8,
-    pub weight: i16,
+    pub draw: u16,
+    pub gain: u16,
     pub colours: u8,
 }
 
@@ -20,7 +21,8 @@ pub struct Arc {
 const NO_ARC: Arc = Arc {
     source: 0,
     target: 0,
-    weight: 0,
+    draw: 0,
+    gain: 0,
     colours: 0,
 };
 
@@ -39,14 +41,17 @@ pub struct Fitted {
     pub model: Model,
 }
 
-// Refusal 3, from the lengths of the four lists.
-fn unfit_lists(sources: usize, targets: usize, weights: usize, colours: usize) -> bool
-    ensures { λ r. ⌜ r ≡ unfitLists sources targets weights colours ⌝ }
+// Refusal 3, from the lengths of the five lists.
+fn unfit_lists(sources: usize, targets: usize, draws: usize, gains: usize, colours: usize) -> bool
+    ensures { λ r. ⌜ r ≡ unfitLists sources targets draws gains colours ⌝ }
 {
     if targets != sources {
         return true;
     }
-    if weights != sources {
+    if draws != sources {
+        return true;
+    }
+    if gains != sources {
         return true;
     }
     if colours != sources {
@@ -55,17 +60,18 @@ fn unfit_lists(sources: usize, targets: usize, weights: usize, colours: usize) -
     sources > Limits::ARCS
 }
 
-// Refusals 1 to 4, from the numbers and the lengths of the four lists.
+// Refusals 1 to 4, from the numbers and the lengths of the five lists.
 fn check_header(
     n: u32,
     start: u32,
     k: u32,
     sources: usize,
     targets: usize,
-    weights: usize,
+    draws: usize,
+    gains: usize,
     colours: usize,
 ) -> Verdict
-    ensures { λ r. ⌜ r ≡ header n start k sources targets weights colours ⌝ }
+    ensures { λ r. ⌜ r ≡ header n start k sources targets draws gains colours ⌝ }
 {
     if n == 0 {
         return Verdict::Refused(Refusal::ModeCount);
@@ -76,7 +82,7 @@ fn check_header(
     if start >= n {
         return Verdict::Refused(Refusal::StartMode);
     }
-    if unfit_lists(sources, targets, weights, colours) {
+    if unfit_lists(sources, targets, draws, gains, colours) {
         return Verdict::Refused(Refusal::ArcLists);
     }
     if k > Limits::COLOURS {
@@ -102,17 +108,16 @@ pub fn check_levels(c: u32, b: u32) -> Verdict
 fn unfit_arc(arc: Arc, n: u32, power: u32) -> bool
     ensures { λ r. ⌜ r ≡ unfitArc n power arc ⌝ }
 {
-    let weight = arc.weight;
     if (arc.source as u32) >= n {
         return true;
     }
     if (arc.target as u32) >= n {
         return true;
     }
-    if weight < Limits::WEIGHT_LEAST {
+    if arc.draw > Limits::DRAW {
         return true;
     }
-    if weight > Limits::WEIGHT_MOST {
+    if arc.gain > Limits::GAIN {
         return true;
     }
     (arc.colours as u32) >= power
@@ -150,11 +155,12 @@ fn check_arcs(
     k: u32,
     sources: &[u8],
     targets: &[u8],
-    weights: &[i16],
+    draws: &[u16],
+    gains: &[u16],
     colours: &[u8],
 ) -> Fitted
-    requires { ⌜ Header n start k (lists (now sources) (now targets) (now weights) (now colours)) ⌝ }
-    ensures { λ r. ⌜ r ≡ fittedArcs n start k (lists (now (sources .entry)) (now (targets .entry)) (now (weights .entry)) (now (colours .entry))) ⌝ }
+    requires { ⌜ Header n start k (lists (now sources) (now targets) (now draws) (now gains) (now colours)) ⌝ }
+    ensures { λ r. ⌜ r ≡ fittedArcs n start k (lists (now (sources .entry)) (now (targets .entry)) (now (draws .entry)) (now (gains .entry)) (now (colours .entry))) ⌝ }
 {
     let power = two_to(k);
     let mut arcs = [NO_ARC; Limits::ARCS];
@@ -163,7 +169,8 @@ fn check_arcs(
         let arc = Arc {
             source: sources[i],
             target: targets[i],
-            weight: weights[i],
+            draw: draws[i],
+            gain: gains[i],
             colours: colours[i],
         };
         if unfit_arc(arc, n, power) {
@@ -185,17 +192,18 @@ fn check_arcs(
     }
 }
 
-// Fitness of a model that comes as numbers and four lists: the first of 1 to 5 that applies, or the model. For all numbers and lists.
+// Fitness of a model that comes as numbers and five lists: the first of 1 to 5 that applies, or the model. For all numbers and lists.
 pub fn check_model(
     n: u32,
     start: u32,
     k: u32,
     sources: &[u8],
     targets: &[u8],
-    weights: &[i16],
+    draws: &[u16],
+    gains: &[u16],
     colours: &[u8],
 ) -> Fitted
-    ensures { λ r. ⌜ r ≡ fittedOf n start k (lists (now (sources .entry)) (now (targets .entry)) (now (weights .entry)) (now (colours .entry))) ⌝ }
+    ensures { λ r. ⌜ r ≡ fittedOf n start k (lists (now (sources .entry)) (now (targets .entry)) (now (draws .entry)) (now (gains .entry)) (now (colours .entry))) ⌝ }
 {
     let header = check_header(
         n,
@@ -203,11 +211,12 @@ pub fn check_model(
         k,
         sources.len(),
         targets.len(),
-        weights.len(),
+        draws.len(),
+        gains.len(),
         colours.len(),
     );
     match header {
-        Verdict::Yes => check_arcs(n, start, k, sources, targets, weights, colours),
+        Verdict::Yes => check_arcs(n, start, k, sources, targets, draws, gains, colours),
         Verdict::Refused(refusal) => refused(refusal),
     }
 }

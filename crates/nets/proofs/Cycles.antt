@@ -7,7 +7,8 @@ use Prim.Native.Nat.{ℕ}
 use native.Mathlib.Omega.{arith}
 use lib.ListN.{length-append}
 use Rattle.walks.specs.Walk.{times}
-use Rattle.walks.specs.Moves.{Move, charge, Possible, Forever}
+use Rattle.walks.specs.BoundedStep.{Move}
+use Rattle.walks.specs.Moves.{charge, Possible, Forever}
 use Rattle.walks.proofs.Charges.{possible-append}
 use Rattle.model.proofs.SomeArc.{some-left, some-right, some-append}
 use Rattle.nets.specs.Graph.{Graph, moves, Leads}

@@ -1,13 +1,13 @@
 -- The graph of a model says of its walks what the model's own words say, for every net over that graph: where arcs lead, and which steps
 -- are possible. Assumes nothing.
-use mathlib.Core.List.{List, [], _∷_, map-map}
+use mathlib.Core.List.{List, [], _∷_}
 use mathlib.Core.Logic.{_↔_}
 use Prim.Native.Nat.{ℕ, _<_}
 use lib.ListN.{length}
 use Rattle.walks.specs.Walk.{walked, IsPossible}
-use Rattle.walks.specs.Moves.{moveOf, Possible}
-use Rattle.walks.proofs.Weights.{walked-moves}
-use Rattle.model.specs.Automaton.{Automaton, arcAt, weights}
+use Rattle.walks.specs.Moves.{Possible}
+use Rattle.walks.proofs.Walks.{walked-moves}
+use Rattle.model.specs.Automaton.{Automaton, arcAt, movesOf}
 use Rattle.model.specs.Plans
 use Rattle.nets.specs.Graph.{moves, Leads}
 use Rattle.nets.specs.Whole.{graphOf}
@@ -19,6 +19,6 @@ leads-graph g (a ∷ w) s t =
     let ih = leads-graph g w (arcAt g a .target) t in
     (λ h. (h .0, h .1, ih .0 (h .2)), λ h. (h .0, h .1, ih .1 (h .2)))
 
--- the walk of the weights is possible exactly where the moves are
-pub possible-graph : (g : Automaton) (b c : ℕ) (w : List ℕ) → IsPossible (walked b (weights g w) c) ↔ Possible b (moves (graphOf g) w) c
-possible-graph g b c w = rw (map-map moveOf (λ a. arcAt g a .weight) w) at (walked-moves b (weights g w) c .possible)
+-- the walk of the arcs is possible exactly where the moves are
+pub possible-graph : (g : Automaton) (b c : ℕ) (w : List ℕ) → IsPossible (walked b (movesOf g w) c) ↔ Possible b (moves (graphOf g) w) c
+possible-graph g b c w = walked-moves b (movesOf g w) c .possible

@@ -5,7 +5,7 @@ use mathlib.Core.List.{List, [], _∷_, _++_, map-append}
 use mathlib.Core.Logic.{_↔_}
 use Prim.Native.Nat.{ℕ, zero, suc, _<_}
 use Rattle.walks.specs.Walk.{times}
-use Rattle.walks.proofs.Weights.{map-times}
+use Rattle.walks.proofs.Walks.{map-times}
 use Rattle.nets.specs.Graph.{Graph, moves, Leads}
 use Rattle.nets.specs.Net.{Net, Usable, Lasts, Fits}
 

@@ -4,7 +4,8 @@ use mathlib.Core.Path.{_≡_, refl, _∙_}
 use mathlib.Core.List.{List, [], _∷_, _++_}
 use Prim.Native.Nat.{ℕ, zero, suc, pred, _≤_, _<_}
 use native.Mathlib.Omega.{arith}
-use Rattle.walks.specs.Moves.{after, charge, Possible}
+use Rattle.walks.specs.BoundedStep.{after}
+use Rattle.walks.specs.Moves.{charge, Possible}
 use Rattle.walks.proofs.Charges.{charge-append, possible-append, charge-bound}
 use Rattle.nets.specs.Graph.{moves, Leads}
 use Rattle.nets.specs.Net.{Net}

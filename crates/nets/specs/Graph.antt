@@ -3,7 +3,7 @@
 use Prim.Native.Nat.{ℕ}
 use mathlib.Core.Path.{_≡_}
 use mathlib.Core.List.{List, [], _∷_, map}
-use Rattle.walks.specs.Moves.{Move}
+use Rattle.walks.specs.BoundedStep.{Move}
 
 -- the mode that an arc leaves, the mode that it enters, and what it draws and gains
 pub record Graph : Type 0 where

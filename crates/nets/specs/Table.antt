@@ -5,7 +5,8 @@ use mathlib.Core.Path.{_≡_}
 use mathlib.Core.Bool.{Bool, true, false, _&&_}
 use mathlib.Core.List.{List, [], _∷_}
 use lib.Dec.{ltb}
-use Rattle.walks.specs.Moves.{after, charge, Possible, Keeps}
+use Rattle.walks.specs.BoundedStep.{after}
+use Rattle.walks.specs.Moves.{charge, Possible, Keeps}
 use Rattle.nets.specs.Graph.{moves, Leads}
 use Rattle.nets.specs.Net.{Net, Usable, Lasts, MeetsAll, Cycle}
 

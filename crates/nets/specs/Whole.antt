@@ -3,15 +3,14 @@
 use mathlib.Core.Bool.{true}
 use Prim.Native.Nat.{ℕ}
 use lib.ListN.{length}
-use Rattle.walks.specs.Moves.{moveOf}
-use Rattle.model.specs.Automaton.{Automaton, arcAt, meets}
+use Rattle.model.specs.Automaton.{Automaton, arcAt, meets, moveOf}
 use Rattle.model.specs.Plans.{Plan}
 use Rattle.nets.specs.Graph.{Graph}
 use Rattle.nets.specs.Net.{Net, AcceptedLasso}
 
--- the graph of a model: each arc with what its weight draws and gains
+-- the graph of a model: each arc with what it draws and gains
 abbrev pub graphOf : Automaton → Graph
-graphOf g = record { source = λ a. arcAt g a .source; target = λ a. arcAt g a .target; move = λ a. moveOf (arcAt g a .weight) }
+graphOf g = record { source = λ a. arcAt g a .source; target = λ a. arcAt g a .target; move = λ a. moveOf (arcAt g a) }
 
 -- every arc is on and lasting, and every colour is a duty
 abbrev pub whole : Automaton → Net

@@ -8,7 +8,7 @@ use Prim.Native.Nat.{ℕ, suc, _+_, _/_, _≤_, _<_}
 use native.Mathlib.Nat.{div-eq-of-lt, mod-eq-of-lt}
 use native.Mathlib.Omega.{arith}
 use lib.ListN.{length, getD}
-use Rattle.walks.specs.Moves.{after}
+use Rattle.walks.specs.BoundedStep.{after}
 use Rattle.nets.specs.Net.{Net, Usable, Lasts, Fits}
 use Rattle.nets.specs.Table.{next, ClosingArc, KeptCycle}
 use Rattle.nets.proofs.Decides.{kept-closed, closed-kept}

@@ -5,7 +5,7 @@ use mathlib.Core.Logic.{_↔_}
 use Prim.Native.Nat.{ℕ, _/_, _%_, _≤_, _<_}
 use lib.Dec.{eqb, leb}
 use borrow.Author.Tests.{eqb-true, leb-true, eq-eqb, le-leb}
-use Rattle.walks.specs.Moves.{after}
+use Rattle.walks.specs.BoundedStep.{after}
 use Rattle.nets.specs.Net.{Usable, Fits}
 use Rattle.nets.specs.Table.{next}
 use Rattle.passes.specs.Pass.{Pass, Along, closesAt, node}

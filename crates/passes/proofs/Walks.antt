@@ -8,7 +8,8 @@ use Prim.Native.Nat.{ℕ, suc, _+_, _/_, _%_, _<_}
 use native.Mathlib.Nat.{div-eq-of-lt, mod-eq-of-lt}
 use native.Mathlib.Omega.{arith}
 use lib.ListN.{getD}
-use Rattle.walks.specs.Moves.{after, charge, Possible}
+use Rattle.walks.specs.BoundedStep.{after}
+use Rattle.walks.specs.Moves.{charge, Possible}
 use Rattle.nets.specs.Graph.{moves, Leads}
 use Rattle.nets.specs.Net.{Usable, Fits}
 use Rattle.nets.specs.Table.{next, level, Closed, Reached}

@@ -6,7 +6,7 @@ use mathlib.Core.Bool.{Bool, true, _&&_}
 use mathlib.Core.List.{List}
 use lib.Dec.{leb, eqb}
 use Rattle.limits.specs.Ceilings.{modesMost, arcsMost, coloursMost, boundMost, productMost, workWords}
-use Rattle.walks.specs.Moves.{after}
+use Rattle.walks.specs.BoundedStep.{after}
 use Rattle.nets.specs.Net.{Net}
 use Rattle.nets.specs.Table.{next}
 use Rattle.groups.specs.Grouped.{Grouped}

@@ -13,12 +13,12 @@ use borrow.Author.Tests.{lt-leb}
 use Rattle.limits.specs.Ceilings.{boundMost, planMost, spillMost}
 use Rattle.walks.specs.Walk.{Ends, times}
 use Rattle.walks.specs.Spill.{spilled}
-use Rattle.walks.proofs.Weights.{walked-cons}
+use Rattle.walks.proofs.Walks.{walked-cons}
 use Rattle.walks.proofs.Charges.{stepped-bound}
 use Rattle.walks.proofs.Spill.{spilled-cons}
 use Rattle.refusals.specs.declared.Verdict.the-variants.{Yes}
 use Rattle.model.specs.declared.Model.{Model}
-use Rattle.model.specs.Automaton.{Automaton, arcAt, meets, weights}
+use Rattle.model.specs.Automaton.{Automaton, arcAt, meets, moveOf, movesOf}
 use Rattle.model.specs.Lists.{Lists, automatonOf, held}
 use Rattle.model.specs.Fitness.{fitness}
 use Rattle.model.specs.Plans.{Leads, walkedArcs, Meets, Serves}
@@ -60,7 +60,7 @@ module _ (n s k : ℕ) (l : Lists) (b : ℕ) (fit : fitness n s k l ≡ Yes) (lo
   -- Along arcs w that lead on, whose walk ends and for whose losses the total has room, a matching gauge z walks to the least step that meets
   -- the colour, whatever arcs v stand behind them, if one of w meets it or v has none.
   pub gauge-least : (w v : List ℕ) (z : Gauge) (t x : ℕ) → Matches (automatonOf n s k l) b z → z .charge ≤ b
-      → z .spill + spilled b (weights (automatonOf n s k l) w) (z .charge) ≤ spillMost → Leads (automatonOf n s k l) (z .mode) w t
+      → z .spill + spilled b (movesOf (automatonOf n s k l) w) (z .charge) ≤ spillMost → Leads (automatonOf n s k l) (z .mode) w t
       → walkedArcs (automatonOf n s k l) b w (z .charge) ≡ Ends x → Meets (automatonOf n s k l) j w ⊎ (v ≡ []) → (i : ℕ)
       → gaugeWalk n s k l b j (w ++ v) i z ≡ firstMet (automatonOf n s k l) j (w ++ v) i
   unfolding gaugeWalk firstMet
@@ -68,9 +68,9 @@ module _ (n s k : ℕ) (l : Lists) (b : ℕ) (fit : fitness n s k l ≡ Yes) (lo
   gauge-least [] v z t x match h room leads q (inr end) i = rw end refl
   gauge-least (a ∷ w) v z t x match h room (below, source, leads) q last i =
       let g = automatonOf n s k l in
-      let f = arcAt g a .weight in
-      let (e, lost, to, r) = walked-cons b f (weights g w) (z .charge) x .0 q in
-      let sum = spilled-cons b f (weights g w) (z .charge) e lost to in
+      let f = moveOf (arcAt g a) in
+      let (e, lost, to, r) = walked-cons b f (movesOf g w) (z .charge) x .0 q in
+      let sum = spilled-cons b f (movesOf g w) (z .charge) e lost to in
       let u = movedTo z (arcAt g a .target) e (z .spill + lost) in
       let step =
       step-moved n s k l b a z fit (levels-yes b (z .charge) .1 (low, h)) match
@@ -104,7 +104,7 @@ module _ (n s k : ℕ) (l : Lists) (b : ℕ) (fit : fitness n s k l ≡ Yes) (lo
       ])
     where
       room : (u : List ℕ) (m x : ℕ) → length u ≤ planMost → Leads (automatonOf n s k l) s u m → walkedArcs (automatonOf n s k l) b u c ≡ Ends x
-          → 0 + spilled b (weights (automatonOf n s k l) u) c ≤ spillMost
+          → 0 + spilled b (movesOf (automatonOf n s k l) u) c ≤ spillMost
       room u m x few leads ends = omega (arith, spilled-most n s k l b fit u s c m x h leads ends)
 
 module _ (n s k : ℕ) (l : Lists) (b c p q : ℕ) (w : List ℕ) (yes : judged n s k l b c p q w ≡ Yes) (j t : ℕ) (h : j < k) where

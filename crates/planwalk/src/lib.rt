@@ -99,7 +99,8 @@ pub fn walk(
     k: u32,
     sources: &[u8],
     targets: &[u8],
-    weights: &[i16],
+    draws: &[u16],
+    gains: &[u16],
     colours: &[u8],
     c: u32,
     b: u32,
@@ -109,7 +110,7 @@ pub fn walk(
     j: u32,
     allowance: u16,
 ) -> Walked
-    ensures { λ r. ⌜ r ≡ walkOf n start k (lists (now (sources .entry)) (now (targets .entry)) (now (weights .entry)) (now (colours .entry))) b c p q (now (plan .entry)) j allowance ⌝ }
+    ensures { λ r. ⌜ r ≡ walkOf n start k (lists (now (sources .entry)) (now (targets .entry)) (now (draws .entry)) (now (gains .entry)) (now (colours .entry))) b c p q (now (plan .entry)) j allowance ⌝ }
 {
     let judged = judge_model(
         n,
@@ -117,7 +118,8 @@ pub fn walk(
         k,
         sources,
         targets,
-        weights,
+        draws,
+        gains,
         colours,
         c,
         b,

@@ -7,7 +7,6 @@ use native.Mathlib.Omega.{arith}
 use native.Mathlib.Decide.{decLt}
 use lib.ListN.{getD, getD-replicate, List·getD-eq-default}
 use Rattle.limits.specs.Ceilings.{planBuffer}
-use Rattle.walks.specs.Moves.{drawOf, gainOf}
 use Rattle.model.specs.declared.Arc.{Arc}
 use Rattle.model.specs.declared.Model.{Model}
 use Rattle.model.specs.Automaton.{noArc, arcAt}
@@ -57,8 +56,8 @@ module _ (g : Model) (h : Holds g) where
       let arc : (ℕ → Arc) = λ a. arcAt (held g) a in
       let source : (ℕ → ℕ) = λ a. arc a .source in
       let target : (ℕ → ℕ) = λ a. arc a .target in
-      let draw : (ℕ → ℕ) = λ a. drawOf (arc a .weight) in
-      let gain : (ℕ → ℕ) = λ a. gainOf (arc a .weight) in
+      let draw : (ℕ → ℕ) = λ a. arc a .draw in
+      let gain : (ℕ → ℕ) = λ a. arc a .gain in
       let colours : (ℕ → ℕ) = λ a. arc a .colours in
       let n = g .modes in
       let s = g .start in

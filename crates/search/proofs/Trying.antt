@@ -7,8 +7,8 @@ use native.Mathlib.Nat.{mod-lt}
 use native.Mathlib.Omega.{arith}
 use lib.ListN.{length}
 use Rattle.walks.specs.declared.Step.the-variants.{To, Impossible}
-use Rattle.walks.specs.Moves.{moved}
-use Rattle.walks.proofs.Weights.{moved-to, moved-off}
+use Rattle.walks.specs.BoundedStep.{stepped}
+use Rattle.walks.proofs.Walks.{stepped-to, stepped-off}
 use Rattle.limits.specs.Ceilings.{modesMost, arcsMost, coloursMost}
 use Rattle.model.specs.Automaton.{bit}
 use Rattle.groups.specs.Rows.{sourceAt, targetAt, drawAt, gainAt, coloursAt}
@@ -81,7 +81,7 @@ pub record Reads (rows places : List ℕ) (i a d g : ℕ) : Type 0 where
 module _ {rows places : List ℕ} {t : Task} {m : Aim} {h : Entry} {i : ℕ} {best w : List ℕ} {tail a d g : ℕ}
     (f : Trying rows places t m h i best w tail) (r : Reads rows places i a d g) where
   -- the step is not possible
-  pub relax-impossible : moved (t .bound) (record { draw = d; gain = g }) (h .charge) ≡ Impossible
+  pub relax-impossible : stepped (t .bound) (record { draw = d; gain = g }) (h .charge) ≡ Impossible
       → Relaxed (passOf rows places t m) h i best w tail best w (record { found = false; head = h .index; arc = a; tail = tail })
   relax-impossible e =
       record {
@@ -91,18 +91,18 @@ module _ {rows places : List ℕ} {t : Task} {m : Aim} {h : Entry} {i : ℕ} {be
             (λ u x s.
             let drawn : drawAt rows (arcPlaced places i) ≤ chargeAt w (h .index) = s .possible in
             let low : d ≤ h .charge = omega (arith, charge-same f, r .draw, ap {B = ℕ} (drawAt rows) (r .arc)) in
-            let high = moved-off (t .bound) (record { draw = d; gain = g }) (h .charge) e in
+            let high = stepped-off (t .bound) (record { draw = d; gain = g }) (h .charge) e in
             absurd (omega arith)));
         entry = refl;
       }
 
   -- the step that the arc takes
-  pub relax-along : {u x l k y : ℕ} → moved (t .bound) (record { draw = d; gain = g }) (h .charge) ≡ To x l → k ≡ coloursAt rows a
+  pub relax-along : {u x l k y : ℕ} → stepped (t .bound) (record { draw = d; gain = g }) (h .charge) ≡ To x l → k ≡ coloursAt rows a
       → y ≡ targetAt rows a → u ≡ node (t .modes) (levelAfter (m .last) k (h .level)) y
       → Along (passOf rows places t m) (arcPlaced places i) (nodeAt w (h .index)) (chargeAt w (h .index)) u x
   unfolding levelAfter
   relax-along {u} {x} {l} e ek ey eu =
-      let (low, left, cut) = moved-to (t .bound) (record { draw = d; gain = g }) (h .charge) x l .0 e in
+      let (low, left, cut) = stepped-to (t .bound) (record { draw = d; gain = g }) (h .charge) x l .0 e in
       record {
         known = arc-known f;
         allowed = refl;

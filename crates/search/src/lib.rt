@@ -103,16 +103,17 @@ fn check_search(
     k: u32,
     sources: &[u8],
     targets: &[u8],
-    weights: &[i16],
+    draws: &[u16],
+    gains: &[u16],
     colours: &[u8],
     c: u32,
     b: u32,
     words: usize,
     bytes: usize,
 ) -> Fitted
-    ensures { λ r. ⌜ r ≡ checkedOf n start k (lists (now (sources .entry)) (now (targets .entry)) (now (weights .entry)) (now (colours .entry))) b c words bytes ⌝ }
+    ensures { λ r. ⌜ r ≡ checkedOf n start k (lists (now (sources .entry)) (now (targets .entry)) (now (draws .entry)) (now (gains .entry)) (now (colours .entry))) b c words bytes ⌝ }
 {
-    let fitted = check_model(n, start, k, sources, targets, weights, colours);
+    let fitted = check_model(n, start, k, sources, targets, draws, gains, colours);
     let verdict = fitted.verdict;
     let model = fitted.model;
     match verdict {
@@ -158,14 +159,15 @@ pub fn search(
     k: u32,
     sources: &[u8],
     targets: &[u8],
-    weights: &[i16],
+    draws: &[u16],
+    gains: &[u16],
     colours: &[u8],
     c: u32,
     b: u32,
     work: &mut [u16],
     plan: &mut [u8],
 ) -> Searched
-    ensures { λ r. ⌜ SearchOf n start k (lists (now (sources .entry)) (now (targets .entry)) (now (weights .entry)) (now (colours .entry))) b c (now (work .entry)) (now (plan .entry)) (now (work .exit)) (now (plan .exit)) r ⌝ }
+    ensures { λ r. ⌜ SearchOf n start k (lists (now (sources .entry)) (now (targets .entry)) (now (draws .entry)) (now (gains .entry)) (now (colours .entry))) b c (now (work .entry)) (now (plan .entry)) (now (work .exit)) (now (plan .exit)) r ⌝ }
 {
     let checked = check_search(
         n,
@@ -173,7 +175,8 @@ pub fn search(
         k,
         sources,
         targets,
-        weights,
+        draws,
+        gains,
         colours,
         c,
         b,

@@ -20,7 +20,7 @@ use crate::plans::Task;
 use groups::PLACES;
 use groups::WORDS;
 use walks::Step;
-use walks::bounded_move;
+use walks::bounded_step;
 
 // What a pass is for: it goes over the levels 0 to last, and an arc that comes to the node goal with the charge least or more closes the cycle,
 // and ends the pass.
@@ -148,7 +148,7 @@ fn relax(
     ensures { λ r. ⌜ Relaxed (passOf (now (rows .entry)) (now (places .entry)) task aim) entry i (now (best .entry)) (now (work .entry)) tail (now (best .exit)) (now (work .exit)) r ⌝ }
 {
     let arc = arc_placed(places, i);
-    let step = bounded_move(
+    let step = bounded_step(
         entry.charge,
         draw_of(rows, arc),
         gain_of(rows, arc),

@@ -41,7 +41,8 @@ pub struct Tried {
 fn check_answer(
     sources: &[u8],
     targets: &[u8],
-    weights: &[i16],
+    draws: &[u16],
+    gains: &[u16],
     colours: &[u8],
     numbers: Numbers,
     searched: Searched,
@@ -53,7 +54,7 @@ fn check_answer(
             if !expected {
                 return Outcome::Difference;
             }
-            if !is_plan_right(sources, targets, weights, colours, numbers, p, q, plan) {
+            if !is_plan_right(sources, targets, draws, gains, colours, numbers, p, q, plan) {
                 return Outcome::Difference;
             }
             Outcome::Plan
@@ -78,7 +79,8 @@ fn check_answer(
 fn compare(
     sources: &[u8],
     targets: &[u8],
-    weights: &[i16],
+    draws: &[u16],
+    gains: &[u16],
     colours: &[u8],
     numbers: Numbers,
     expected: bool,
@@ -93,7 +95,8 @@ fn compare(
         numbers.colours,
         sources,
         targets,
-        weights,
+        draws,
+        gains,
         colours,
         numbers.credit,
         numbers.bound,
@@ -106,7 +109,8 @@ fn compare(
     check_answer(
         sources,
         targets,
-        weights,
+        draws,
+        gains,
         colours,
         numbers,
         searched,
@@ -119,7 +123,8 @@ fn compare(
 fn expects(
     sources: &[u8],
     targets: &[u8],
-    weights: &[i16],
+    draws: &[u16],
+    gains: &[u16],
     colours: &[u8],
     numbers: Numbers,
     pairs: usize,
@@ -131,7 +136,8 @@ fn expects(
     has_plan(
         sources,
         targets,
-        weights,
+        draws,
+        gains,
         colours,
         numbers,
         &mut candidates[..pairs],
@@ -143,7 +149,8 @@ fn expects(
 fn lend(
     sources: &[u8],
     targets: &[u8],
-    weights: &[i16],
+    draws: &[u16],
+    gains: &[u16],
     colours: &[u8],
     numbers: Numbers,
     extra: usize,
@@ -156,7 +163,7 @@ fn lend(
     if room > ROOM {
         return Outcome::Difference;
     }
-    let expected = expects(sources, targets, weights, colours, numbers, pairs);
+    let expected = expects(sources, targets, draws, gains, colours, numbers, pairs);
     let mut work = [0u16; WORDS];
     let mut plan = [0u8; BYTES];
     let words = Limits::WORK_WORDS * room + extra % 4;
@@ -164,7 +171,8 @@ fn lend(
     compare(
         sources,
         targets,
-        weights,
+        draws,
+        gains,
         colours,
         numbers,
         expected,
@@ -185,7 +193,8 @@ pub fn try_model(family: Family, state: u32) -> Tried {
     }
     let mut sources = [0u8; Limits::ARCS];
     let mut targets = [0u8; Limits::ARCS];
-    let mut weights = [0i16; Limits::ARCS];
+    let mut draws = [0u16; Limits::ARCS];
+    let mut gains = [0u16; Limits::ARCS];
     let mut colours = [0u8; Limits::ARCS];
     let after = put_arcs(
         skip(state),
@@ -193,14 +202,16 @@ pub fn try_model(family: Family, state: u32) -> Tried {
         family,
         &mut sources,
         &mut targets,
-        &mut weights,
+        &mut draws,
+        &mut gains,
         &mut colours,
     );
     Tried {
         outcome: lend(
             &sources[..count],
             &targets[..count],
-            &weights[..count],
+            &draws[..count],
+            &gains[..count],
             &colours[..count],
             numbers,
             after as usize,

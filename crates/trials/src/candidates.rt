@@ -42,7 +42,8 @@ fn leads_by(
 fn leads_on(
     sources: &[u8],
     targets: &[u8],
-    weights: &[i16],
+    draws: &[u16],
+    gains: &[u16],
     colours: &[u8],
     bound: u32,
     mask: u8,
@@ -52,7 +53,7 @@ fn leads_on(
 ) -> bool {
     let mut a = 0;
     while a < sources.len() {
-        let after = pair_after(sources, targets, weights, bound, pair, a);
+        let after = pair_after(sources, targets, draws, gains, bound, pair, a);
         if leads_by(colours, a, mask, after, candidates, marked) {
             return true;
         }
@@ -65,7 +66,8 @@ fn leads_on(
 fn is_next(
     sources: &[u8],
     targets: &[u8],
-    weights: &[i16],
+    draws: &[u16],
+    gains: &[u16],
     colours: &[u8],
     bound: u32,
     mask: u8,
@@ -82,7 +84,8 @@ fn is_next(
     leads_on(
         sources,
         targets,
-        weights,
+        draws,
+        gains,
         colours,
         bound,
         mask,
@@ -104,7 +107,8 @@ fn put_if(test: bool, list: &mut [u8], at: usize, value: u8) -> bool {
 fn sweep(
     sources: &[u8],
     targets: &[u8],
-    weights: &[i16],
+    draws: &[u16],
+    gains: &[u16],
     colours: &[u8],
     bound: u32,
     mask: u8,
@@ -117,7 +121,8 @@ fn sweep(
         let test = is_next(
             sources,
             targets,
-            weights,
+            draws,
+            gains,
             colours,
             bound,
             mask,
@@ -137,7 +142,8 @@ fn sweep(
 fn mark(
     sources: &[u8],
     targets: &[u8],
-    weights: &[i16],
+    draws: &[u16],
+    gains: &[u16],
     colours: &[u8],
     bound: u32,
     mask: u8,
@@ -154,7 +160,8 @@ fn mark(
         more = sweep(
             sources,
             targets,
-            weights,
+            draws,
+            gains,
             colours,
             bound,
             mask,
@@ -199,7 +206,8 @@ fn masks(k: u32) -> u32 {
 fn remove(
     sources: &[u8],
     targets: &[u8],
-    weights: &[i16],
+    draws: &[u16],
+    gains: &[u16],
     colours: &[u8],
     bound: u32,
     k: u32,
@@ -213,7 +221,8 @@ fn remove(
         mark(
             sources,
             targets,
-            weights,
+            draws,
+            gains,
             colours,
             bound,
             mask_of(k, colour),
@@ -232,7 +241,8 @@ fn remove(
 fn remove_all(
     sources: &[u8],
     targets: &[u8],
-    weights: &[i16],
+    draws: &[u16],
+    gains: &[u16],
     colours: &[u8],
     bound: u32,
     k: u32,
@@ -245,7 +255,8 @@ fn remove_all(
         if !remove(
             sources,
             targets,
-            weights,
+            draws,
+            gains,
             colours,
             bound,
             k,
@@ -262,7 +273,8 @@ fn remove_all(
 pub fn has_plan(
     sources: &[u8],
     targets: &[u8],
-    weights: &[i16],
+    draws: &[u16],
+    gains: &[u16],
     colours: &[u8],
     numbers: Numbers,
     candidates: &mut [u8],
@@ -271,7 +283,8 @@ pub fn has_plan(
     remove_all(
         sources,
         targets,
-        weights,
+        draws,
+        gains,
         colours,
         numbers.bound,
         numbers.colours,

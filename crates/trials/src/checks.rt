@@ -13,7 +13,8 @@ use planwalk::walk;
 fn is_judged(
     sources: &[u8],
     targets: &[u8],
-    weights: &[i16],
+    draws: &[u16],
+    gains: &[u16],
     colours: &[u8],
     numbers: Numbers,
     p: u32,
@@ -26,7 +27,8 @@ fn is_judged(
         numbers.colours,
         sources,
         targets,
-        weights,
+        draws,
+        gains,
         colours,
         numbers.credit,
         numbers.bound,
@@ -42,7 +44,8 @@ fn is_judged(
 fn is_walked_for(
     sources: &[u8],
     targets: &[u8],
-    weights: &[i16],
+    draws: &[u16],
+    gains: &[u16],
     colours: &[u8],
     numbers: Numbers,
     p: u32,
@@ -58,7 +61,8 @@ fn is_walked_for(
         numbers.colours,
         sources,
         targets,
-        weights,
+        draws,
+        gains,
         colours,
         numbers.credit,
         numbers.bound,
@@ -80,7 +84,8 @@ fn is_walked_for(
 fn is_walked(
     sources: &[u8],
     targets: &[u8],
-    weights: &[i16],
+    draws: &[u16],
+    gains: &[u16],
     colours: &[u8],
     numbers: Numbers,
     p: u32,
@@ -94,7 +99,8 @@ fn is_walked(
         if !is_walked_for(
             sources,
             targets,
-            weights,
+            draws,
+            gains,
             colours,
             numbers,
             p,
@@ -113,7 +119,8 @@ fn is_walked(
 pub fn is_plan_right(
     sources: &[u8],
     targets: &[u8],
-    weights: &[i16],
+    draws: &[u16],
+    gains: &[u16],
     colours: &[u8],
     numbers: Numbers,
     p: u32,
@@ -131,16 +138,17 @@ pub fn is_plan_right(
         return false;
     }
     let plan = &buffer[..length];
-    if !is_judged(sources, targets, weights, colours, numbers, p, q, plan) {
+    if !is_judged(sources, targets, draws, gains, colours, numbers, p, q, plan) {
         return false;
     }
-    if !is_walked(sources, targets, weights, colours, numbers, p, q, plan) {
+    if !is_walked(sources, targets, draws, gains, colours, numbers, p, q, plan) {
         return false;
     }
     is_right(
         sources,
         targets,
-        weights,
+        draws,
+        gains,
         colours,
         numbers,
         p as usize,

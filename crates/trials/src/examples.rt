@@ -17,7 +17,8 @@ use search::search;
 fn print_walk(allowance: u16) {
     let sources = [0u8, 0u8, 1u8];
     let targets = [0u8, 1u8, 1u8];
-    let weights = [1i16, -5i16, 0i16];
+    let draws = [0u16, 5u16, 0u16];
+    let gains = [1u16, 0u16, 0u16];
     let colours = [0u8, 0u8, 1u8];
     let plan = [0u8, 0u8, 0u8, 0u8, 0u8, 1u8, 2u8];
     let walked = walk(
@@ -26,7 +27,8 @@ fn print_walk(allowance: u16) {
         1,
         &sources,
         &targets,
-        &weights,
+        &draws,
+        &gains,
         &colours,
         0,
         5,
@@ -65,7 +67,8 @@ fn are_right(number: u8, work: &[u16], plan: &[u8]) -> bool {
 fn print_search(n: u32, start: u32, k: u32, b: u32) {
     let sources = [0u8; 1];
     let targets = [0u8; 1];
-    let weights = [0i16; 1];
+    let draws = [0u16; 1];
+    let gains = [0u16; 1];
     let colours = [0u8; 1];
     let mut work = [0u16; WORDS];
     let mut plan = [0u8; BYTES];
@@ -78,7 +81,8 @@ fn print_search(n: u32, start: u32, k: u32, b: u32) {
         k,
         &sources[..none],
         &targets[..none],
-        &weights[..none],
+        &draws[..none],
+        &gains[..none],
         &colours[..none],
         0,
         b,

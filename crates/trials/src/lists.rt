@@ -15,16 +15,16 @@ pub fn put(list: &mut [u8], at: usize, value: u8) {
     }
 }
 
-// A weight of a list; 0 past its end.
-pub fn weight(list: &[i16], at: usize) -> i16 {
+// A word of a list; 0 past its end.
+pub fn word(list: &[u16], at: usize) -> u16 {
     if at < list.len() {
         return list[at];
     }
     0
 }
 
-// Sets a weight of a list; nothing past its end.
-pub fn put_weight(list: &mut [i16], at: usize, value: i16) {
+// Sets a word of a list; nothing past its end.
+pub fn put_word(list: &mut [u16], at: usize, value: u16) {
     if at < list.len() {
         list[at] = value;
     }

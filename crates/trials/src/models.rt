@@ -1,11 +1,13 @@
-// Random models: a fixed generator, families of models, and the four lists of one.
+// Random models: a fixed generator, families of models, and the five lists of one.
 ghost use Prim.Native.Nat.{_≤_};
 use crate::lists::put;
-use crate::lists::put_weight;
+use crate::lists::put_word;
 use limits::Limits;
 
-// The weights that are not negative.
-const WEIGHTS: u32 = (Limits::WEIGHT_MOST as u32) + 1;
+// The draws and the gains that an arc may have.
+const DRAWS: u32 = (Limits::DRAW as u32) + 1;
+
+const GAINS: u32 = (Limits::GAIN as u32) + 1;
 
 // The numbers of a model, with credit and bound; arcs: how many it has.
 pub struct Numbers {
@@ -59,12 +61,20 @@ fn low_byte(x: u32) -> u8 {
     (x % 256) as u8
 }
 
-// x less low, which no family makes greater than a weight may be.
-fn difference(x: u32, low: u32) -> i16 {
+// What a weight of x less low draws: low less x, where that is not below 0. No family makes it greater than a draw may be.
+fn drawn(x: u32, low: u32) -> u16 {
     if x < low {
-        return -(((low - x) % WEIGHTS) as i16);
+        return ((low - x) % DRAWS) as u16;
     }
-    ((x - low) % WEIGHTS) as i16
+    0
+}
+
+// What it gains: x less low, where that is not below 0. No family makes it greater than a gain may be.
+fn gained(x: u32, low: u32) -> u16 {
+    if x < low {
+        return 0;
+    }
+    ((x - low) % GAINS) as u16
 }
 
 // A number of a family: least, or up to span − 1 more.
@@ -93,6 +103,12 @@ pub fn numbers_of(family: Family, state: u32) -> Numbers {
     }
 }
 
+// Writes what an arc draws and gains, a weight of x less low, at a place of the lists.
+fn put_move(x: u32, low: u32, at: usize, draws: &mut [u16], gains: &mut [u16]) {
+    put_word(draws, at, drawn(x, low));
+    put_word(gains, at, gained(x, low));
+}
+
 // Writes the arc that a seed gives, by the five draws after it, at a place of the lists.
 fn put_arc(
     seed: u32,
@@ -101,7 +117,8 @@ fn put_arc(
     at: usize,
     sources: &mut [u8],
     targets: &mut [u8],
-    weights: &mut [i16],
+    draws: &mut [u16],
+    gains: &mut [u16],
     colours: &mut [u8],
 ) {
     let first = next(seed);
@@ -113,13 +130,12 @@ fn put_arc(
     let masks = 1u32 << (numbers.colours % 8);
     put(sources, at, low_byte(pick(first, numbers.modes)));
     put(targets, at, low_byte(pick(second, numbers.modes)));
-    put_weight(
-        weights,
+    put_move(
+        pick(third, family.weight_span as u32),
+        family.weight_low as u32,
         at,
-        difference(
-            pick(third, family.weight_span as u32),
-            family.weight_low as u32,
-        ),
+        draws,
+        gains,
     );
     put(
         colours,
@@ -145,7 +161,8 @@ pub fn put_arcs(
     family: Family,
     sources: &mut [u8],
     targets: &mut [u8],
-    weights: &mut [i16],
+    draws: &mut [u16],
+    gains: &mut [u16],
     colours: &mut [u8],
 ) -> u32 {
     let mut seed = state;
@@ -161,7 +178,8 @@ pub fn put_arcs(
             i as usize,
             sources,
             targets,
-            weights,
+            draws,
+            gains,
             colours,
         );
         i += 1;

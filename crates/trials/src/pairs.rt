@@ -1,33 +1,23 @@
 // Pairs of a mode and a charge, as numbers, and the pair that an arc leads to from another.
 ghost use Prim.Native.Nat.{_+_, _*_, _≤_};
 use crate::lists::byte;
-use crate::lists::weight;
+use crate::lists::word;
 
-// A weight without its sign.
-fn magnitude(w: i16) -> u16 {
-    if w < 0 {
-        return (0 - (w as i32)) as u16;
-    }
-    w as u16
-}
-
-// The charge that a weight leads to, cut off at the bound, plus 1; 0 where it leads below 0.
-fn charge_after(charge: usize, w: i16, bound: u32) -> usize
+// The charge that a draw and a gain lead to, cut off at the bound, plus 1; 0 where the charge is less than the draw.
+fn charge_after(charge: usize, draw: u16, gain: u16, bound: u32) -> usize
     requires { ⌜ charge ≤ bound ⌝ }
     ensures { λ r. ⌜ r ≤ bound + 1 ⌝ }
 {
     let high = bound as usize;
-    let size = magnitude(w) as usize;
-    if w < 0 {
-        if charge < size {
-            return 0;
-        }
-        return charge - size + 1;
+    let drawn = draw as usize;
+    if charge < drawn {
+        return 0;
     }
-    if charge + size > high {
+    let rest = charge - drawn + (gain as usize);
+    if rest > high {
         return high + 1;
     }
-    charge + size + 1
+    rest + 1
 }
 
 // The number of the pair of a mode and a charge.
@@ -41,7 +31,8 @@ pub fn pair_of(mode: u32, charge: u32, bound: u32) -> usize
 pub fn pair_after(
     sources: &[u8],
     targets: &[u8],
-    weights: &[i16],
+    draws: &[u16],
+    gains: &[u16],
     bound: u32,
     pair: usize,
     a: usize,
@@ -50,7 +41,7 @@ pub fn pair_after(
     if (byte(sources, a) as usize) != pair / charges {
         return 0;
     }
-    let after = charge_after(pair % charges, weight(weights, a), bound);
+    let after = charge_after(pair % charges, word(draws, a), word(gains, a), bound);
     if after == 0 {
         return 0;
     }

@@ -9,7 +9,8 @@ use crate::pairs::pair_of;
 fn walk(
     sources: &[u8],
     targets: &[u8],
-    weights: &[i16],
+    draws: &[u16],
+    gains: &[u16],
     bound: u32,
     pair: usize,
     arcs: &[u8],
@@ -23,7 +24,8 @@ fn walk(
         reached = pair_after(
             sources,
             targets,
-            weights,
+            draws,
+            gains,
             bound,
             reached - 1,
             byte(arcs, i) as usize,
@@ -49,14 +51,15 @@ fn in_one_mode(pair: usize, other: usize, bound: u32) -> bool {
 fn rounds_hold(
     sources: &[u8],
     targets: &[u8],
-    weights: &[i16],
+    draws: &[u16],
+    gains: &[u16],
     bound: u32,
     first: usize,
     cycle: &[u8],
 ) -> bool {
-    let second = walk(sources, targets, weights, bound, first, cycle);
-    let third = walk(sources, targets, weights, bound, second, cycle);
-    let last = walk(sources, targets, weights, bound, third, cycle);
+    let second = walk(sources, targets, draws, gains, bound, first, cycle);
+    let third = walk(sources, targets, draws, gains, bound, second, cycle);
+    let last = walk(sources, targets, draws, gains, bound, third, cycle);
     if !in_one_mode(first, second, bound) {
         return false;
     }
@@ -101,7 +104,8 @@ fn has_all(colours: &[u8], k: u32, cycle: &[u8]) -> bool {
 pub fn is_right(
     sources: &[u8],
     targets: &[u8],
-    weights: &[i16],
+    draws: &[u16],
+    gains: &[u16],
     colours: &[u8],
     numbers: Numbers,
     p: usize,
@@ -121,6 +125,14 @@ pub fn is_right(
     }
     let bound = numbers.bound;
     let start = pair_of(numbers.start, numbers.credit, bound);
-    let first = walk(sources, targets, weights, bound, start + 1, &plan[0..p]);
-    rounds_hold(sources, targets, weights, bound, first, &plan[p..])
+    let first = walk(
+        sources,
+        targets,
+        draws,
+        gains,
+        bound,
+        start + 1,
+        &plan[0..p],
+    );
+    rounds_hold(sources, targets, draws, gains, bound, first, &plan[p..])
 }

@@ -1,15 +1,14 @@
 -- The charge along a list of moves: append, at most the bound, monotone. For every list. Assumes nothing.
 use mathlib.Core.Path.{_≡_, refl}
-use mathlib.Core.List.{List, [], _∷_, _++_, map}
+use mathlib.Core.List.{List, [], _∷_, _++_}
 use mathlib.Core.Logic.{_↔_}
 use Prim.Native.Nat.{ℕ, _≤_}
 use native.Mathlib.Omega.{arith}
-use lib.IntN.{ℤ}
 use Rattle.walks.specs.declared.Step.the-variants.{To}
-use Rattle.walks.specs.BoundedStep.{stepped}
+use Rattle.walks.specs.BoundedStep.{Move, after, stepped}
 use Rattle.walks.specs.Walk.{Ends, walked}
-use Rattle.walks.specs.Moves.{Move, moveOf, after, charge, Possible}
-use Rattle.walks.proofs.Weights.{walked-moves, walked-to}
+use Rattle.walks.specs.Moves.{charge, Possible}
+use Rattle.walks.proofs.Walks.{walked-moves, walked-to}
 
 module _ (b : ℕ) where
   pub charge-append : (u v : List Move) (e : ℕ) → charge b (u ++ v) e ≡ charge b v (charge b u e)
@@ -34,18 +33,17 @@ module _ (b : ℕ) where
   possible-mono [] e e′ h p = tt
   possible-mono (m ∷ ms) e e′ h p = (omega arith, possible-mono ms (after b m e) (after b m e′) (omega arith) (p .1))
 
--- the same of walks of weights: at most the bound ..
-pub walked-bound : (b : ℕ) (ws : List ℤ) (e x : ℕ) → e ≤ b → walked b ws e ≡ Ends x → x ≤ b
-walked-bound b ws e x h q = omega (arith, walked-to b ws e x q .1, charge-bound b (map moveOf ws) e h)
+-- the same of walks of steps: at most the bound ..
+pub walked-bound : (b : ℕ) (ms : List Move) (e x : ℕ) → e ≤ b → walked b ms e ≡ Ends x → x ≤ b
+walked-bound b ms e x h q = omega (arith, walked-to b ms e x q .1, charge-bound b ms e h)
 
 -- .. also of a single step ..
-pub stepped-bound : (b : ℕ) (w : ℤ) (e x l : ℕ) → e ≤ b → stepped b w e ≡ To x l → x ≤ b
+pub stepped-bound : (b : ℕ) (m : Move) (e x l : ℕ) → e ≤ b → stepped b m e ≡ To x l → x ≤ b
 unfolding walked
-stepped-bound b w e x l h q = walked-bound b (w ∷ []) e x h (rw q refl)
+stepped-bound b m e x l h q = walked-bound b (m ∷ []) e x h (rw q refl)
 
 -- .. and monotone: a walk that is possible is possible from more, and ends no lower
-pub walked-mono : (b : ℕ) (ws : List ℤ) (e e′ x : ℕ) → e ≤ e′ → walked b ws e ≡ Ends x → (x′ : ℕ) × (walked b ws e′ ≡ Ends x′) × (x ≤ x′)
-walked-mono b ws e e′ x h q =
-    let ms = map moveOf ws in
-    let (p, i) = walked-to b ws e x q in
-    (charge b ms e′, walked-moves b ws e′ .leads (possible-mono b ms e e′ h p), omega (arith, charge-mono b ms e e′ h))
+pub walked-mono : (b : ℕ) (ms : List Move) (e e′ x : ℕ) → e ≤ e′ → walked b ms e ≡ Ends x → (x′ : ℕ) × (walked b ms e′ ≡ Ends x′) × (x ≤ x′)
+walked-mono b ms e e′ x h q =
+    let (p, i) = walked-to b ms e x q in
+    (charge b ms e′, walked-moves b ms e′ .leads (possible-mono b ms e e′ h p), omega (arith, charge-mono b ms e e′ h))

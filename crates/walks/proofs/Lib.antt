@@ -1,7 +1,7 @@
--- The laws of walks, one idea a file; Signs and Sums serve the proofs of the code.
-pub mod Signs
-pub mod Sums
+-- The laws of walks, one idea a file; Weights says what an old weight means.
+pub mod Walks
 pub mod Weights
+pub mod Energy
 pub mod Charges
 pub mod Spill
 pub mod ClosedWalk

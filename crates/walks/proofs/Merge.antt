@@ -6,7 +6,8 @@ use mathlib.Core.Logic.{_⊎_, inl, inr}
 use Prim.Native.Nat.{ℕ, _≤_, _<_}
 use native.Mathlib.Omega.{arith}
 use native.Mathlib.Decide.{decLe}
-use Rattle.walks.specs.Moves.{Move, after, charge, Possible, Keeps}
+use Rattle.walks.specs.Moves.{charge, Possible, Keeps}
+use Rattle.walks.specs.BoundedStep.{Move, after}
 use Rattle.walks.proofs.Charges.{charge-append, possible-append, charge-mono, possible-mono}
 use Rattle.walks.proofs.ClosedWalk.{walk-law}
 

@@ -1,14 +1,14 @@
 -- When a list of moves can be walked for ever. Document 01: "a round is feasible for ever exactly when the first round is possible and ends
 -- no lower than it began, or the second is also possible and ends no lower than it began." Assumes nothing.
-use mathlib.Core.List.{List, [], _++_, map}
+use mathlib.Core.List.{List, [], _++_}
 use mathlib.Core.Logic.{_⊎_, inl, inr, ⊎-elim, _↔_}
 use Prim.Native.Nat.{ℕ, zero, suc, _≤_, _<_}
 use native.Mathlib.Omega.{arith}
 use native.Mathlib.Decide.{decLe}
-use lib.IntN.{ℤ}
+use Rattle.walks.specs.BoundedStep.{Move}
 use Rattle.walks.specs.Walk.{walked, IsPossible, RoundsHold, times}
-use Rattle.walks.specs.Moves.{Move, moveOf, charge, Possible, Forever, Keeps, TwoRounds}
-use Rattle.walks.proofs.Weights.{map-times, walked-moves, walked-to}
+use Rattle.walks.specs.Moves.{charge, Possible, Forever, Keeps, TwoRounds}
+use Rattle.walks.proofs.Walks.{walked-moves, walked-to}
 use Rattle.walks.proofs.Charges.{charge-append, possible-append, charge-mono, possible-mono}
 use Rattle.walks.proofs.ClosedWalk.{walk-law}
 
@@ -89,28 +89,27 @@ module _ (b : ℕ) where
         two-rounds ms e h .1 (p .0, ⊎-elim (λ u. inl u) (λ u. inr (p .1, u)) (t .1)),
   )
 
--- The fact in the paper's own words, over the weights of a round: it can be walked from e any number of times over exactly where the first
+-- The fact in the paper's own words, over the moves of a round: it can be walked from e any number of times over exactly where the first
 -- round is possible and ends no lower than it began, or the second is also possible and ends no lower than it began.
-pub rounds-hold : (b : ℕ) (ws : List ℤ) (e : ℕ) → e ≤ b → ((r : ℕ) → IsPossible (walked b (times r ws) e)) ↔ RoundsHold b ws e
-rounds-hold b ws e h =
-    let ms = map moveOf ws in
-    let k = walked-moves b ws in (
+pub rounds-hold : (b : ℕ) (ms : List Move) (e : ℕ) → e ≤ b → ((r : ℕ) → IsPossible (walked b (times r ms) e)) ↔ RoundsHold b ms e
+rounds-hold b ms e h =
+    let k = walked-moves b ms in (
       λ f.
-          let t = two-rounds b ms e h .0 (λ r. rw (map-times moveOf r ws) at (walked-moves b (times r ws) e .possible .0 (f r))) in (
+          let t = two-rounds b ms e h .0 (λ r. walked-moves b (times r ms) e .possible .0 (f r)) in (
             charge b ms e,
             k e .leads (t .0),
             ⊎-elim (λ u. inl u) (λ q. inr (charge b ms (charge b ms e), k (charge b ms e) .leads (q .0), q .1)) (t .1),
           ),
       λ (x, p, q) r.
-          walked-moves b (times r ws) e .possible .1
-          (rw (map-times moveOf r ws) (two-rounds b ms e h .1 (
-            walked-to b ws e x p .0,
+          walked-moves b (times r ms) e .possible .1
+          (two-rounds b ms e h .1 (
+            walked-to b ms e x p .0,
             ⊎-elim
-                (λ u. inl (omega (arith, walked-to b ws e x p .1)))
+                (λ u. inl (omega (arith, walked-to b ms e x p .1)))
                 (λ (y, p′, u). inr (
-                  rw (walked-to b ws e x p .1) (walked-to b ws x y p′ .0),
-                  rw (walked-to b ws e x p .1) (omega (arith, walked-to b ws x y p′ .1)),
+                  rw (walked-to b ms e x p .1) (walked-to b ms x y p′ .0),
+                  rw (walked-to b ms e x p .1) (omega (arith, walked-to b ms x y p′ .1)),
                 ))
                 q,
-          ) r)),
+          ) r),
     )

@@ -1,48 +1,9 @@
--- The words in which the theory speaks of walks. A weight is a move: it draws from the charge, or it gains. The laws stepped-moved and
--- walked-moves (proofs/Weights) say that this is the step of specs/BoundedStep and the walk of specs/Walk.
-use Prim.Native.Nat.{ℕ, suc, _+_, _-_, _≤_, min}
-use mathlib.Core.Bool.{Bool, true, false}
+-- The words in which the theory speaks of walks of moves. The law walked-moves (proofs/Walks) says that this is the walk of specs/Walk.
+use Prim.Native.Nat.{ℕ, _+_, _≤_}
 use mathlib.Core.List.{List, [], _∷_}
 use mathlib.Core.Logic.{_⊎_}
-use lib.Dec.{leb}
-use lib.IntN.{ℤ, pos, negsuc}
-use Rattle.walks.specs.declared.Step.{Step}
-use Rattle.walks.specs.declared.Step.the-variants.{To, Impossible}
+use Rattle.walks.specs.BoundedStep.{Move, after}
 use Rattle.walks.specs.Walk.{times}
-
--- draws first, then gains
-pub record Move : Type 0 where
-  pub draw : ℕ
-  pub gain : ℕ
-
--- what a weight takes from the charge
-abbrev pub drawOf : ℤ → ℕ
-drawOf (pos x) = 0
-drawOf (negsuc x) = suc x
-
--- what a weight gives to the charge
-abbrev pub gainOf : ℤ → ℕ
-gainOf (pos x) = x
-gainOf (negsuc x) = 0
-
-abbrev pub moveOf : ℤ → Move
-moveOf w = record { draw = drawOf w; gain = gainOf w }
-
--- the charge after a possible move, under the bound b
-abbrev pub after : ℕ → Move → ℕ → ℕ
-after b m e = min (e - m .draw + m .gain) b
-
--- what a possible move loses: the part of e - draw + gain above the bound
-abbrev pub lost : ℕ → Move → ℕ → ℕ
-lost b m e = e - m .draw + m .gain - b
-
-abbrev pub possibleIf : Bool → Step → Step
-possibleIf true s = s
-possibleIf false s = Impossible
-
--- the step by a move: possible where the charge is at least the draw
-unfoldable pub moved : ℕ → Move → ℕ → Step
-moved b m e = possibleIf (leb (m .draw) e) (To (after b m e) (lost b m e))
 
 -- the charge after the moves
 abbrev pub charge : ℕ → List Move → ℕ → ℕ

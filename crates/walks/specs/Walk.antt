@@ -1,13 +1,12 @@
--- Walks of weights under a bound. Document 001, section 2: the accumulated weights of a run are e₁ = min (b, c) and eᵢ₊₁ = min (b, eᵢ + wᵢ),
+-- Walks of moves under a bound. Document 001, section 2: the accumulated weights of a run are e₁ = min (b, c) and eᵢ₊₁ = min (b, eᵢ + wᵢ),
 -- and the run is feasible where all are at least 0. Here e₁ is c: refusal 6 keeps c at most b, and every law that needs it says so.
 use Prim.Native.Nat.{ℕ, zero, suc, _≤_}
 use mathlib.Core.Path.{_≡_}
 use mathlib.Core.List.{List, [], _∷_, _++_}
 use mathlib.Core.Logic.{_⊎_}
-use lib.IntN.{ℤ, pos, _+ℤ_}
 use Rattle.walks.specs.declared.Step.{Step}
 use Rattle.walks.specs.declared.Step.the-variants.{To, Impossible}
-use Rattle.walks.specs.BoundedStep.{stepped}
+use Rattle.walks.specs.BoundedStep.{Move, stepped}
 
 -- how a walk ends: at a charge, or blocked by a step that is not possible
 pub data End : Type 0 where
@@ -24,15 +23,10 @@ abbrev pub afterWalk : End → (ℕ → End) → End
 afterWalk (Ends e) f = f e
 afterWalk Blocked f = Blocked
 
--- the weights walked one after the other from charge e: the charge at the end, or that some step is not possible
-unfoldable pub walked : ℕ → List ℤ → ℕ → End
+-- the moves walked one after the other from charge e: the charge at the end, or that some step is not possible
+unfoldable pub walked : ℕ → List Move → ℕ → End
 walked b [] e = Ends e
-walked b (w ∷ ws) e = afterStep (stepped b w e) (walked b ws)
-
--- the sum of the weights
-abbrev pub total : List ℤ → ℤ
-total [] = pos 0
-total (w ∷ ws) = w +ℤ total ws
+walked b (m ∷ ms) e = afterStep (stepped b m e) (walked b ms)
 
 -- every step is possible
 abbrev pub IsPossible : End → Type 0
@@ -41,8 +35,8 @@ IsPossible Blocked = ⊥
 
 -- "the first round is possible and ends no lower than it began, or the second is also possible and ends no lower than it began" (document
 -- 01): the round from charge e ends at x, and the second, from x, at y
-abbrev pub RoundsHold : ℕ → List ℤ → ℕ → Type 0
-RoundsHold b ws e = (x : ℕ) × (walked b ws e ≡ Ends x) × ((e ≤ x) ⊎ ((y : ℕ) × (walked b ws x ≡ Ends y) × (x ≤ y)))
+abbrev pub RoundsHold : ℕ → List Move → ℕ → Type 0
+RoundsHold b ms e = (x : ℕ) × (walked b ms e ≡ Ends x) × ((e ≤ x) ⊎ ((y : ℕ) × (walked b ms x ≡ Ends y) × (x ≤ y)))
 
 -- the list, r times over
 module _ {A : Type 0} where

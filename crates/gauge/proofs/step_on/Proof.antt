@@ -1,9 +1,6 @@
 -- `gauge::step_on` meets its contract: each way out is one row. Assumes nothing.
 use mathlib.Core.Path.{sym, _∙_}
-use mir.Facts.{toZ-ofZ}
-use mir.Syntax.{w16}
 use borrow.Author.Needs.{needs}
-use Rattle.model.proofs.Held.{arcIn}
 use Rattle.gauge.proofs.Gauges.{held-number, held-mode, held-lands}
 use Rattle.gauge.proofs.step_on.Statement.{statement}
 use Rattle.gauge.proofs.step_on.Tie as tie
@@ -54,26 +51,22 @@ refused-requires-3 c κs = search needs
 returns-3 : tie.Need-returns-3
 returns-3 c =
     let e = c .before .before .before .before in
-    let d = e .before .before .before .before .before .before in
+    let d = e .before .before .before .before .before in
     let s = d .before in
     let a = s .args in
-    let told = e .before .struct-told .given in
-    let back = toZ-ofZ {w = w16} {z = arcIn (a .t2) (a .arc) .weight} (record { sfits = told .1 .1 .0 .1 }) in
     c .land .ensures
-    ∙ sym (held-lands (a .t2) (s .pre) (a .b) (a .arc) (a .gauge) (d .if1 .left) (e .before .before .if2 .left) _
-    (sym (simp back at (e .bounded-step .ensures)) ∙ c .before .before .next .given .1))
+    ∙ sym (held-lands (a .t2) (s .pre) (a .b) (a .arc) (a .gauge) (d .if1 .left) (e .before .if2 .left) _
+    (sym (e .bounded-step .ensures) ∙ c .before .before .next .given .1))
 
 returns-4 : tie.Need-returns-4
 returns-4 c =
     let e = c .before .before .before in
-    let d = e .before .before .before .before .before .before in
+    let d = e .before .before .before .before .before in
     let s = d .before in
     let a = s .args in
-    let told = e .before .struct-told .given in
-    let back = toZ-ofZ {w = w16} {z = arcIn (a .t2) (a .arc) .weight} (record { sfits = told .1 .1 .0 .1 }) in
     c .refused3 .ensures
-    ∙ sym (held-lands (a .t2) (s .pre) (a .b) (a .arc) (a .gauge) (d .if1 .left) (e .before .before .if2 .left) _
-    (sym (simp back at (e .bounded-step .ensures)) ∙ c .before .enum-told .given .1))
+    ∙ sym (held-lands (a .t2) (s .pre) (a .b) (a .arc) (a .gauge) (d .if1 .left) (e .before .if2 .left) _
+    (sym (e .bounded-step .ensures) ∙ c .before .enum-told .given .1))
 
 pub step-on-spec : {M : Type 1} → statement M
 step-on-spec =

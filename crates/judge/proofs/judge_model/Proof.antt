@@ -15,8 +15,8 @@ enum-told c = search needs
 judge-levels-requires : tie.Need-judge-levels-requires
 judge-levels-requires c κs =
     let r = c .before .before .before in
-    let a = r .before .before .before .before .before .args in
-    let l = lists (a .sources .now) (a .targets .now) (a .weights .now) (a .colours .now) in
+    let a = r .before .before .before .before .before .before .before .args in
+    let l = lists (a .sources .now) (a .targets .now) (a .draws .now) (a .gains .now) (a .colours .now) in
     told-holds (a .n) (a .start) (a .k) l _ (r .check-model .ensures) (c .enum-told .given .1)
 
 enum-known-verdict : tie.Need-enum-known-verdict
@@ -25,16 +25,16 @@ enum-known-verdict c = search needs
 returns : tie.Need-returns
 returns c =
     let r = c .before .before .before .before in
-    let a = r .before .before .before .before .before .args in
-    let l = lists (a .sources .now) (a .targets .now) (a .weights .now) (a .colours .now) in
+    let a = r .before .before .before .before .before .before .before .args in
+    let l = lists (a .sources .now) (a .targets .now) (a .draws .now) (a .gains .now) (a .colours .now) in
     judged-fit (a .n) (a .start) (a .k) l (a .b) (a .c) (a .p) (a .q) (a .plan .now) _ (r .check-model .ensures) (c .before .enum-told .given .1) _
     (c .judge-levels .ensures)
 
 returns-2 : tie.Need-returns-2
 returns-2 c =
     let r = c .before .before .before .before in
-    let a = r .before .before .before .before .before .args in
-    let l = lists (a .sources .now) (a .targets .now) (a .weights .now) (a .colours .now) in
+    let a = r .before .before .before .before .before .before .before .args in
+    let l = lists (a .sources .now) (a .targets .now) (a .draws .now) (a .gains .now) (a .colours .now) in
     judged-unfit (a .n) (a .start) (a .k) l (a .b) (a .c) (a .p) (a .q) (a .plan .now) _ (r .check-model .ensures) _ (c .before .verdict .given .1)
 
 pub judge-model-spec : {M : Type 1} → statement M

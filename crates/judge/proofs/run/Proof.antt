@@ -4,12 +4,9 @@ use Prim.Native.Nat.{_+_, _-_, _≤_}
 use native.Mathlib.Nat.{add-zero}
 use native.Mathlib.Omega.{arith}
 use borrow.Author.Needs.{needs}
-use lib.ListN.{length, drop, getD}
-use mir.Facts.{toZ-ofZ}
-use mir.Syntax.{w16}
+use lib.ListN.{length, drop}
 use Rattle.model.specs.Lists.{held}
 use Rattle.judge.specs.Charges.{ran}
-use Rattle.model.proofs.Held.{arcIn}
 use Rattle.judge.proofs.Scans.{ran-end, ran-on, ran-stop}
 use Rattle.judge.proofs.run.Statement.{statement}
 use Rattle.judge.proofs.run.Tie as tie
@@ -56,15 +53,12 @@ add-t21 c = search needs
 
 returns : tie.Need-returns Inv-loop μ-loop
 returns c =
-    let d = c .before .before .before .before .before .before .before in
+    let d = c .before .before .before .before .before .before in
     let a = d .before .before .args in
-    let told = c .before .before .before .struct-told .given in
-    let arc = arcIn (a .t1) (getD (a .arcs .now) (d .loop .i) 0) in
-    let back = toZ-ofZ {w = w16} {z = arc .weight} (record { sfits = told .1 .1 .0 .1 }) in
     sym (d .loop .inv .1
     ∙ ran-stop (a .t1) (a .bound) (a .arcs .now) (d .loop .i) (a .step) (d .loop .reached) (omega arith)
     (d .before .before .pre .0 .below (d .loop .i) (omega arith))
-    (simp back at (sym (c .before .before .bounded-step .ensures) ∙ c .enum-told .given .1)))
+    (sym (c .before .before .bounded-step .ensures) ∙ c .enum-told .given .1))
 
 add-i : tie.Need-add-i Inv-loop μ-loop
 add-i c = search needs
@@ -74,16 +68,13 @@ loop-less c = search needs
 
 loop-again : tie.Need-loop-again Inv-loop μ-loop
 loop-again c =
-    let d = c .before .before .before .before .before .before .before .before in
-    let a = d .before .before .args in
-    let told = c .before .before .before .before .struct-told .given in
-    let arc = arcIn (a .t1) (getD (a .arcs .now) (d .loop .i) 0) in
-    let back = toZ-ofZ {w = w16} {z = arc .weight} (record { sfits = told .1 .1 .0 .1 }) in (
+    let d = c .before .before .before .before .before .before .before in
+    let a = d .before .before .args in (
       omega arith,
       d .loop .inv .1
           ∙ ran-on (a .t1) (a .bound) (a .arcs .now) (d .loop .i) (a .step) (d .loop .reached) (omega arith)
           (d .before .before .pre .0 .below (d .loop .i) (omega arith)) _ _
-          (simp back at (sym (c .before .before .before .bounded-step .ensures) ∙ c .before .next .given .1)),
+          (sym (c .before .before .before .bounded-step .ensures) ∙ c .before .next .given .1),
     )
 
 returns-2 : tie.Need-returns-2 Inv-loop μ-loop

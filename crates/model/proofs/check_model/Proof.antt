@@ -15,8 +15,8 @@ enum-told c = search needs
 check-arcs-requires : tie.Need-check-arcs-requires
 check-arcs-requires c κs =
     let d = c .before .before in
-    let a = d .before .before .before .before .args in
-    header-yes (a .n) (a .start) (a .k) (lists (a .sources .now) (a .targets .now) (a .weights .now) (a .colours .now)) .0
+    let a = d .before .before .before .before .before .before .args in
+    header-yes (a .n) (a .start) (a .k) (lists (a .sources .now) (a .targets .now) (a .draws .now) (a .gains .now) (a .colours .now)) .0
     (sym (d .check-header .ensures) ∙ c .enum-told .given .1)
 
 enum-known-header : tie.Need-enum-known-header
@@ -28,17 +28,17 @@ refused-requires c κs = search needs
 returns : tie.Need-returns
 returns c =
     let d = c .before .before .before in
-    let a = d .before .before .before .before .args in
+    let a = d .before .before .before .before .before .before .args in
     c .check-arcs .ensures
-    ∙ fitted-through (a .n) (a .start) (a .k) (lists (a .sources .now) (a .targets .now) (a .weights .now) (a .colours .now))
+    ∙ fitted-through (a .n) (a .start) (a .k) (lists (a .sources .now) (a .targets .now) (a .draws .now) (a .gains .now) (a .colours .now))
     (sym (d .check-header .ensures) ∙ c .before .enum-told .given .1)
 
 returns-2 : tie.Need-returns-2
 returns-2 c =
     let d = c .before .before .before .before in
-    let a = d .before .before .before .before .args in
+    let a = d .before .before .before .before .before .before .args in
     c .refused .ensures
-    ∙ fitted-stopped (a .n) (a .start) (a .k) (lists (a .sources .now) (a .targets .now) (a .weights .now) (a .colours .now)) _
+    ∙ fitted-stopped (a .n) (a .start) (a .k) (lists (a .sources .now) (a .targets .now) (a .draws .now) (a .gains .now) (a .colours .now)) _
     (sym (d .check-header .ensures) ∙ c .before .before .header .given .1)
 
 pub check-model-spec : {M : Type 1} → statement M

@@ -1,8 +1,6 @@
 -- `model::unfit_arc` meets its contract: each way out is one of the tests, after those before it. Assumes nothing.
 use borrow.Author.Needs.{needs}
-use borrow.Author.Tests.{le-leb, lt-leb}
-use mir.Facts.{toZ-ofZ}
-use mir.Syntax.{w16}
+use borrow.Author.Tests.{le-leb, lt-leb, le-ltb, lt-ltb}
 use Rattle.model.specs.Fitness.{unfitArc}
 use Rattle.model.proofs.unfit_arc.Statement.{statement}
 use Rattle.model.proofs.unfit_arc.Tie as tie
@@ -23,19 +21,18 @@ returns-2 c = simp (lt-leb _ _ (c .before .before .if1 .left), le-leb _ _ (c .if
 
 returns-3 : tie.Need-returns-3
 unfolding unfitArc
-returns-3 c =
-    let d = c .before .before .before in
-    let told = d .before .before .struct-told .given in
-    let back = toZ-ofZ {w = w16} {z = d .before .before .before .args .arc .weight} (record { sfits = told .1 .1 .0 .1 }) in
-    simp (lt-leb _ _ (d .if1 .left), lt-leb _ _ (c .before .if2 .left), simp back at (c .if3 .taken))
+returns-3 c = simp (lt-leb _ _ (c .before .before .before .before .if1 .left), lt-leb _ _ (c .before .before .if2 .left), lt-ltb _ _ (c .if3 .taken))
 
 returns-4 : tie.Need-returns-4
 unfolding unfitArc
 returns-4 c =
-    let d = c .before .before .before .before in
-    let told = d .before .before .struct-told .given in
-    let back = toZ-ofZ {w = w16} {z = d .before .before .before .args .arc .weight} (record { sfits = told .1 .1 .0 .1 }) in
-    simp (lt-leb _ _ (d .if1 .left), lt-leb _ _ (c .before .before .if2 .left), simp back at (c .before .if3 .left), simp back at (c .if4 .taken))
+    let d = c .before .before in
+    simp (
+      lt-leb _ _ (d .before .before .before .before .if1 .left),
+      lt-leb _ _ (d .before .before .if2 .left),
+      le-ltb _ _ (d .if3 .left),
+      lt-ltb _ _ (c .if4 .taken),
+    )
 
 cast-result : tie.Need-cast-result
 cast-result c = search needs
@@ -43,14 +40,13 @@ cast-result c = search needs
 returns-5 : tie.Need-returns-5
 unfolding unfitArc
 returns-5 c =
-    let d = c .before .before .before .before .before in
-    let told = d .before .before .struct-told .given in
-    let back = toZ-ofZ {w = w16} {z = d .before .before .before .args .arc .weight} (record { sfits = told .1 .1 .0 .1 }) in
+    let e = c .before in
+    let d = e .before .before in
     simp (
-      lt-leb _ _ (d .if1 .left),
-      lt-leb _ _ (c .before .before .before .if2 .left),
-      simp back at (c .before .before .if3 .left),
-      simp back at (c .before .if4 .left),
+      lt-leb _ _ (d .before .before .before .before .if1 .left),
+      lt-leb _ _ (d .before .before .if2 .left),
+      le-ltb _ _ (d .if3 .left),
+      le-ltb _ _ (e .if4 .left),
     )
 
 pub unfit-arc-spec : {M : Type 1} → statement M

@@ -18,7 +18,15 @@ returns-3 c = simp (eq-eqb _ _ (c .before .before .if1 .left), eq-eqb _ _ (c .be
 
 returns-4 : tie.Need-returns-4
 unfolding unfitLists
-returns-4 c = simp (eq-eqb _ _ (c .before .before .if1 .left), eq-eqb _ _ (c .before .if2 .left), eq-eqb _ _ (c .if3 .left))
+returns-4 c =
+    let d = c .before .before in
+    simp (eq-eqb _ _ (d .before .if1 .left), eq-eqb _ _ (d .if2 .left), eq-eqb _ _ (c .before .if3 .left), ne-eqb _ _ (c .if4 .taken))
+
+returns-5 : tie.Need-returns-5
+unfolding unfitLists
+returns-5 c =
+    let d = c .before .before in
+    simp (eq-eqb _ _ (d .before .if1 .left), eq-eqb _ _ (d .if2 .left), eq-eqb _ _ (c .before .if3 .left), eq-eqb _ _ (c .if4 .left))
 
 pub unfit-lists-spec : {M : Type 1} → statement M
-unfit-lists-spec = tie.close (tie.spec returns returns-2 returns-3 returns-4)
+unfit-lists-spec = tie.close (tie.spec returns returns-2 returns-3 returns-4 returns-5)

@@ -19,8 +19,8 @@ enum-told c = search needs
 returns : tie.Need-returns
 returns c =
     let r = c .before .before .before in
-    let a = r .before .before .before .before .before .args in
-    let l = lists (a .sources .now) (a .targets .now) (a .weights .now) (a .colours .now) in
+    let a = r .before .before .before .before .before .before .before .args in
+    let l = lists (a .sources .now) (a .targets .now) (a .draws .now) (a .gains .now) (a .colours .now) in
     let w = a .plan .now in
     let judged = told-judged (a .n) (a .start) (a .k) l (a .b) (a .c) (a .p) (a .q) w _ (r .judge-model .ensures) _ (c .before .enum-told .given .1) in
     sym (walk-no-colour (a .n) (a .start) (a .k) l (a .b) (a .c) (a .p) (a .q) w (a .j) (a .allowance) judged (c .if1 .taken))
@@ -28,8 +28,8 @@ returns c =
 step-until-requires : tie.Need-step-until-requires
 step-until-requires c κs =
     let r = c .before .before .before in
-    let a = r .before .before .before .before .before .args in
-    let l = lists (a .sources .now) (a .targets .now) (a .weights .now) (a .colours .now) in
+    let a = r .before .before .before .before .before .before .before .args in
+    let l = lists (a .sources .now) (a .targets .now) (a .draws .now) (a .gains .now) (a .colours .now) in
     let w = a .plan .now in
     let judged = told-judged (a .n) (a .start) (a .k) l (a .b) (a .c) (a .p) (a .q) w _ (r .judge-model .ensures) _ (c .before .enum-told .given .1) in
     let right = judged-yes (a .n) (a .start) (a .k) l (a .b) (a .c) (a .p) (a .q) w .0 judged in (
@@ -44,8 +44,8 @@ enum-known-verdict c = search needs
 returns-2 : tie.Need-returns-2
 returns-2 c =
     let r = c .before .before .before .before in
-    let a = r .before .before .before .before .before .args in
-    let l = lists (a .sources .now) (a .targets .now) (a .weights .now) (a .colours .now) in
+    let a = r .before .before .before .before .before .before .before .args in
+    let l = lists (a .sources .now) (a .targets .now) (a .draws .now) (a .gains .now) (a .colours .now) in
     let w = a .plan .now in
     let e = c .before .before .enum-told .given .1 in
     let judged = told-judged (a .n) (a .start) (a .k) l (a .b) (a .c) (a .p) (a .q) w _ (r .judge-model .ensures) _ e in
@@ -56,8 +56,8 @@ returns-2 c =
 returns-3 : tie.Need-returns-3
 returns-3 c =
     let r = c .before .before .before in
-    let a = r .before .before .before .before .before .args in
-    let l = lists (a .sources .now) (a .targets .now) (a .weights .now) (a .colours .now) in
+    let a = r .before .before .before .before .before .before .before .args in
+    let l = lists (a .sources .now) (a .targets .now) (a .draws .now) (a .gains .now) (a .colours .now) in
     let w = a .plan .now in
     let judged = told-judged (a .n) (a .start) (a .k) l (a .b) (a .c) (a .p) (a .q) w _ (r .judge-model .ensures) _ (c .before .verdict .given .1) in
     sym (walk-refused (a .n) (a .start) (a .k) l (a .b) (a .c) (a .p) (a .q) w (a .j) (a .allowance) _ judged)

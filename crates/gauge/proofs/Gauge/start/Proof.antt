@@ -24,16 +24,16 @@ refused-requires c κs = search needs
 returns : tie.Need-returns
 returns c =
     let d = c .before .before .before in
-    let a = d .before .before .before .before .args in
-    let l = lists (a .sources .now) (a .targets .now) (a .weights .now) (a .colours .now) in
+    let a = d .before .before .before .before .before .before .args in
+    let l = lists (a .sources .now) (a .targets .now) (a .draws .now) (a .gains .now) (a .colours .now) in
     c .start-levelled .ensures
     ∙ start-fit (a .n) (a .start) (a .k) l _ (d .check-model .ensures) (a .b) (a .c) (c .before .enum-told .given .1)
 
 returns-2 : tie.Need-returns-2
 returns-2 c =
     let d = c .before .before .before .before in
-    let a = d .before .before .before .before .args in
-    let l = lists (a .sources .now) (a .targets .now) (a .weights .now) (a .colours .now) in
+    let a = d .before .before .before .before .before .before .args in
+    let l = lists (a .sources .now) (a .targets .now) (a .draws .now) (a .gains .now) (a .colours .now) in
     c .refused .ensures
     ∙ start-unfit (a .n) (a .start) (a .k) l _ (d .check-model .ensures) (a .b) (a .c) _ (c .before .before .verdict .given .1)
 

@@ -16,8 +16,8 @@ enum-told c = search needs
 step-levelled-requires : tie.Need-step-levelled-requires
 step-levelled-requires c κs =
     let d = c .before .before in
-    let a = d .before .before .before .before .args in
-    let l = lists (a .sources .now) (a .targets .now) (a .weights .now) (a .colours .now) in
+    let a = d .before .before .before .before .before .before .args in
+    let l = lists (a .sources .now) (a .targets .now) (a .draws .now) (a .gains .now) (a .colours .now) in
     told-holds (a .n) (a .start) (a .k) l _ (d .check-model .ensures) (c .enum-told .given .1)
 
 enum-known-verdict : tie.Need-enum-known-verdict
@@ -29,16 +29,16 @@ refused-requires c κs = search needs
 returns : tie.Need-returns
 returns c =
     let d = c .before .before .before in
-    let a = d .before .before .before .before .args in
-    let l = lists (a .sources .now) (a .targets .now) (a .weights .now) (a .colours .now) in
+    let a = d .before .before .before .before .before .before .args in
+    let l = lists (a .sources .now) (a .targets .now) (a .draws .now) (a .gains .now) (a .colours .now) in
     c .step-levelled .ensures
     ∙ step-fit (a .n) (a .start) (a .k) l _ (d .check-model .ensures) (a .b) (a .arc) (a .self) (c .before .enum-told .given .1)
 
 returns-2 : tie.Need-returns-2
 returns-2 c =
     let d = c .before .before .before .before in
-    let a = d .before .before .before .before .args in
-    let l = lists (a .sources .now) (a .targets .now) (a .weights .now) (a .colours .now) in
+    let a = d .before .before .before .before .before .before .args in
+    let l = lists (a .sources .now) (a .targets .now) (a .draws .now) (a .gains .now) (a .colours .now) in
     c .refused .ensures
     ∙ step-unfit (a .n) (a .start) (a .k) l _ (d .check-model .ensures) (a .b) (a .arc) (a .self) _ (c .before .before .verdict .given .1)
 

@@ -12,16 +12,16 @@ use Rattle.search.proofs.pass.relax.Tie as tie
 abbrev start : tie.After-arc-placed → tie.Start
 start d = d .before .before .before
 
-abbrev arc-of : tie.After-bounded-move → tie.After-arc-placed
+abbrev arc-of : tie.After-bounded-step → tie.After-arc-placed
 arc-of c = c .before .before .before
 
-reads : (c : tie.After-bounded-move)
+reads : (c : tie.After-bounded-step)
     → Reads (start (arc-of c) .args .rows .now) (start (arc-of c) .args .places .now) (start (arc-of c) .args .i) (arc-of c .arc-placed .result)
     (c .before .before .draw-of .result) (c .before .gain-of .result)
 reads c = record { arc = arc-of c .arc-placed .ensures; draw = c .before .before .draw-of .ensures; gain = c .before .gain-of .ensures }
 
 -- the step before the node
-abbrev step-of : tie.After-entered → tie.After-bounded-move
+abbrev step-of : tie.After-entered → tie.After-bounded-step
 step-of d = d .before .before .before .before .before .before
 
 -- the step that the arc takes
@@ -34,7 +34,7 @@ along d =
     let b = step-of d in
     let colours = d .before .colours-of .ensures in
     let target = d .before .before .target-of .ensures in
-    relax-along (start (arc-of b) .pre) (reads b) (sym (b .bounded-move .ensures) ∙ d .before .before .before .before .step .given .1)
+    relax-along (start (arc-of b) .pre) (reads b) (sym (b .bounded-step .ensures) ∙ d .before .before .before .before .step .given .1)
     colours target (d .entered .ensures)
 
 arc-placed-requires : tie.Need-arc-placed-requires
@@ -46,8 +46,8 @@ draw-of-requires c κs = relax-arc (start c .pre) (c .arc-placed .ensures)
 gain-of-requires : tie.Need-gain-of-requires
 gain-of-requires c κs = relax-arc (start (c .before) .pre) (c .before .arc-placed .ensures)
 
-bounded-move-requires : tie.Need-bounded-move-requires
-bounded-move-requires c κs = search needs
+bounded-step-requires : tie.Need-bounded-step-requires
+bounded-step-requires c κs = search needs
 
 enum-known-step : tie.Need-enum-known-step
 enum-known-step c = search needs
@@ -90,7 +90,7 @@ returns c =
 returns-2 : tie.Need-returns-2
 returns-2 c =
     let b = c .before .before in
-    relax-impossible (start (arc-of b) .pre) (reads b) (sym (b .bounded-move .ensures) ∙ c .enum-told .given .1)
+    relax-impossible (start (arc-of b) .pre) (reads b) (sym (b .bounded-step .ensures) ∙ c .enum-told .given .1)
 
 pub relax-spec : {M : Type 1} → statement M
 relax-spec =
@@ -99,7 +99,7 @@ relax-spec =
     arc-placed-requires
     draw-of-requires
     gain-of-requires
-    bounded-move-requires
+    bounded-step-requires
     enum-known-step
     target-of-requires
     colours-of-requires

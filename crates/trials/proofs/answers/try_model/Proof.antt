@@ -17,10 +17,14 @@ slice-aggregate-lend-3 c = simp length-take (omega arith)
 slice-aggregate-lend-4 : tie.Need-slice-aggregate-lend-4
 slice-aggregate-lend-4 c = simp length-take (omega arith)
 
+slice-aggregate-lend-5 : tie.Need-slice-aggregate-lend-5
+slice-aggregate-lend-5 c = simp length-take (omega arith)
+
 pub try-model-spec : {M : Type 1} → statement M
 try-model-spec =
     tie.close
     (tie.spec
+    (search needs)
     (search needs)
     (search needs)
     (search needs)
@@ -39,6 +43,8 @@ try-model-spec =
     slice-aggregate-lend-3
     (search needs)
     slice-aggregate-lend-4
+    (search needs)
+    slice-aggregate-lend-5
     (search needs)
     (search needs)
     (search needs))

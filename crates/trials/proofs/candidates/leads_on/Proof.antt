@@ -9,8 +9,8 @@ pub leads-on-spec : {M : Type 1} → statement M
 leads-on-spec =
     tie.close
     (tie.spec
-    (λ _ _ _ _ _ _ _ _ _ _ _. Unit {0})
-    (λ sources _ _ _ _ _ _ _ _ _ a. length sources - a)
+    (λ _ _ _ _ _ _ _ _ _ _ _ _. Unit {0})
+    (λ sources _ _ _ _ _ _ _ _ _ _ a. length sources - a)
     (search needs)
     (search needs)
     (search needs)

@@ -10,8 +10,8 @@ pub mark-spec : {M : Type 1} → statement M
 mark-spec =
     tie.close
     (tie.spec
-    (λ _ _ _ _ _ _ _ marked₀ _ _ marked _ _. length marked ≡ length marked₀)
-    (λ _ _ _ _ _ _ candidates _ _ _ _ sweeps _. length candidates - sweeps)
+    (λ _ _ _ _ _ _ _ _ marked₀ _ _ marked _ _. length marked ≡ length marked₀)
+    (λ _ _ _ _ _ _ _ candidates _ _ _ _ sweeps _. length candidates - sweeps)
     (search needs)
     (search needs)
     (search needs)

@@ -10,8 +10,8 @@ pub sweep-spec : {M : Type 1} → statement M
 sweep-spec =
     tie.close
     (tie.spec
-    (λ _ _ _ _ _ _ _ marked₀ _ _ marked _ _. length marked ≡ length marked₀)
-    (λ _ _ _ _ _ _ candidates _ _ _ _ _ pair. length candidates - pair)
+    (λ _ _ _ _ _ _ _ _ marked₀ _ _ marked _ _. length marked ≡ length marked₀)
+    (λ _ _ _ _ _ _ _ candidates _ _ _ _ _ pair. length candidates - pair)
     (search needs)
     (search needs)
     (search needs)

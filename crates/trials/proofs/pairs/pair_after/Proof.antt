@@ -8,13 +8,14 @@ use Rattle.trials.proofs.pairs.pair_after.Tie as tie
 
 charge-after-requires : tie.Need-charge-after-requires
 charge-after-requires c κs =
-    let a = c .before .before .before .before .before .args in
+    let a = c .before .before .before .before .before .before .before .before .args in
     omega (arith, mod-lt (a .pair) {m = a .bound + 1} (omega arith))
 
 pub pair-after-spec : {M : Type 1} → statement M
 pair-after-spec =
     tie.close
     (tie.spec
+    (search needs)
     (search needs)
     (search needs)
     (search needs)

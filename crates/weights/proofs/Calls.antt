@@ -1,0 +1,142 @@
+-- Document 02, Ask 4: "models without both parts must get the same verdicts as before": judging, gauge, walk and search, on all inputs. Assumes
+-- nothing.
+use mathlib.Core.Path.{_≡_, refl, sym, _∙_}
+use mathlib.Core.List.{List, [], _∷_}
+use mathlib.Core.Logic.{_↔_}
+use Prim.Native.Nat.{ℕ, suc, _+_}
+use lib.ListN.{length}
+use Rattle.walks.specs.declared.Step.{Step}
+use Rattle.walks.specs.declared.Step.the-variants.{To, Impossible}
+use Rattle.walks.specs.Weights.{weighed}
+use Rattle.refusals.specs.declared.Verdict.{Verdict}
+use Rattle.refusals.specs.Refusals.{andThen}
+use Rattle.model.specs.Plans.{Plan, SomePlan}
+use Rattle.judge.specs.Shape.{planOf}
+use Rattle.judge.specs.Charges.{ranOn, ran, afterRan, secondRound, rounds, charges}
+use Rattle.judge.specs.Judged.{servesOf, judgedPlan, judgedLevels, judged}
+use Rattle.gauge.specs.declared.Gauge.{Gauge}
+use Rattle.gauge.specs.Gauge.{startedOf, movedOf, movedMatched, movedLevelled, steppedOf}
+use Rattle.planwalk.specs.Walked.{stepsOfPlan, gaugeWalk, walkOf}
+use Rattle.search.specs.declared.Searched.{Searched}
+use Rattle.search.specs.Search as search
+use Rattle.weights.specs.Models.{WeightLists, listsOf, modelBy, weightAt, fitnessByWeight, SomePlanByWeight}
+use Rattle.weights.specs.Calls as by
+use Rattle.weights.proofs.Models.{fitness-same, step-same, serves-same}
+
+module _ (n s k : ℕ) (l : WeightLists) where
+  ran-same : (b : ℕ) (w : List ℕ) (i e : ℕ) (f h : ℕ → Verdict) → ((x : ℕ) → f x ≡ h x)
+      → afterRan (ran (modelBy n s k l) b w i e) f ≡ by.ranByWeight l b w i e h
+  unfolding ran by.ranByWeight
+  ran-same b [] i e f h same = same e
+  ran-same b (a ∷ w) i e f h same = rw (step-same l n s k b a e) (on (weighed b (weightAt l a) e) (λ y. ran-same b w (suc i) y f h same))
+    where
+      on : (t : Step) → ((y : ℕ) → afterRan (ran (modelBy n s k l) b w (suc i) y) f ≡ by.ranByWeight l b w (suc i) y h)
+          → afterRan (ranOn t i (ran (modelBy n s k l) b w (suc i))) f ≡ by.ranOnByWeight t i (λ y. by.ranByWeight l b w (suc i) y h)
+      on (To y u) r = r y
+      on Impossible r = refl
+
+  charges-same : (b c : ℕ) (p : Plan) → charges (modelBy n s k l) b c p ≡ by.chargesByWeight l b c p
+  unfolding charges rounds secondRound by.chargesByWeight
+  charges-same b c p =
+      ran-same b (p .prefix) 0 c _ _ λ e.
+      ran-same b (p .cycle) (length (p .prefix)) e _ _ λ x.
+      ran-same b (p .cycle) (length (p .prefix) + length (p .cycle)) x _ _ λ y. refl
+
+  -- judging
+  pub judged-same : (b c p q : ℕ) (w : List ℕ) → judged n s k (listsOf l) b c p q w ≡ by.judgedByWeight n s k l b c p q w
+  unfolding judged judgedLevels judgedPlan servesOf by.judgedByWeight
+  judged-same b c p q w = rw (fitness-same l n s k, charges-same b c (planOf p w)) refl
+
+  -- the gauge
+  pub started-same : (b c : ℕ) → startedOf n s k (listsOf l) b c ≡ by.startedByWeight n s k l b c
+  unfolding startedOf by.startedByWeight
+  started-same b c = rw (fitness-same l n s k) refl
+
+  pub stepped-same : (b a : ℕ) (x : Gauge) → steppedOf n s k (listsOf l) b a x ≡ by.steppedByWeight n s k l b a x
+  unfolding steppedOf movedLevelled movedMatched movedOf by.steppedByWeight
+  stepped-same b a x = rw (fitness-same l n s k, step-same l n s k b a (x .charge)) refl
+
+  -- the walk
+  gauge-walk-same : (b j : ℕ) (w : List ℕ) (i : ℕ) (x : Gauge) → gaugeWalk n s k (listsOf l) b j w i x ≡ by.gaugeWalkByWeight n s k l b j w i x
+  unfolding gaugeWalk by.gaugeWalkByWeight
+  gauge-walk-same b j [] i x = refl
+  gauge-walk-same b j (a ∷ w) i x = rw (stepped-same b a x, gauge-walk-same b j w (suc i) (by.steppedByWeight n s k l b a x .gauge)) refl
+
+  pub walk-same : (b c p q : ℕ) (w : List ℕ) (j t : ℕ) → walkOf n s k (listsOf l) b c p q w j t ≡ by.walkByWeight n s k l b c p q w j t
+  unfolding walkOf by.walkByWeight
+  walk-same b c p q w j t =
+      rw (
+        judged-same b c p q w,
+        started-same b c,
+        gauge-walk-same b j (stepsOfPlan (planOf p w) t) 0 (by.startedByWeight n s k l b c .gauge),
+      ) refl
+
+  -- search: 1 to 9 ..
+  searchable-same : (b c words bytes : ℕ) → search.searchable n s k (listsOf l) b c words bytes ≡ andThen (fitnessByWeight n s k l) (search.levelsAndSpaces n k b c words bytes)
+  unfolding search.searchable
+  searchable-same b c words bytes = rw (fitness-same l n s k) refl
+
+  -- .. the plan ..
+  found-same : (b c p q : ℕ) (plan plan′ : List ℕ) → search.Found (modelBy n s k l) b c p q plan plan′ ↔ by.FoundByWeight n s k l b c p q plan plan′
+  found-same b c p q plan plan′ =
+      let same = serves-same l n s k b c _ in (
+        λ f. record {
+          serves = same .0 (f .serves);
+          within = f .within;
+          short = f .short;
+          prefix-short = f .prefix-short;
+          cycle-short = f .cycle-short;
+          later = f .later;
+        },
+        λ f. record {
+          serves = same .1 (f .serves);
+          within = f .within;
+          short = f .short;
+          prefix-short = f .prefix-short;
+          cycle-short = f .cycle-short;
+          later = f .later;
+        },
+      )
+
+  answered-same : (b c : ℕ) (plan plan′ : List ℕ) (r : Searched)
+      → search.Answered (modelBy n s k l) b c plan plan′ r ↔ by.AnsweredByWeight n s k l b c plan plan′ r
+  answered-same b c plan plan′ r = (to r, from r)
+    where
+      to : (r : Searched) → search.Answered (modelBy n s k l) b c plan plan′ r → by.AnsweredByWeight n s k l b c plan plan′ r
+      to r (search.none e) = by.none e
+      to r (search.found {p} {q} f) = by.found (found-same b c p q plan plan′ .0 f)
+
+      from : (r : Searched) → by.AnsweredByWeight n s k l b c plan plan′ r → search.Answered (modelBy n s k l) b c plan plan′ r
+      from r (by.none e) = search.none e
+      from r (by.found {p} {q} f) = search.found (found-same b c p q plan plan′ .1 f)
+
+  -- .. that there is one ..
+  some-same : (b c : ℕ) → (SomePlan (modelBy n s k l) b c → ⊥) ↔ (SomePlanByWeight n s k l b c → ⊥)
+  some-same b c = (λ f (p, h). f (p, serves-same l n s k b c p .1 h), λ f (p, h). f (p, serves-same l n s k b c p .0 h))
+
+  decided-same : (b c : ℕ) (work plan work′ plan′ : List ℕ) (r : Searched)
+      → search.Decided (modelBy n s k l) b c work plan work′ plan′ r ↔ by.DecidedByWeight n s k l b c work plan work′ plan′ r
+  decided-same b c work plan work′ plan′ r =
+      let some = some-same b c in
+      let answered = answered-same b c plan plan′ r in (
+        λ d. record {
+          no-plan = (λ e. some .0 (d .no-plan .0 e), λ f. d .no-plan .1 (some .1 f));
+          answered = answered .0 (d .answered);
+          cleared = d .cleared;
+        },
+        λ d. record {
+          no-plan = (λ e. some .1 (d .no-plan .0 e), λ f. d .no-plan .1 (some .0 f));
+          answered = answered .1 (d .answered);
+          cleared = d .cleared;
+        },
+      )
+
+  -- .. and the call
+  pub search-same : (b c : ℕ) (work plan work′ plan′ : List ℕ) (r : Searched)
+      → search.SearchOf n s k (listsOf l) b c work plan work′ plan′ r ↔ by.SearchByWeight n s k l b c work plan work′ plan′ r
+  search-same b c work plan work′ plan′ r =
+      let v = searchable-same b c (length work) (length plan) in
+      let decided = decided-same b c work plan work′ plan′ r in (
+        λ h. record { refused = λ x e. h .refused x (v ∙ e); decided = λ e. decided .0 (h .decided (v ∙ e)) },
+        λ h. record { refused = λ x e. h .refused x (sym v ∙ e); decided = λ e. decided .1 (h .decided (sym v ∙ e)) },
+      )
