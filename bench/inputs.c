@@ -209,7 +209,7 @@ void make_steep_plan(struct input *in)
 void make_64_modes_both(struct input *in)
 {
     set_numbers(in, 64, 4, 63, 127);
-    add_random_moves(in, 255, 100, 75, 32);
+    add_random_moves(in, 255, 100, 60, 32);
 }
 
 void make_plan_both(struct input *in)

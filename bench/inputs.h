@@ -1,6 +1,6 @@
 /*
- * The inputs of the benchmark: models with credit and bound, and for judging a plan. Where an arc has a weight w, it draws -w or gains w;
- * only the last two kinds have arcs that do both.
+ * The inputs of the benchmark: models with credit and bound, and for judging a plan. An arc with a weight draws or gains; those of the last
+ * two kinds do both.
  */
 #ifndef INPUTS_H
 #define INPUTS_H
@@ -76,10 +76,10 @@ void make_plan(struct input *in);
 /* The same with weights from -8,191 to 8,191: many steps are cut off at the bound. */
 void make_steep_plan(struct input *in);
 
-/* 64 modes, 255 arcs, k 4, b 127; each arc draws up to 100 and gains up to 75. */
+/* As make_64_modes; each arc draws up to 100 and then gains up to 60. */
 void make_64_modes_both(struct input *in);
 
-/* As make_plan; each arc draws up to 1,000 and gains up to 1,000. */
+/* As make_plan; each arc draws up to 1,000 and then gains up to 1,000. */
 void make_plan_both(struct input *in);
 
 #endif

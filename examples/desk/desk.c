@@ -243,8 +243,8 @@ static int read_mission(const char *name, struct mission *m)
 /* The mission's model, whose lists stay in the mission. */
 static struct chargeplan_model model_of(const struct mission *m)
 {
-    struct chargeplan_model model = {m->numbers[MODES], m->numbers[START], m->numbers[COLOURS], m->sources, m->targets, m->draws, m->gains,
-        m->met, m->arcs};
+    struct chargeplan_model model = {m->numbers[MODES], m->numbers[START], m->numbers[COLOURS], m->sources, m->targets, m->draws,
+        m->gains, m->met, m->arcs};
 
     return model;
 }

@@ -71,7 +71,7 @@ static void leads_to(const char *what, uint32_t draw, uint32_t gain, uint32_t ch
     moved(what, &g, &m, b, stop);
 }
 
-/* The same on a gauge: it is refused until it is charged. */
+/* A gauge that is started with 3 is refused until it is charged. */
 static void test_charged_gauge(void)
 {
     static const struct stop charged[] = {{1, 0, 4, 0}, {1, 0, 5, 0}}, dips[] = {{0, 0, 8, 0}, {0, 0, 10, 1}, {0, 0, 10, 4}};
@@ -89,6 +89,7 @@ static void test_charged_gauge(void)
         moved("dip: the gauge", &g, &m, 10, dips[i]);
 }
 
+/* A gauge on the dip: 15 and as found with less than 5; else to the smaller of charge + 3 and the bound, and the rest is spilled. */
 void test_dip_of_gauge(void)
 {
     test_charged_gauge();
@@ -205,8 +206,9 @@ static void three_arcs(const struct arc *kinds[3])
 void test_unfit_moves(void)
 {
     enum { KINDS = 5 };
-    static const struct arc kinds[KINDS] = {{0, 0, CHARGEPLAN_DRAW_MOST, CHARGEPLAN_GAIN_MOST, 0}, {0, 0, CHARGEPLAN_DRAW_MOST + 1, 0, 0},
-        {0, 0, 0, CHARGEPLAN_GAIN_MOST + 1, 0}, {0, 0, UINT16_MAX, 0, 0}, {0, 0, 0, UINT16_MAX, 0}};
+    static const struct arc kinds[KINDS] = {{0, 0, CHARGEPLAN_DRAW_MOST, CHARGEPLAN_GAIN_MOST, 0},
+        {0, 0, CHARGEPLAN_DRAW_MOST + 1, 0, 0}, {0, 0, 0, CHARGEPLAN_GAIN_MOST + 1, 0}, {0, 0, UINT16_MAX, 0, 0},
+        {0, 0, 0, UINT16_MAX, 0}};
     unsigned i;
 
     for (i = 0; i < KINDS * KINDS * KINDS; i++) {

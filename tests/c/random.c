@@ -345,6 +345,7 @@ static void test_random_bounds(const struct model *m)
     test_random_gauges(m, c, b, 100);
 }
 
+/* Gauges of models with draws and gains of every size. */
 void test_random_draws(unsigned long models)
 {
     struct lists lists;
@@ -363,8 +364,8 @@ void test_random_draws(unsigned long models)
 }
 
 /*
- * The model with random weights in place of its draws and gains, from least up to most: draw -w, gain 0 where w is negative, else draw 0,
- * gain w. The plain reading goes by the weights.
+ * The model with random weights, from least up to most, in place of its draws and gains: draw -w, gain 0 where w is negative, else draw
+ * 0, gain w. The plain reading goes by the weights.
  */
 static struct model weighed(const struct model *m, struct lists *lists, int16_t *weights, int32_t least, int32_t most)
 {
@@ -384,6 +385,7 @@ static struct model weighed(const struct model *m, struct lists *lists, int16_t 
     return r;
 }
 
+/* Every call of models that have weights against the plain reading by weights. */
 void test_random_weights(unsigned long models)
 {
     int16_t weights[CHARGEPLAN_ARCS_MOST];
@@ -398,6 +400,7 @@ void test_random_weights(unsigned long models)
     }
 }
 
+/* The same with many arcs, and gauges of models with weights of every size. */
 void test_random_large_weights(unsigned long models)
 {
     int16_t weights[CHARGEPLAN_ARCS_MOST];

@@ -1,6 +1,6 @@
 /*
- * A move that draws and then gains is two moves by way of a mode of its own: the first draws, the second gains. So a random model and the
- * one whose arcs are split, in which no arc has both parts, get the same answers.
+ * A move that draws and then gains is two moves by way of a mode of its own: the first draws, the second gains. So a random model and
+ * the one whose arcs are split, in which no arc has both parts, get the same answers.
  */
 #include "calls.h"
 
@@ -12,7 +12,8 @@ static struct model split(const struct model *m, struct lists *to)
 
     r.start = m->start;
     for (a = 0; a < arcs; a++) {
-        struct arc drawn = {m->sources[a], m->n + a, m->draws[a], 0, 0}, gained = {m->n + a, m->targets[a], 0, m->gains[a], m->colours[a]};
+        struct arc drawn = {m->sources[a], m->n + a, m->draws[a], 0, 0};
+        struct arc gained = {m->n + a, m->targets[a], 0, m->gains[a], m->colours[a]};
 
         put(to, 2 * a, drawn);
         put(to, 2 * a + 1, gained);

@@ -1,6 +1,6 @@
 /*
- * Models with one weight for each arc: draw -w, gain 0 where w is negative, else draw 0, gain w. The plain reading goes by the weights, as
- * document 01 has it. Random ones are in random.c.
+ * Models with one weight for each arc: draw -w, gain 0 where w is negative, else draw 0, gain w. The plain reading goes by the weights,
+ * as document 01 has it. Random ones are in random.c.
  */
 #include "calls.h"
 

@@ -30,9 +30,8 @@ header n s k sources targets draws gains colours =
     (refuse (ltb coloursMost k) ColourCount
     Yes)))
 
--- "an arc's source or target not below n, weight outside its range, or a colour bit at or above k"; Ask 4: "refusal 5 checks the
--- two ranges in place of the weight's". A byte has a bit at or above k where
--- it is at least power, 2 ^ k: the law colours-below.
+-- "an arc's source or target not below n, weight outside its range, or a colour bit at or above k"; document 02, Ask 4: "refusal 5 checks the
+-- two ranges in place of the weight's". A byte has a bit at or above k where it is at least power, 2 ^ k: the law colours-below.
 unfoldable pub unfitArc : ℕ → ℕ → Arc → Bool
 unfitArc n power a =
     leb n (a .source) || leb n (a .target) || ltb drawMost (a .draw) || ltb gainMost (a .gain) || leb power (a .colours)
@@ -70,7 +69,7 @@ fittedArcs n s k l = fittedIf (arcsFitness n (2 ^ k) l) (modelOf n s k l)
 unfoldable pub levelsOf : ℕ → ℕ → Verdict
 levelsOf b c = refuse (ltb boundMost b || ltb b c) Levels Yes
 
--- What is fit, as facts. "Arcs come as four lent lists of equal length."
+-- What is fit, as facts. "Arcs come as .. lent lists of equal length", five since Ask 4.
 pub record EqualLists (l : Lists) : Type 0 where
   pub targets : length (l .targets) ≡ length (l .sources)
   pub draws : length (l .draws) ≡ length (l .sources)

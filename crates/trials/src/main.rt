@@ -3,7 +3,7 @@
 // each family of models how many there were, how many have a plan, how many have none, and the differences.
 //
 // The random models and the plain search (lists, models, pairs, candidates, rounds) share no code with search, judging or walk: of the planner
-// they use the ceilings alone (and their proofs some laws on signed words).
+// they use the ceilings alone.
 mod answers;
 mod candidates;
 mod checks;
@@ -42,8 +42,9 @@ fn small(models: u16) -> Family {
         arcs_span: 8,
         bound_least: 0,
         bound_span: 8,
-        weight_span: 9,
-        weight_low: 5,
+        net_span: 9,
+        net_low: 5,
+        dip_span: 1,
         repeats: false,
     }
 }
@@ -91,13 +92,13 @@ fn try_small(first: u32) -> u32 {
     medium.arcs_least = 4;
     medium.arcs_span = 24;
     medium.bound_span = 32;
-    medium.weight_span = 33;
-    medium.weight_low = 18;
+    medium.net_span = 33;
+    medium.net_low = 18;
     let mut zero = small(1000);
     zero.bound_span = 1;
     zero.colours_span = COLOURS + 1;
-    zero.weight_span = 3;
-    zero.weight_low = 1;
+    zero.net_span = 3;
+    zero.net_low = 1;
     zero.arcs_span = 16;
     let mut equal = small(1000);
     equal.repeats = true;
@@ -115,7 +116,7 @@ fn try_small(first: u32) -> u32 {
 }
 
 // Families at the ceilings: 64 modes with bound 127, one mode with bound 8,191, and all four colours over as many pairs as there is space for.
-fn try_large(first: u32) {
+fn try_large(first: u32) -> u32 {
     let mut modes = small(64);
     modes.modes_least = MODES;
     modes.modes_span = 1;
@@ -124,8 +125,8 @@ fn try_large(first: u32) {
     modes.arcs_span = 56;
     modes.bound_least = 127;
     modes.bound_span = 1;
-    modes.weight_span = 121;
-    modes.weight_low = 101;
+    modes.net_span = 121;
+    modes.net_low = 101;
     let mut bound = small(64);
     bound.modes_span = 1;
     bound.colours_span = 1;
@@ -133,8 +134,8 @@ fn try_large(first: u32) {
     bound.arcs_span = 4;
     bound.bound_least = BOUND;
     bound.bound_span = 1;
-    bound.weight_span = 8001;
-    bound.weight_low = 6000;
+    bound.net_span = 8001;
+    bound.net_low = 6000;
     let mut colours = small(64);
     colours.modes_least = 8;
     colours.modes_span = 1;
@@ -144,14 +145,48 @@ fn try_large(first: u32) {
     colours.arcs_span = 24;
     colours.bound_least = 203;
     colours.bound_span = 1;
-    colours.weight_span = 201;
-    colours.weight_low = 175;
+    colours.net_span = 201;
+    colours.net_low = 175;
     let second = try_family(b"64-modes", modes, first);
     let third = try_family(b"bound-8191", bound, second);
-    try_family(b"4-colours", colours, third);
+    try_family(b"4-colours", colours, third)
+}
+
+// Families whose arcs draw and gain: with small and with medium numbers, with every arc's gain equal to its draw, and with 64 modes.
+fn try_dips(first: u32) {
+    let mut small_dips = small(4000);
+    small_dips.dip_span = 6;
+    let mut medium = small(1000);
+    medium.modes_span = 8;
+    medium.colours_span = COLOURS + 1;
+    medium.arcs_least = 4;
+    medium.arcs_span = 24;
+    medium.bound_span = 32;
+    medium.net_span = 33;
+    medium.net_low = 16;
+    medium.dip_span = 24;
+    let mut level = small(1000);
+    level.net_span = 1;
+    level.net_low = 0;
+    level.dip_span = 12;
+    let mut modes = small(32);
+    modes.modes_least = MODES;
+    modes.modes_span = 1;
+    modes.colours_span = 1;
+    modes.arcs_least = 200;
+    modes.arcs_span = 56;
+    modes.bound_least = 127;
+    modes.bound_span = 1;
+    modes.net_span = 121;
+    modes.net_low = 101;
+    modes.dip_span = 64;
+    let second = try_family(b"dips", small_dips, first);
+    let third = try_family(b"medium-dips", medium, second);
+    let fourth = try_family(b"level-dips", level, third);
+    try_family(b"64-modes-dips", modes, fourth);
 }
 
 fn main() {
     examples::print_examples();
-    try_large(try_small(20261115));
+    try_dips(try_large(try_small(20261115)));
 }

@@ -19,8 +19,9 @@ pub struct Numbers {
     pub bound: u32,
 }
 
-// A family of models: from `least` on, `span` values of each number. A weight is a number below weight_span less weight_low. Where
-// `repeats`, an arc is as likely as not equal in all fields to the one before.
+// A family of models: from `least` on, `span` values of each number. An arc's gain less its draw is a number below net_span less net_low; beyond
+// that it draws and gains a number below dip_span, the same, so that with 1 no arc has both parts. Where `repeats`, an arc is as likely as not
+// equal in all fields to the one before.
 pub struct Family {
     pub models: u16,
     pub modes_least: u16,
@@ -31,8 +32,9 @@ pub struct Family {
     pub arcs_span: u16,
     pub bound_least: u16,
     pub bound_span: u16,
-    pub weight_span: u16,
-    pub weight_low: u16,
+    pub net_span: u16,
+    pub net_low: u16,
+    pub dip_span: u16,
     pub repeats: bool,
 }
 
@@ -61,20 +63,23 @@ fn low_byte(x: u32) -> u8 {
     (x % 256) as u8
 }
 
-// What a weight of x less low draws: low less x, where that is not below 0. No family makes it greater than a draw may be.
-fn drawn(x: u32, low: u32) -> u16 {
-    if x < low {
-        return ((low - x) % DRAWS) as u16;
-    }
-    0
-}
-
-// What it gains: x less low, where that is not below 0. No family makes it greater than a gain may be.
-fn gained(x: u32, low: u32) -> u16 {
-    if x < low {
+// By how much x is above y; 0 where it is not.
+fn excess(x: u32, y: u32) -> u32 {
+    if x < y {
         return 0;
     }
-    ((x - low) % GAINS) as u16
+    x - y
+}
+
+// What an arc draws whose gain less draw is x less low, with a dip: low less x where that is above 0, and the dip. No family makes it greater
+// than a draw may be.
+fn drawn(x: u32, low: u32, dip: u32) -> u16 {
+    ((excess(low, x) % DRAWS + dip % DRAWS) % DRAWS) as u16
+}
+
+// What it gains: x less low where that is above 0, and the dip. No family makes it greater than a gain may be.
+fn gained(x: u32, low: u32, dip: u32) -> u16 {
+    ((excess(x, low) % GAINS + dip % GAINS) % GAINS) as u16
 }
 
 // A number of a family: least, or up to span − 1 more.
@@ -103,13 +108,23 @@ pub fn numbers_of(family: Family, state: u32) -> Numbers {
     }
 }
 
-// Writes what an arc draws and gains, a weight of x less low, at a place of the lists.
-fn put_move(x: u32, low: u32, at: usize, draws: &mut [u16], gains: &mut [u16]) {
-    put_word(draws, at, drawn(x, low));
-    put_word(gains, at, gained(x, low));
+// Writes what an arc of a family draws and gains, by two states of the generator, at a place of the lists.
+fn put_move(
+    family: Family,
+    state: u32,
+    last: u32,
+    at: usize,
+    draws: &mut [u16],
+    gains: &mut [u16],
+) {
+    let x = pick(state, family.net_span as u32);
+    let low = family.net_low as u32;
+    let dip = pick(last, family.dip_span as u32);
+    put_word(draws, at, drawn(x, low, dip));
+    put_word(gains, at, gained(x, low, dip));
 }
 
-// Writes the arc that a seed gives, by the five draws after it, at a place of the lists.
+// Writes the arc that a seed gives, by the six draws after it, at a place of the lists.
 fn put_arc(
     seed: u32,
     numbers: Numbers,
@@ -130,13 +145,7 @@ fn put_arc(
     let masks = 1u32 << (numbers.colours % 8);
     put(sources, at, low_byte(pick(first, numbers.modes)));
     put(targets, at, low_byte(pick(second, numbers.modes)));
-    put_move(
-        pick(third, family.weight_span as u32),
-        family.weight_low as u32,
-        at,
-        draws,
-        gains,
-    );
+    put_move(family, third, next(fifth), at, draws, gains);
     put(
         colours,
         at,

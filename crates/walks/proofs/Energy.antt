@@ -50,11 +50,15 @@ module _ (m : Move) where
 
   -- each move's step is one
   pub step-energy : (b : ℕ) → EnergyUnder b (stepped b m)
-  step-energy b = (free, free-energy, λ e.
-      elim (decLe (m .draw) e) [
-        | yes h ↦ ap {B = End} ended (stepped-possible b m e h) ∙ sym (ap {B = End} (bounded b) (free-on e h))
-        | no h ↦ ap {B = End} ended (stepped-impossible b m e (omega arith)) ∙ sym (ap {B = End} (bounded b) (free-off e (omega arith)))
-      ])
+  step-energy b = (
+    free,
+    free-energy,
+    λ e.
+        elim (decLe (m .draw) e) [
+          | yes h ↦ ap {B = End} ended (stepped-possible b m e h) ∙ sym (ap {B = End} (bounded b) (free-on e h))
+          | no h ↦ ap {B = End} ended (stepped-impossible b m e (omega arith)) ∙ sym (ap {B = End} (bounded b) (free-off e (omega arith)))
+        ],
+  )
 
 -- what is cut off at the bound, what is possible, and what a step leads to
 bounded-to : (b : ℕ) (t : End) (x : ℕ) → bounded b t ≡ Ends x → (y : ℕ) × (t ≡ Ends y) × (min y b ≡ x)

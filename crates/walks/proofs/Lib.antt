@@ -1,4 +1,4 @@
--- The laws of walks, one idea a file; Weights says what an old weight means.
+-- The laws of walks, one idea a file; Weights says that the step with a weight is the step by its move, Energy that a step is an energy function.
 pub mod Walks
 pub mod Weights
 pub mod Energy

@@ -8,18 +8,22 @@ use native.Mathlib.Decide.{decLe}
 use borrow.Author.Tests.{le-leb, lt-leb}
 use Rattle.walks.specs.declared.Step.{Step}
 use Rattle.walks.specs.declared.Step.the-variants.{To, Impossible}
-use Rattle.walks.specs.BoundedStep.{Move, after, lost, stepped}
+use Rattle.walks.specs.BoundedStep.{Move, after, lost, possibleIf, stepped}
 use Rattle.walks.specs.Walk.{End, Ends, Blocked, afterStep, afterWalk, walked, IsPossible, times}
 use Rattle.walks.specs.Moves.{charge, Possible}
 
 -- a move that is possible leads to the charge after it, and any other leads nowhere
 pub stepped-possible : (b : ℕ) (m : Move) (e : ℕ) → m .draw ≤ e → stepped b m e ≡ To (after b m e) (lost b m e)
 unfolding stepped
-stepped-possible b m e h = rw (le-leb (m .draw) e h)
+stepped-possible b m e h = ap {B = Step} (λ t. possibleIf t (To (after b m e) (lost b m e))) (le-leb (m .draw) e h)
 
 pub stepped-impossible : (b : ℕ) (m : Move) (e : ℕ) → e < m .draw → stepped b m e ≡ Impossible
 unfolding stepped
-stepped-impossible b m e h = rw (lt-leb (m .draw) e h)
+stepped-impossible b m e h = ap {B = Step} (λ t. possibleIf t (To (after b m e) (lost b m e))) (lt-leb (m .draw) e h)
+
+-- document 02, Ask 4: "a move that draws 5 and then harvests 8 can't start with 3 in the battery", under any bound
+pub dip : (b : ℕ) → stepped b (record { draw = 5; gain = 8 }) 3 ≡ Impossible
+dip b = stepped-impossible b (record { draw = 5; gain = 8 }) 3 (omega arith)
 
 -- a move leads to x and loses l exactly where it is possible, x is the charge after it, and l what it loses
 pub stepped-to : (b : ℕ) (m : Move) (e x l : ℕ) → (stepped b m e ≡ To x l) ↔ ((m .draw ≤ e) × (after b m e ≡ x) × (lost b m e ≡ l))

@@ -1,5 +1,6 @@
 -- Walks of moves under a bound. Document 001, section 2: the accumulated weights of a run are e₁ = min (b, c) and eᵢ₊₁ = min (b, eᵢ + wᵢ),
--- and the run is feasible where all are at least 0. Here e₁ is c: refusal 6 keeps c at most b, and every law that needs it says so.
+-- and the run is feasible where all are at least 0; with document 02, Ask 4, a draw and a gain stand in place of the weight, and the run is
+-- feasible where every step is possible. Here e₁ is c: refusal 6 keeps c at most b, and every law that needs it says so.
 use Prim.Native.Nat.{ℕ, zero, suc, _≤_}
 use mathlib.Core.Path.{_≡_}
 use mathlib.Core.List.{List, [], _∷_, _++_}

@@ -1,7 +1,7 @@
--- The step by one signed weight, as it was before Ask 4, and what a weight means since. Document 01, "The model and the charge": "A step on an
--- arc with weight w takes charge e to the smaller of e + w and b. It is possible only where e + w is at least 0." Document 02, Ask 4: "An old
--- weight w means draw −w, gain 0 where w is negative, else draw 0, gain w". No code follows this step; the law stepped-weight says that it is the
--- bounded step by the weight's move.
+-- What a weight means, and the step with it, which no code follows. Document 01, "The model and the charge": "A step on an arc with weight w takes
+-- charge e to the smaller of e + w and b. It is possible only where e + w is at least 0. Exactly 0 is allowed." Document 02, Ask 4: "An old weight w
+-- means draw −w, gain 0 where w is negative, else draw 0, gain w". The law stepped-weight says that the step with a weight is the bounded step by
+-- its move.
 use Prim.Native.Nat.{ℕ, suc, _-_, min}
 use lib.IntN.{ℤ, pos, negsuc, _+ℤ_}
 use Rattle.walks.specs.declared.Step.{Step}

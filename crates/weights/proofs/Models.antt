@@ -8,7 +8,7 @@ use native.Mathlib.Omega.{arith}
 use native.Mathlib.Decide.{decLe}
 use borrow.Author.Tests.{lt-ltb, le-ltb}
 use lib.Dec.{ltb, eqb}
-use lib.IntN.{ℤ, pos, negsuc, negℤ}
+use lib.IntN.{ℤ, pos, negsuc}
 use lib.ListN.{length, length-map, getD, take, length-take, List·getD-map, List·getD-eq-default}
 use lib.Seq.{getD-take}
 use lib.Signed.{ltZ}
@@ -25,10 +25,10 @@ use Rattle.model.specs.Fitness.{unfitLists, header, headerOf, unfitArc, arcsVer
 use Rattle.model.specs.Plans.{Plan, walkedArcs, Feasible, Serves}
 use Rattle.model.proofs.Arcs.{arcs-length, arcs-here}
 use Rattle.model.proofs.Weights.{weighted-move}
-use Rattle.weights.specs.Models.{WeightLists, listsOf, modelBy, weightAt, headerByWeight, arcsByWeight, fitnessByWeight, walkedByWeight, FeasibleByWeight, ServesByWeight}
+use Rattle.weights.specs.Models.{WeightLists, listsOf, modelBy, weightAt, weightLeast, weightMost, headerByWeight, arcsByWeight, fitnessByWeight, walkedByWeight, FeasibleByWeight, ServesByWeight}
 
 -- the two ranges are the weight's
-draw-range : (w : ℤ) → ltb drawMost (drawOf w) ≡ ltZ w (negℤ (pos 10000))
+draw-range : (w : ℤ) → ltb drawMost (drawOf w) ≡ ltZ w weightLeast
 draw-range (pos x) = refl
 draw-range (negsuc x) =
     elim (decLe 10000 x) [
@@ -36,7 +36,7 @@ draw-range (negsuc x) =
       | no h ↦ le-ltb 10000 (suc x) (omega arith) ∙ sym (le-ltb 9999 x (omega arith))
     ]
 
-gain-range : (w : ℤ) → ltb gainMost (gainOf w) ≡ ltZ (pos 10000) w
+gain-range : (w : ℤ) → ltb gainMost (gainOf w) ≡ ltZ weightMost w
 gain-range (pos x) = refl
 gain-range (negsuc x) = refl
 

@@ -36,6 +36,13 @@ modelBy n s k l = automatonOf n s k (listsOf l)
 abbrev pub weightAt : WeightLists → ℕ → ℤ
 weightAt l a = getD (take (length (l .sources)) (l .weights)) a (pos 0)
 
+-- "a weight from −10,000 to 10,000"
+abbrev pub weightLeast : ℤ
+weightLeast = negℤ (pos 10000)
+
+abbrev pub weightMost : ℤ
+weightMost = pos 10000
+
 -- "arc lists unequal or longer than 255", by the lengths of the four
 abbrev pub unfitListsByWeight : ℕ → ℕ → ℕ → ℕ → Bool
 unfitListsByWeight sources targets weights colours =
@@ -54,7 +61,7 @@ headerByWeight n s k l =
 abbrev pub unfitArcByWeight : ℕ → ℕ → WeightLists → ℕ → Bool
 unfitArcByWeight n power l a =
     let w = getD (l .weights) a (pos 0) in
-    leb n (getD (l .sources) a 0) || leb n (getD (l .targets) a 0) || ltZ w (negℤ (pos 10000)) || ltZ (pos 10000) w
+    leb n (getD (l .sources) a 0) || leb n (getD (l .targets) a 0) || ltZ w weightLeast || ltZ weightMost w
     || leb power (getD (l .colours) a 0)
 
 -- 5, with the lowest such arc, of m arcs from a on
