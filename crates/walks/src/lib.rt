@@ -10,7 +10,7 @@ pub enum Step {
 }
 
 // The smaller of two numbers.
-fn smaller(x: u32, y: u32) -> u32
+fn smaller(x: u16, y: u16) -> u16
     ensures { λ r. ⌜ r ≡ min x y ⌝ }
 {
     if x < y {
@@ -28,9 +28,11 @@ pub fn bounded_step(charge: u16, draw: u16, gain: u16, bound: u16) -> Step
     if charge < draw {
         return Step::Impossible;
     }
-    let sum = ((charge - draw) as u32) + (gain as u32);
-    let most = smaller(sum, bound as u32);
-    let reached = most as u16;
-    let lost = sum - most;
+    let gained = smaller(gain, bound);
+    let room = bound - gained;
+    let rest = charge - draw;
+    let kept = smaller(rest, room);
+    let reached = kept + gained;
+    let lost = ((rest - kept) as u32) + ((gain - gained) as u32);
     Step::To(reached, lost)
 }

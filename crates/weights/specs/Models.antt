@@ -2,7 +2,9 @@
 -- weight w means draw −w, gain 0 where w is negative, else draw 0, gain w; models without both parts must get the same verdicts as before".
 use Prim.Native.Nat.{ℕ, zero, suc, _^_}
 use mathlib.Core.Bool.{Bool, not, _||_}
+use mathlib.Core.Path.{_≡_}
 use mathlib.Core.List.{List, [], _∷_, _++_}
+use mathlib.Core.Logic.{_⊎_}
 use lib.Dec.{leb, ltb, eqb}
 use lib.IntN.{ℤ, pos, negℤ}
 use lib.ListN.{length, getD, take}
@@ -31,6 +33,11 @@ listsOf l = weighted (l .sources) (l .targets) (l .weights) (l .colours)
 
 abbrev pub modelBy : ℕ → ℕ → ℕ → WeightLists → Automaton
 modelBy n s k l = automatonOf n s k (listsOf l)
+
+-- "models without both parts": each arc has no draw or no gain (theorem one-part: exactly these are given by weights)
+pub record OnePart (l : Lists) : Type 0 where
+  pub equal : length (l .draws) ≡ length (l .gains)
+  pub none : (a : ℕ) → (getD (l .draws) a 0 ≡ 0) ⊎ (getD (l .gains) a 0 ≡ 0)
 
 -- the weight of arc a; 0 past the last arc
 abbrev pub weightAt : WeightLists → ℕ → ℤ
