@@ -53,7 +53,7 @@ fn pick(state: u32, limit: u32) -> u32
     (state / 8) % limit
 }
 
-// The state after the draws of an arc, or of a model's numbers: six, so that no draw serves twice.
+// The state after those that an arc, or a model's numbers, are picked by: six, so that none serves twice.
 pub fn skip(state: u32) -> u32 {
     next(next(next(next(next(next(state))))))
 }
@@ -89,7 +89,7 @@ fn number(state: u32, least: u16, span: u16) -> u32
     (least as u32) + pick(state, span as u32)
 }
 
-// The numbers of a model of a family, from the six draws after a state.
+// The numbers of a model of a family, by the six states after a state.
 pub fn numbers_of(family: Family, state: u32) -> Numbers {
     let first = next(state);
     let second = next(first);
@@ -124,7 +124,7 @@ fn put_move(
     put_word(gains, at, gained(x, low, dip));
 }
 
-// Writes the arc that a seed gives, by the six draws after it, at a place of the lists.
+// Writes the arc that a seed gives, by the six states after it, at a place of the lists.
 fn put_arc(
     seed: u32,
     numbers: Numbers,
