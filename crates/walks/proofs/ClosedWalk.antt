@@ -1,20 +1,20 @@
 -- The law of a closed walk, document 01's "Fact to be used and proved": "a walk round any closed list of arcs, where possible, takes e to
 -- the smaller of e + W and M for fixed W and M." It holds of every list, closed or not, with W what the moves gain
 -- less what they draw. Assumes nothing.
-use mathlib.Core.Path.{_≡_, refl, sym, ap, _∙_}
+use mathlib.Core.Path.{_≡_, refl}
 use mathlib.Core.List.{List, [], _∷_}
 use mathlib.Core.Logic.{_↔_}
-use Prim.Native.Nat.{ℕ, zero, suc, _+_, _-_, _≤_, min}
+use Prim.Native.Nat.{ℕ, suc, _+_, _-_, _≤_, min}
 use native.Mathlib.Omega.{arith}
 use native.Mathlib.Decide.{decLe}
-use borrow.Author.Tests.{le-ltb}
-use lib.IntN.{ℤ, pos, negℤ, _+ℤ_, _-ℤ_, +ℤ-assoc, pos-+ℤ-pos}
+use lib.IntN.{pos, _-ℤ_}
 use Rattle.walks.specs.declared.Step.the-variants.{To}
 use Rattle.walks.specs.BoundedStep.{Move, after}
 use Rattle.walks.specs.Walk.{Ends, walked}
 use Rattle.walks.specs.Spill.{spilled}
 use Rattle.walks.specs.Weights.{weighed}
 use Rattle.walks.specs.Moves.{charge, draws, gains, Possible}
+use Rattle.walks.proofs.Sums.{total}
 use Rattle.walks.proofs.Walks.{walked-to}
 use Rattle.walks.proofs.Spill.{walk-balance}
 
@@ -74,21 +74,13 @@ module _ (b : ℕ) where
       }
   walk-law (m ∷ ms) = law-step m ms (walk-law ms)
 
--- a difference that is not below 0
-difference : (a d : ℕ) → d ≤ a → pos a -ℤ pos d ≡ pos (a - d)
-difference a zero h = ap {B = ℤ} pos (omega arith)
-difference a (suc d) h = rw (le-ltb a (suc d) h)
-
 -- a step with the weight W = G − D, where e + W is not below 0: where it leads, and what it loses
 step-total : (M e x D G s : ℕ) → x + D ≡ min (e + G) (M + D) → e + G ≡ x + D + s → weighed M (pos G -ℤ pos D) e ≡ To x s
 unfolding weighed
 step-total M e x D G s h k =
-    let sum : pos e +ℤ (pos G -ℤ pos D) ≡ pos (e + G - D) =
-    sym (+ℤ-assoc (pos e) (pos G) (negℤ (pos D))) ∙ ap (λ (z : ℤ). z -ℤ pos D) (pos-+ℤ-pos e G) ∙ difference (e + G) D (omega arith)
-    in
     let leads : min (e + G - D) M ≡ x = omega arith in
     let loses : e + G - D - M ≡ s = omega arith in
-    rw (sum, leads, loses) refl
+    rw (total e G D (omega arith), leads, loses) refl
 
 -- The law as the paper words it: a walk of these moves, where possible, is one step with the weight W, under some bound M, in the charge that
 -- it leads to and in what is lost; W is what the moves gain less what they draw.

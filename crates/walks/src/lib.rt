@@ -1,6 +1,7 @@
 // The bounded step: a draw taken from a charge, and a gain added under a bound. It takes plain numbers and answers an enum.
 ghost use mathlib.Core.Path.{_≡_};
-ghost use Prim.Native.Nat.{min};
+ghost use mathlib.Core.Bool.{cond};
+ghost use lib.Signed.{ltZ};
 ghost use Rattle.walks.specs.BoundedStep.{stepped};
 
 // The charge that a step leads to, with what the bound cut off, or that it is not possible.
@@ -10,8 +11,8 @@ pub enum Step {
 }
 
 // The smaller of two numbers.
-fn smaller(x: u16, y: u16) -> u16
-    ensures { λ r. ⌜ r ≡ min x y ⌝ }
+fn smaller(x: i32, y: i32) -> i32
+    ensures { λ r. ⌜ r ≡ cond (ltZ x y) x y ⌝ }
 {
     if x < y {
         return x;
@@ -20,19 +21,19 @@ fn smaller(x: u16, y: u16) -> u16
 }
 
 // A step on an arc with this draw and this gain: possible only where the charge is at least the draw, and then to the smaller of
-// charge − draw + gain and the bound, with what the bound cut off. For all charges, draws, gains and bounds. The sum is cut off by `smaller`, so
-// that no branch hangs on the bound.
+// charge − draw + gain and the bound, with what the bound cut off. For all charges, draws, gains and bounds. The charge is cut off at what leads to
+// the bound before gain and draw are counted, so that no branch hangs on the bound.
 pub fn bounded_step(charge: u16, draw: u16, gain: u16, bound: u16) -> Step
     ensures { λ r. ⌜ r ≡ stepped bound (record { draw = draw; gain = gain }) charge ⌝ }
 {
     if charge < draw {
         return Step::Impossible;
     }
-    let gained = smaller(gain, bound);
-    let room = bound - gained;
-    let rest = charge - draw;
-    let kept = smaller(rest, room);
-    let reached = kept + gained;
-    let lost = ((rest - kept) as u32) + ((gain - gained) as u32);
+    let change = (gain as i32) - (draw as i32);
+    let room = (bound as i32) - change;
+    let sum = smaller(charge as i32, room) + change;
+    let whole = (charge as i32) + change;
+    let reached = sum as u16;
+    let lost = (whole - sum) as u32;
     Step::To(reached, lost)
 }
