@@ -1,5 +1,5 @@
 -- The models given by weights are exactly those without both parts in an arc. Assumes nothing.
-use mathlib.Core.Path.{_≡_, refl, sym, ap, _∙_}
+use mathlib.Core.Path.{_≡_, refl, sym, _∙_}
 use mathlib.Core.List.{List, [], _∷_, map}
 use mathlib.Core.Logic.{_↔_, _⊎_, inl, inr, ⊎-elim}
 use Prim.Native.Nat.{ℕ, zero, suc}
@@ -7,7 +7,7 @@ use native.Mathlib.Omega.{arith}
 use lib.IntN.{ℤ, pos, negsuc}
 use lib.ListN.{length, length-map, getD, List·getD-map}
 use Rattle.walks.specs.Weights.{drawOf, gainOf}
-use Rattle.model.specs.Lists.{Lists, lists}
+use Rattle.model.specs.Lists.{Lists}
 use Rattle.weights.specs.Models.{WeightLists, listsOf, OnePart}
 
 -- the weight of a draw and a gain, one of which is 0
