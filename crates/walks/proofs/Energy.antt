@@ -20,43 +20,43 @@ endIf false x = Blocked
 
 module _ (m : Move) where
   -- the move without a bound
-  abbrev free : ℕ → End
-  free e = endIf (leb (m .draw) e) (e - m .draw + m .gain)
+  abbrev unbounded : ℕ → End
+  unbounded e = endIf (leb (m .draw) e) (e - m .draw + m .gain)
 
-  free-on : (e : ℕ) → m .draw ≤ e → free e ≡ Ends (e - m .draw + m .gain)
-  free-on e h = rw (le-leb (m .draw) e h) refl
+  unbounded-on : (e : ℕ) → m .draw ≤ e → unbounded e ≡ Ends (e - m .draw + m .gain)
+  unbounded-on e h = rw (le-leb (m .draw) e h) refl
 
-  free-off : (e : ℕ) → e < m .draw → free e ≡ Blocked
-  free-off e h = rw (lt-leb (m .draw) e h) refl
+  unbounded-off : (e : ℕ) → e < m .draw → unbounded e ≡ Blocked
+  unbounded-off e h = rw (lt-leb (m .draw) e h) refl
 
-  free-to : (e x : ℕ) → free e ≡ Ends x → (m .draw ≤ e) × (e - m .draw + m .gain ≡ x)
-  free-to e x q =
+  unbounded-to : (e x : ℕ) → unbounded e ≡ Ends x → (m .draw ≤ e) × (e - m .draw + m .gain ≡ x)
+  unbounded-to e x q =
       elim (decLe (m .draw) e) [
-        | yes h ↦ let p = free-on e h in (h, cc)
-        | no h ↦ let p = free-off e (omega arith) in absurd (let z : _≡_ {A = ℕ} 0 1 = cc in omega arith)
+        | yes h ↦ let p = unbounded-on e h in (h, cc)
+        | no h ↦ let p = unbounded-off e (omega arith) in absurd (let z : _≡_ {A = ℕ} 0 1 = cc in omega arith)
       ]
 
-  free-energy : EnergyFunction free
-  free-energy =
+  unbounded-energy : EnergyFunction unbounded
+  unbounded-energy =
       record {
         lower = m .draw;
         defined = λ e.
             elim (decLe (m .draw) e) [
-              | yes h ↦ rw (free-on e h) (λ p. h, λ p. tt)
-              | no h ↦ rw (free-off e (omega arith)) (λ p. absurd p, λ p. absurd (h p))
+              | yes h ↦ rw (unbounded-on e h) (λ p. h, λ p. tt)
+              | no h ↦ rw (unbounded-off e (omega arith)) (λ p. absurd p, λ p. absurd (h p))
             ];
-        grows = λ e e′ x x′ h p q. omega (arith, free-to e x p, free-to e′ x′ q);
+        grows = λ e e′ x x′ h p q. omega (arith, unbounded-to e x p, unbounded-to e′ x′ q);
       }
 
   -- each move's step is one
   pub step-energy : (b : ℕ) → EnergyUnder b (stepped b m)
   step-energy b = (
-    free,
-    free-energy,
+    unbounded,
+    unbounded-energy,
     λ e.
         elim (decLe (m .draw) e) [
-          | yes h ↦ ap {B = End} ended (stepped-possible b m e h) ∙ sym (ap {B = End} (bounded b) (free-on e h))
-          | no h ↦ ap {B = End} ended (stepped-impossible b m e (omega arith)) ∙ sym (ap {B = End} (bounded b) (free-off e (omega arith)))
+          | yes h ↦ ap {B = End} ended (stepped-possible b m e h) ∙ sym (ap {B = End} (bounded b) (unbounded-on e h))
+          | no h ↦ ap {B = End} ended (stepped-impossible b m e (omega arith)) ∙ sym (ap {B = End} (bounded b) (unbounded-off e (omega arith)))
         ],
   )
 
