@@ -20,7 +20,7 @@ endIf false x = Blocked
 
 module _ (m : Move) where
   -- the move without a bound
-  abbrev unbounded : ℕ → End
+  abbrev pub unbounded : ℕ → End
   unbounded e = endIf (leb (m .draw) e) (e - m .draw + m .gain)
 
   unbounded-on : (e : ℕ) → m .draw ≤ e → unbounded e ≡ Ends (e - m .draw + m .gain)
@@ -36,7 +36,7 @@ module _ (m : Move) where
         | no h ↦ let p = unbounded-off e (omega arith) in absurd (let z : _≡_ {A = ℕ} 0 1 = cc in omega arith)
       ]
 
-  unbounded-energy : EnergyFunction unbounded
+  pub unbounded-energy : EnergyFunction unbounded
   unbounded-energy =
       record {
         lower = m .draw;
@@ -48,7 +48,7 @@ module _ (m : Move) where
         grows = λ e e′ x x′ h p q. omega (arith, unbounded-to e x p, unbounded-to e′ x′ q);
       }
 
-  -- each move's step is one
+  -- each move's step is one with the bound added
   pub step-energy : (b : ℕ) → EnergyUnder b (stepped b m)
   step-energy b = (
     unbounded,
@@ -75,7 +75,7 @@ ended-to Impossible x q = absurd (let z : _≡_ {A = ℕ} 0 1 = cc in omega arit
 
 -- From more charge the step is possible too, and what it leads to is more by as much, up to the bound ..
 module _ (b : ℕ) (step : ℕ → Step) (energy : EnergyUnder b step) (e x l : ℕ) (to : step e ≡ To x l) where
-  energy-grows : (e′ : ℕ) → e ≤ e′ → (x′ : ℕ) × (l′ : ℕ) × (step e′ ≡ To x′ l′) × (min (x + (e′ - e)) b ≤ x′) × (x ≤ b)
+  pub energy-grows : (e′ : ℕ) → e ≤ e′ → (x′ : ℕ) × (l′ : ℕ) × (step e′ ≡ To x′ l′) × (min (x + (e′ - e)) b ≤ x′) × (x ≤ b)
   energy-grows e′ h =
       let (f, is, same) = energy in
       let (y, leads, cut) = bounded-to b (f e) x (sym (same e) ∙ ap {B = End} ended to) in

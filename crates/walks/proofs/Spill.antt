@@ -8,7 +8,7 @@ use Rattle.walks.specs.declared.Step.the-variants.{To, Impossible}
 use Rattle.walks.specs.BoundedStep.{Move, stepped}
 use Rattle.walks.specs.Walk.{Ends, walked}
 use Rattle.walks.specs.Moves.{draws, gains}
-use Rattle.walks.specs.Spill.{spilled}
+use Rattle.walks.specs.Spill.{lostIn, spilled}
 use Rattle.walks.proofs.Walks.{stepped-to, walked-cons}
 
 -- one step: the charge and the gain are the charge that it leads to, the draw and what it lost
@@ -23,6 +23,11 @@ step-loss b m e x l h q = let (_, _, j) = stepped-to b m e x l .0 q in omega ari
 pub spilled-cons : (b : ℕ) (m : Move) (ms : List Move) (e x l : ℕ) → stepped b m e ≡ To x l → spilled b (m ∷ ms) e ≡ l + spilled b ms x
 unfolding spilled
 spilled-cons b m ms e x l q = rw q refl
+
+-- of one step, what it lost
+pub spilled-one : (b : ℕ) (m : Move) (e : ℕ) → spilled b (m ∷ []) e ≡ lostIn (stepped b m e)
+unfolding spilled
+spilled-one b m e = refl
 
 -- where the first step is not possible, nothing is lost
 pub spilled-off : (b : ℕ) (m : Move) (ms : List Move) (e : ℕ) → stepped b m e ≡ Impossible → spilled b (m ∷ ms) e ≡ 0

@@ -1,6 +1,7 @@
--- Energy functions. Document 004, Definition 1: "An energy function is a partial function f .. which is defined on a closed interval [l, ∞[ ..
--- and such that for all x₁ ≤ x₂ for which f is defined, f(x₂) ≥ f(x₁) + x₂ − x₁", here over whole numbers. Document 02, Ask 4: "This is an energy
--- function in the sense of document 004, with the bound added." The theorem step-energy says that each move's step is one.
+-- Energy functions. Document 004, Definition 1: "An energy function is a partial function f .. which is defined on a closed interval [l, ∞[ or on
+-- an open interval ]l, ∞[ .. and such that for all x₁ ≤ x₂ for which f is defined, f(x₂) ≥ f(x₁) + x₂ − x₁", here over whole numbers, where ]l, ∞[ is
+-- [l + 1, ∞[. Document 02, Ask 4: "This is an energy function in the sense of document 004, with the bound added." The theorem step-energy says that
+-- each move's step is one with the bound added.
 use Prim.Native.Nat.{ℕ, _+_, _-_, _≤_, min}
 use mathlib.Core.Path.{_≡_}
 use mathlib.Core.Logic.{_↔_}

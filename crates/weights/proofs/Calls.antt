@@ -1,6 +1,6 @@
 -- Document 02, Ask 4: "models without both parts must get the same verdicts as before": judging, gauge, walk and search, on all inputs. Assumes
 -- nothing.
-use mathlib.Core.Path.{_≡_, refl, sym, _∙_}
+use mathlib.Core.Path.{_≡_, refl, sym, _∙_, subst}
 use mathlib.Core.List.{List, [], _∷_}
 use mathlib.Core.Logic.{_↔_}
 use Prim.Native.Nat.{ℕ, suc, _+_}
@@ -10,6 +10,7 @@ use Rattle.walks.specs.declared.Step.the-variants.{To, Impossible}
 use Rattle.walks.specs.Weights.{weighed}
 use Rattle.refusals.specs.declared.Verdict.{Verdict}
 use Rattle.refusals.specs.Refusals.{andThen}
+use Rattle.model.specs.Lists.{Lists}
 use Rattle.model.specs.Plans.{Plan, SomePlan}
 use Rattle.judge.specs.Shape.{planOf}
 use Rattle.judge.specs.Charges.{ranOn, ran, afterRan, secondRound, rounds, charges}
@@ -19,8 +20,9 @@ use Rattle.gauge.specs.Gauge.{startedOf, movedOf, movedMatched, movedLevelled, 
 use Rattle.planwalk.specs.Walked.{stepsOfPlan, gaugeWalk, walkOf}
 use Rattle.search.specs.declared.Searched.{Searched}
 use Rattle.search.specs.Search as search
-use Rattle.weights.specs.Models.{WeightLists, listsOf, modelBy, weightAt, fitnessByWeight, SomePlanByWeight}
+use Rattle.weights.specs.Models.{WeightLists, listsOf, modelBy, OnePart, weightAt, fitnessByWeight, SomePlanByWeight}
 use Rattle.weights.specs.Calls as by
+use Rattle.weights.proofs.Parts.{one-part}
 use Rattle.weights.proofs.Models.{fitness-same, step-same, serves-same}
 
 module _ (n s k : ℕ) (l : WeightLists) where
@@ -140,3 +142,18 @@ module _ (n s k : ℕ) (l : WeightLists) where
         λ h. record { refused = λ x e. h .refused x (v ∙ e); decided = λ e. decided .0 (h .decided (v ∙ e)) },
         λ h. record { refused = λ x e. h .refused x (sym v ∙ e); decided = λ e. decided .1 (h .decided (sym v ∙ e)) },
       )
+
+-- all of them
+same-answers : (l : WeightLists) → by.SameAnswers (listsOf l) l
+same-answers l =
+    record {
+      judging = λ n s k. judged-same n s k l;
+      starting = λ n s k. started-same n s k l;
+      stepping = λ n s k. stepped-same n s k l;
+      walking = λ n s k. walk-same n s k l;
+      searching = λ n s k. search-same n s k l;
+    }
+
+-- "models without both parts must get the same verdicts as before"
+pub one-part-same : (l : Lists) → OnePart l → (w : WeightLists) × (listsOf w ≡ l) × by.SameAnswers l w
+one-part-same l h = let (w, e) = one-part l .0 h in (w, e, subst (λ (x : Lists). by.SameAnswers x w) e (same-answers w))

@@ -1,5 +1,5 @@
--- What judging, gauge, walk and search answer by weights. Each is the definition of its own crate, with the step by a weight in place of the step
--- by draw and gain, and fitness by weights.
+-- What judging, gauge, walk and search answer by weights. Each says what the definition of its own crate says, with the step by a weight in place of
+-- the step by draw and gain, and fitness by weights.
 use Prim.Native.Nat.{ℕ, suc, _+_, _*_, _≤_}
 use mathlib.Core.Path.{_≡_}
 use mathlib.Core.Bool.{not, _&&_}
@@ -17,19 +17,21 @@ use Rattle.refusals.specs.declared.Verdict.{Verdict}
 use Rattle.refusals.specs.declared.Verdict.the-variants.{Yes, Refused}
 use Rattle.refusals.specs.Refusals.{refuse, andThen}
 use Rattle.model.specs.Automaton.{arcAt, meets}
+use Rattle.model.specs.Lists.{Lists}
 use Rattle.model.specs.Fitness.{levelsOf}
 use Rattle.model.specs.Plans.{Plan}
 use Rattle.judge.specs.Shape.{planOf, shape}
 use Rattle.judge.specs.Colours.{coloursOf}
+use Rattle.judge.specs.Judged.{judged}
 use Rattle.gauge.specs.declared.Gauge.{Gauge}
 use Rattle.gauge.specs.declared.Gauged.{Gauged}
-use Rattle.gauge.specs.Gauge.{newGauge, gauged, noGauge, stopAt, landed, mixedUp}
+use Rattle.gauge.specs.Gauge.{newGauge, gauged, noGauge, stopAt, startedOf, landed, mixedUp, steppedOf}
 use Rattle.planwalk.specs.declared.Walked.{Walked}
 use Rattle.planwalk.specs.declared.Walked.the-variants as walk
-use Rattle.planwalk.specs.Walked.{stepsOfPlan, metOr, walkIf, walkOn}
+use Rattle.planwalk.specs.Walked.{stepsOfPlan, metOr, walkIf, walkOn, walkOf}
 use Rattle.search.specs.declared.Searched.{Searched}
 use Rattle.search.specs.declared.Searched.the-variants as outcome
-use Rattle.search.specs.Search.{levelsAndSpaces, noPlan}
+use Rattle.search.specs.Search.{levelsAndSpaces, noPlan, SearchOf}
 use Rattle.weights.specs.Models.{WeightLists, modelBy, weightAt, fitnessByWeight, ServesByWeight, SomePlanByWeight}
 
 -- Judging. What follows step i goes on from the charge that it leads to; 15 where it is not possible
@@ -109,11 +111,20 @@ pub record DecidedByWeight (n s k : ℕ) (l : WeightLists) (b c : ℕ) (work pla
   pub cleared : work′ ≡ replicate (length work) 0
 
 -- .. over all inputs, v being what 1 to 9 say ..
-pub record SearchIf (v : Verdict) (n s k : ℕ) (l : WeightLists) (b c : ℕ) (work plan work′ plan′ : List ℕ) (r : Searched) : Type 0 where
+pub record SearchIfByWeight (v : Verdict) (n s k : ℕ) (l : WeightLists) (b c : ℕ) (work plan work′ plan′ : List ℕ) (r : Searched) : Type 0 where
   pub refused : (x : Refusal) → v ≡ Refused x → (r ≡ outcome.Refused x) × (work′ ≡ work) × (plan′ ≡ plan)
   pub decided : v ≡ Yes → DecidedByWeight n s k l b c work plan work′ plan′ r
 
 -- .. and the call
 abbrev pub SearchByWeight : ℕ → ℕ → ℕ → WeightLists → ℕ → ℕ → List ℕ → List ℕ → List ℕ → List ℕ → Searched → Type 0
 SearchByWeight n s k l b c work plan work′ plan′ r =
-    SearchIf (andThen (fitnessByWeight n s k l) (levelsAndSpaces n k b c (length work) (length plan))) n s k l b c work plan work′ plan′ r
+    SearchIfByWeight (andThen (fitnessByWeight n s k l) (levelsAndSpaces n k b c (length work) (length plan))) n s k l b c work plan work′ plan′ r
+
+-- "the same verdicts as before": every call on the five lists l answers what the weights l′ say, whatever else it is given
+pub record SameAnswers (l : Lists) (l′ : WeightLists) : Type 0 where
+  pub judging : (n s k b c p q : ℕ) (w : List ℕ) → judged n s k l b c p q w ≡ judgedByWeight n s k l′ b c p q w
+  pub starting : (n s k b c : ℕ) → startedOf n s k l b c ≡ startedByWeight n s k l′ b c
+  pub stepping : (n s k b a : ℕ) (x : Gauge) → steppedOf n s k l b a x ≡ steppedByWeight n s k l′ b a x
+  pub walking : (n s k b c p q : ℕ) (w : List ℕ) (j t : ℕ) → walkOf n s k l b c p q w j t ≡ walkByWeight n s k l′ b c p q w j t
+  pub searching : (n s k b c : ℕ) (work plan work′ plan′ : List ℕ) (r : Searched)
+      → SearchOf n s k l b c work plan work′ plan′ r ↔ SearchByWeight n s k l′ b c work plan work′ plan′ r
