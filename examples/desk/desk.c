@@ -7,8 +7,8 @@
  *
  * A mission is a text of lines, in any order: "modes N", "start MODE", "colours K", "bound B" and "credit C", each once, and for
  * each arc "arc SOURCE TARGET MOVE COLOUR..", with the numbers of the colours that the arc meets. A move is one word: "-9" draws 9, "5"
- * or "+5" gains 5, "0" does nothing, and "-5+8" draws 5 first and then gains 8. Other numbers have no sign, so that a gain that stands
- * apart from its draw is not read as a colour. What follows a '#' is a comment. A line has at most 250 characters.
+ * or "+5" gains 5, "0" does nothing, and "-5+8" draws 5 first and then gains 8. Other numbers have no sign: "-5 +3" cannot be read,
+ * but "-5 3" can, as a draw of 5 and colour 3. What follows a '#' is a comment. A line has at most 250 characters.
  * Exit status: 0 a plan, 1 no plan exists, 2 refused, 3 the mission cannot be read or there is no memory.
  */
 #include "chargeplan.h"

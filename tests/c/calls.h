@@ -147,11 +147,14 @@ struct model reordered(const struct model *m, const uint8_t *order, struct lists
 /* A random number below n; the same numbers in every run. */
 uint32_t below(uint32_t n);
 
-/* The most arcs of a small random model. */
-enum { SMALL_ARCS_MOST = 8 };
+/* The most arcs of a small random model, and the greatest draw and gain. */
+enum { SMALL_ARCS_MOST = 8, SMALL_MOVE_MOST = 6 };
 
 /* A small model in these lists, with 4 modes or fewer. */
 struct model random_fit_model(struct lists *lists);
+
+/* Gives the first arcs of the lists random draws and gains up to these; of three, one draws, one gains, and one does both. */
+void random_moves(struct lists *lists, size_t arcs, uint32_t draw_most, uint32_t gain_most);
 
 /* An arc that leaves the mode, most of the time; a few are not of the model. */
 uint8_t random_arc(const struct model *m, uint32_t mode);
@@ -159,8 +162,20 @@ uint8_t random_arc(const struct model *m, uint32_t mode);
 /* A plan that follows the arcs as far as it can, most of the time; its length is handed back. */
 size_t random_plan(const struct model *m, uint8_t *plan, size_t most);
 
+/* A random plan judged and walked, for a colour that may be none; whether it is feasible and accepted. */
+int random_plan_tried(const struct model *m, uint32_t c, uint32_t b);
+
 /* Puts the numbers into a random order. */
 void shuffle(uint8_t *numbers, size_t count);
+
+/*
+ * The model with the draws and gains of these weights, in these lists: draw -w, gain 0 where w is negative, else draw 0, gain w. The
+ * plain reading goes by the weights.
+ */
+struct model by_weights(struct model m, const int16_t *weights, struct lists *to);
+
+/* A gauge at the bound, whose total may still grow by so much, on a move that loses gain - draw there. */
+void total_at_bound(const char *what, uint32_t draw, uint32_t gain, uint64_t room);
 
 /* The models of document 01's examples, and lists that they share. */
 extern const uint8_t zeros[256], g_sources[3], g_targets[3], g_colours[3];
@@ -204,6 +219,10 @@ void test_small_moves(void);
 void test_extreme_moves(void);
 void test_unfit_moves(void);
 void test_search_draws(void);
+void test_search_extremes(void);
+void test_last_draw(void);
+void test_last_gain(void);
+void test_unfit_last(void);
 void test_exchanged(void);
 void test_parts_of_weights(void);
 void test_examples_by_weights(void);
@@ -213,6 +232,9 @@ void test_random(unsigned long models);
 void test_random_large(unsigned long models);
 void test_random_draws(unsigned long models);
 void test_random_split(unsigned long models);
+void test_random_sizes(unsigned long models);
+void test_random_searches(unsigned long models);
+void test_random_scaled(unsigned long models);
 void test_random_weights(unsigned long models);
 void test_random_large_weights(unsigned long models);
 

@@ -147,21 +147,6 @@ void test_small_moves(void)
                 every_gain(draw, charge, b, MOVE);
 }
 
-/* A gauge at the bound, whose total may still grow by so much, on a move that loses gain - draw there. */
-static void total(const char *what, uint32_t draw, uint32_t gain, uint64_t room)
-{
-    struct lists lists;
-    struct model m = one_arc(&lists, draw, gain);
-    uint64_t spill = UINT64_MAX - room, lost = gain - draw;
-    struct gauge g = gauge_at(&m, 7, 0, 7, spill);
-    struct stop stop = {0, 0, 7, spill + lost};
-
-    if (lost <= room)
-        moved(what, &g, &m, 7, stop);
-    else
-        stepped(what, &g, &m, 7, 0, CHARGEPLAN_IMPOSSIBLE_STEP, 0);
-}
-
 /* The greatest draws and gains, and totals near 2^64: what is drawn first is not lost. */
 void test_extreme_moves(void)
 {
@@ -174,12 +159,12 @@ void test_extreme_moves(void)
     leads_to("the greatest gain at the bound", 0, 10000, 8191, 8191, 8191, 10000);
     leads_to("b 0: the whole gain is lost", 0, 10000, 0, 0, 0, 10000);
     too_little("b 0: any draw", 1, 10000, 0, 0);
-    total("full total: nothing is lost", 5, 5, 0);
-    total("full total: 3 would be lost", 2, 5, 0);
-    total("room for 2: 3 would be lost", 2, 5, 2);
-    total("room for 3: 3 are lost", 2, 5, 3);
-    total("room for 9,992: 9,993 would be lost", 7, 10000, 9992);
-    total("room for 9,993: 9,993 are lost", 7, 10000, 9993);
+    total_at_bound("full total: nothing is lost", 5, 5, 0);
+    total_at_bound("full total: 3 would be lost", 2, 5, 0);
+    total_at_bound("room for 2: 3 would be lost", 2, 5, 2);
+    total_at_bound("room for 3: 3 are lost", 2, 5, 3);
+    total_at_bound("room for 9,992: 9,993 would be lost", 7, 10000, 9992);
+    total_at_bound("room for 9,993: 9,993 are lost", 7, 10000, 9993);
 }
 
 /* Three arcs of these kinds; 5 names the lowest that is not fit. */
@@ -238,6 +223,55 @@ void test_search_draws(void)
     refused("search: the bound is below the draw", &m, 4, 4, CHARGEPLAN_NO_PLAN, 0);
     lists.gains[0] = 0;
     found("search: a draw without harvest", &m, 0, 5);
+}
+
+/* Two modes, there and back: the first arc gains, the second draws. No arc can be repeated to make up for a gain read too small. */
+static struct model there_and_back(struct lists *to, uint32_t gain, uint32_t draw)
+{
+    struct arc there = {0, 1, 0, gain, 0}, back = {1, 0, draw, 0, 0};
+
+    put(to, 0, there);
+    put(to, 1, back);
+    return listed(2, 0, to, 2);
+}
+
+/* One arc gains, and the other one draws and has the colour. */
+static struct model gain_or_draw(struct lists *to, uint32_t gain, uint32_t draw)
+{
+    struct arc gained = {0, 0, 0, gain, 0}, drawn = {0, 0, draw, 0, 1};
+
+    put(to, 0, gained);
+    put(to, 1, drawn);
+    return listed(1, 1, to, 2);
+}
+
+/* Search with the largest battery of one mode, and of two. */
+void test_search_extremes(void)
+{
+    enum { MOST = CHARGEPLAN_BOUND_MOST, OF_TWO = 4095 };
+    struct lists lists;
+    struct model m = one_arc(&lists, MOST, MOST);
+
+    found("search: 8,191 drawn and back", &m, MOST, MOST);
+    refused("search: 8,191 drawn of 8,190", &m, MOST - 1, MOST, CHARGEPLAN_NO_PLAN, 0);
+    m = one_arc(&lists, MOST, MOST - 1);
+    refused("search: 8,191 drawn, 8,190 back", &m, MOST, MOST, CHARGEPLAN_NO_PLAN, 0);
+    m = one_arc(&lists, MOST, CHARGEPLAN_GAIN_MOST);
+    found("search: 8,191 drawn, 10,000 back", &m, MOST, MOST);
+    m = one_arc(&lists, MOST + 1, CHARGEPLAN_GAIN_MOST);
+    refused("search: 8,192 drawn", &m, MOST, MOST, CHARGEPLAN_NO_PLAN, 0);
+    m = one_arc(&lists, CHARGEPLAN_DRAW_MOST, CHARGEPLAN_GAIN_MOST);
+    refused("search: 10,000 drawn", &m, MOST, MOST, CHARGEPLAN_NO_PLAN, 0);
+    m = gain_or_draw(&lists, MOST, MOST);
+    found("search: 8,191 gained, then drawn", &m, 0, MOST);
+    refused("search: 8,191 gained, 8,190 of it kept", &m, 0, MOST - 1, CHARGEPLAN_NO_PLAN, 0);
+    m = gain_or_draw(&lists, MOST, MOST + 1);
+    refused("search: 8,191 gained, 8,192 drawn", &m, MOST, MOST, CHARGEPLAN_NO_PLAN, 0);
+    m = there_and_back(&lists, OF_TWO, OF_TWO);
+    found("search: 4,095 there and back", &m, 0, OF_TWO);
+    refused("search: 4,095 there and back, the bound 4,094", &m, 0, OF_TWO - 1, CHARGEPLAN_NO_PLAN, 0);
+    m = there_and_back(&lists, OF_TWO - 1, OF_TWO);
+    refused("search: 4,094 there, 4,095 back", &m, 0, OF_TWO, CHARGEPLAN_NO_PLAN, 0);
 }
 
 /* The model with draws for gains and gains for draws. */

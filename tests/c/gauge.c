@@ -125,12 +125,11 @@ void test_step_refusals(void)
     step_made("the start mode is another than the gauge's", &m, 5, 0, 5, 9, there);
 }
 
-/* A step that loses the whole gain, at the bound, where the total may still grow by so much. */
-static void total(const char *what, uint16_t gain, uint64_t room)
+void total_at_bound(const char *what, uint32_t draw, uint32_t gain, uint64_t room)
 {
-    uint16_t gains[3] = {gain, gain, gain};
-    struct model m = model(2, 0, 3, g_sources, g_targets, nothing, gains, zeros);
-    uint64_t lost = gain, spill = UINT64_MAX - room;
+    uint16_t d = (uint16_t)draw, g = (uint16_t)gain, draws[3] = {d, d, d}, gains[3] = {g, g, g};
+    struct model m = model(2, 0, 3, g_sources, g_targets, draws, gains, zeros);
+    uint64_t lost = gain - draw, spill = UINT64_MAX - room;
     struct stop stop = {1, 1, 7, spill + lost};
 
     if (lost <= room)
@@ -153,14 +152,14 @@ void test_totals(void)
     for (i = 0; i < sizeof gains / sizeof gains[0]; i++) {
         uint64_t lost = gains[i];
 
-        total("the total comes to 2^64 - 1", gains[i], lost);
-        total("15: the total would come to 2^64", gains[i], lost - 1);
-        total("15: no room", gains[i], 0);
-        total("the total comes to 2^64 - 2", gains[i], lost + 1);
-        total("the total passes 32 bits", gains[i], UINT64_MAX - UINT32_MAX);
-        total("the total passes 63 bits", gains[i], UINT64_MAX - INT64_MAX);
+        total_at_bound("the total comes to 2^64 - 1", 0, gains[i], lost);
+        total_at_bound("15: the total would come to 2^64", 0, gains[i], lost - 1);
+        total_at_bound("15: no room", 0, gains[i], 0);
+        total_at_bound("the total comes to 2^64 - 2", 0, gains[i], lost + 1);
+        total_at_bound("the total passes 32 bits", 0, gains[i], UINT64_MAX - UINT32_MAX);
+        total_at_bound("the total passes 63 bits", 0, gains[i], UINT64_MAX - INT64_MAX);
     }
-    total("nothing is lost", 0, 0);
+    total_at_bound("nothing is lost", 0, 0, 0);
     step_made("full total: a draw", &m, 7, 0, 7, UINT64_MAX, down);
     step_made("full total: a gain to the bound", &m, 7, 0, 2, UINT64_MAX, up);
     step_made("full total: no change at the bound", &m, 7, 0, 7, UINT64_MAX, flat_on);

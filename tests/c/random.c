@@ -42,6 +42,18 @@ static struct arc random_move(uint32_t n, uint32_t draw_most, uint32_t gain_most
     return arc;
 }
 
+void random_moves(struct lists *lists, size_t arcs, uint32_t draw_most, uint32_t gain_most)
+{
+    size_t a;
+
+    for (a = 0; a < arcs; a++) {
+        struct arc move = random_move(1, draw_most, gain_most);
+
+        lists->draws[a] = (uint16_t)move.draw;
+        lists->gains[a] = (uint16_t)move.gain;
+    }
+}
+
 struct model random_fit_model(struct lists *lists)
 {
     uint32_t n = 1 + below(4), k = below(5), arcs = below(SMALL_ARCS_MOST + 1), a;
@@ -49,7 +61,7 @@ struct model random_fit_model(struct lists *lists)
 
     m.start = below(n);
     for (a = 0; a < arcs; a++) {
-        struct arc arc = random_move(n, 6, 6);
+        struct arc arc = random_move(n, SMALL_MOVE_MOST, SMALL_MOVE_MOST);
 
         arc.colours = below(1u << k) & below(256);
         put(lists, a, arc);
@@ -115,8 +127,7 @@ size_t random_plan(const struct model *m, uint8_t *plan, size_t most)
     return length;
 }
 
-/* A random plan judged and walked, for a colour that may be none. */
-static void test_random_plan(const struct model *m, uint32_t c, uint32_t b)
+int random_plan_tried(const struct model *m, uint32_t c, uint32_t b)
 {
     uint8_t plan[12];
     size_t length = m->sources_length == 0 ? 0 : random_plan(m, plan, sizeof plan);
@@ -127,6 +138,7 @@ static void test_random_plan(const struct model *m, uint32_t c, uint32_t b)
     check_answer("random plan", judge("random plan", m, c, b, p, q, plan, length), v.number, v.detail);
     check_outcome("random plan walked", walk("random plan walked", m, c, b, p, q, plan, length, j, allowance),
         plain_walk(m, c, b, p, q, plan, length, j, allowance));
+    return v.number == 0;
 }
 
 /* The plan found walked, for each colour and for one that is none. */
@@ -288,7 +300,7 @@ static void test_random_calls(const struct model *m, uint32_t bounds, uint32_t s
     uint32_t b = below(bounds), c = below(b + 1) + (below(40) == 0 ? bounds : 0);
     uint64_t answer = search_exactly("random model", m, c, b, plan);
 
-    test_random_plan(m, c, b);
+    random_plan_tried(m, c, b);
     test_random_found(m, c, b, answer, plan);
     test_random_gauges(m, c, b, steps);
     test_random_order(m, c, b, answer);
@@ -337,52 +349,37 @@ void test_random_large(unsigned long models)
     }
 }
 
-/* Gauges of a model, with a bound and credit of every size. */
+/* Gauges and a plan of a model, with a bound and credit of every size. */
 static void test_random_bounds(const struct model *m)
 {
     uint32_t b = below(CHARGEPLAN_BOUND_MOST + 1), c = below(b + 1);
 
     test_random_gauges(m, c, b, 100);
+    random_plan_tried(m, c, b);
 }
 
-/* Gauges of models with draws and gains of every size. */
+/* The same of models with draws and gains of every size. */
 void test_random_draws(unsigned long models)
 {
     struct lists lists;
     unsigned long i;
-    size_t a;
 
     for (i = 0; i < models; i++) {
         struct model m = random_large_model(&lists);
 
-        for (a = 0; a < m.sources_length; a++) {
-            lists.draws[a] = (uint16_t)below(CHARGEPLAN_DRAW_MOST + 1);
-            lists.gains[a] = (uint16_t)below(CHARGEPLAN_GAIN_MOST + 1);
-        }
+        random_moves(&lists, m.sources_length, CHARGEPLAN_DRAW_MOST, CHARGEPLAN_GAIN_MOST);
         test_random_bounds(&m);
     }
 }
 
-/*
- * The model with random weights, from least up to most, in place of its draws and gains: draw -w, gain 0 where w is negative, else draw
- * 0, gain w. The plain reading goes by the weights.
- */
+/* The model with random weights, from least up to most, in place of its draws and gains. */
 static struct model weighed(const struct model *m, struct lists *lists, int16_t *weights, int32_t least, int32_t most)
 {
-    struct model r = *m;
     size_t a;
 
-    for (a = 0; a < m->sources_length; a++) {
-        int32_t w = least + (int32_t)below((uint32_t)(most - least + 1));
-
-        weights[a] = (int16_t)w;
-        lists->draws[a] = (uint16_t)(w < 0 ? -w : 0);
-        lists->gains[a] = (uint16_t)(w < 0 ? 0 : w);
-    }
-    r.draws_length = r.sources_length;
-    r.gains_length = r.sources_length;
-    r.weights = weights;
-    return r;
+    for (a = 0; a < m->sources_length; a++)
+        weights[a] = (int16_t)(least + (int32_t)below((uint32_t)(most - least + 1)));
+    return by_weights(*m, weights, lists);
 }
 
 /* Every call of models that have weights against the plain reading by weights. */
@@ -400,7 +397,7 @@ void test_random_weights(unsigned long models)
     }
 }
 
-/* The same with many arcs, and gauges of models with weights of every size. */
+/* The same with many arcs, and gauges and plans of models with weights of every size. */
 void test_random_large_weights(unsigned long models)
 {
     int16_t weights[CHARGEPLAN_ARCS_MOST];

@@ -32,6 +32,21 @@ static void test_random_splits(void)
     test_random_split(random_models / 10);
 }
 
+static void test_random_plans_of_every_size(void)
+{
+    test_random_sizes(random_models / 4);
+}
+
+static void test_random_searches_of_every_size(void)
+{
+    test_random_searches(random_models / 100);
+}
+
+static void test_random_models_scaled(void)
+{
+    test_random_scaled(random_models / 100);
+}
+
 static void test_random_models_by_weights(void)
 {
     test_random_weights(random_models / 4);
@@ -78,16 +93,23 @@ static const struct {
     {"draw first: the greatest draws and gains", test_extreme_moves},
     {"draw first: 5, the lowest unfit draw or gain", test_unfit_moves},
     {"draw first: search", test_search_draws},
+    {"draw first: search with the greatest draws and gains", test_search_extremes},
     {"draw first: draws and gains exchanged", test_exchanged},
     {"weights: draw and gain of each", test_parts_of_weights},
     {"weights: document 01's examples", test_examples_by_weights},
     {"weights: steps", test_weight_steps},
     {"weights: 5", test_unfit_weights},
+    {"arc 254 alone draws", test_last_draw},
+    {"arc 254 alone gains", test_last_gain},
+    {"5: arc 254", test_unfit_last},
     {"header", test_header},
     {"random models and plans", test_random_models},
     {"random models with many arcs", test_random_large_models},
-    {"random gauges, draws and gains of every size", test_random_draws_and_gains},
+    {"random gauges and plans with many arcs, draws and gains of every size", test_random_draws_and_gains},
     {"random models with each arc split into draw and gain", test_random_splits},
+    {"random plans, draws, gains and bounds of every size", test_random_plans_of_every_size},
+    {"random searches, draws, gains and bounds of every size", test_random_searches_of_every_size},
+    {"random models scaled up, and searched", test_random_models_scaled},
     {"random models and plans, by weights", test_random_models_by_weights},
     {"random models with many arcs and every weight, by weights", test_random_large_models_by_weights},
 };

@@ -4,8 +4,7 @@
  */
 #include "calls.h"
 
-/* The model with the draws and gains of these weights, in lists of its own. */
-static struct model by_weights(struct model m, const int16_t *weights, struct lists *to)
+struct model by_weights(struct model m, const int16_t *weights, struct lists *to)
 {
     size_t a;
 
@@ -14,7 +13,9 @@ static struct model by_weights(struct model m, const int16_t *weights, struct li
         to->gains[a] = chargeplan_gain_of(weights[a]);
     }
     m.draws = to->draws;
+    m.draws_length = m.sources_length;
     m.gains = to->gains;
+    m.gains_length = m.sources_length;
     m.weights = weights;
     return m;
 }
@@ -58,7 +59,7 @@ void test_examples_by_weights(void)
 }
 
 /* A step on an arc of this weight from a charge, by document 01's own words. */
-static void weight_step(int16_t weight, uint32_t charge, uint32_t b)
+static void stepped_by_weight(int16_t weight, uint32_t charge, uint32_t b)
 {
     struct lists lists;
     struct model m = by_weights(model_a(), &weight, &lists);
@@ -84,10 +85,10 @@ void test_weight_steps(void)
     for (b = 0; b <= 4; b++)
         for (charge = 0; charge <= b; charge++)
             for (w = -6; w <= 6; w++)
-                weight_step(w, charge, b);
+                stepped_by_weight(w, charge, b);
     for (i = 0; i < sizeof weights / sizeof weights[0]; i++)
         for (j = 0; j < sizeof charges / sizeof charges[0]; j++)
-            weight_step(weights[i], charges[j], CHARGEPLAN_BOUND_MOST);
+            stepped_by_weight(weights[i], charges[j], CHARGEPLAN_BOUND_MOST);
 }
 
 /* 5: a weight outside its range is refused as before, by its draw or its gain. */

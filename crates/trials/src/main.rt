@@ -44,7 +44,7 @@ fn small(models: u16) -> Family {
         bound_span: 8,
         net_span: 9,
         net_low: 5,
-        dip_span: 1,
+        both_span: 1,
         repeats: false,
     }
 }
@@ -153,9 +153,9 @@ fn try_large(first: u32) -> u32 {
 }
 
 // Families whose arcs draw and gain: with small and with medium numbers, with every arc's gain equal to its draw, and with 64 modes.
-fn try_dips(first: u32) {
-    let mut small_dips = small(4000);
-    small_dips.dip_span = 6;
+fn try_two_parts(first: u32) {
+    let mut few = small(4000);
+    few.both_span = 6;
     let mut medium = small(1000);
     medium.modes_span = 8;
     medium.colours_span = COLOURS + 1;
@@ -164,11 +164,11 @@ fn try_dips(first: u32) {
     medium.bound_span = 32;
     medium.net_span = 33;
     medium.net_low = 16;
-    medium.dip_span = 24;
+    medium.both_span = 24;
     let mut level = small(1000);
     level.net_span = 1;
     level.net_low = 0;
-    level.dip_span = 12;
+    level.both_span = 12;
     let mut modes = small(32);
     modes.modes_least = MODES;
     modes.modes_span = 1;
@@ -179,14 +179,14 @@ fn try_dips(first: u32) {
     modes.bound_span = 1;
     modes.net_span = 121;
     modes.net_low = 101;
-    modes.dip_span = 64;
-    let second = try_family(b"dips", small_dips, first);
-    let third = try_family(b"medium-dips", medium, second);
-    let fourth = try_family(b"level-dips", level, third);
-    try_family(b"64-modes-dips", modes, fourth);
+    modes.both_span = 64;
+    let second = try_family(b"two-parts", few, first);
+    let third = try_family(b"medium-two-parts", medium, second);
+    let fourth = try_family(b"level-two-parts", level, third);
+    try_family(b"64-modes-two-parts", modes, fourth);
 }
 
 fn main() {
     examples::print_examples();
-    try_dips(try_large(try_small(20261115)));
+    try_two_parts(try_large(try_small(20261115)));
 }

@@ -20,7 +20,7 @@ pub struct Numbers {
 }
 
 // A family of models: from `least` on, `span` values of each number. An arc's gain less its draw is a number below net_span less net_low; beyond
-// that it draws and gains a number below dip_span, the same, so that with 1 no arc has both parts. Where `repeats`, an arc is as likely as not
+// that it draws and gains a number below both_span, the same, so that with 1 no arc has both parts. Where `repeats`, an arc is as likely as not
 // equal in all fields to the one before.
 pub struct Family {
     pub models: u16,
@@ -34,7 +34,7 @@ pub struct Family {
     pub bound_span: u16,
     pub net_span: u16,
     pub net_low: u16,
-    pub dip_span: u16,
+    pub both_span: u16,
     pub repeats: bool,
 }
 
@@ -71,15 +71,15 @@ fn excess(x: u32, y: u32) -> u32 {
     x - y
 }
 
-// What an arc draws whose gain less draw is x less low, with a dip: low less x where that is above 0, and the dip. No family makes it greater
-// than a draw may be.
-fn drawn(x: u32, low: u32, dip: u32) -> u16 {
-    ((excess(low, x) % DRAWS + dip % DRAWS) % DRAWS) as u16
+// What an arc draws whose gain less draw is x less low: low less x where that is above 0, and what it both draws and gains. No family makes it
+// greater than a draw may be.
+fn drawn(x: u32, low: u32, both: u32) -> u16 {
+    ((excess(low, x) % DRAWS + both % DRAWS) % DRAWS) as u16
 }
 
-// What it gains: x less low where that is above 0, and the dip. No family makes it greater than a gain may be.
-fn gained(x: u32, low: u32, dip: u32) -> u16 {
-    ((excess(x, low) % GAINS + dip % GAINS) % GAINS) as u16
+// What it gains: x less low where that is above 0, and what it both draws and gains. No family makes it greater than a gain may be.
+fn gained(x: u32, low: u32, both: u32) -> u16 {
+    ((excess(x, low) % GAINS + both % GAINS) % GAINS) as u16
 }
 
 // A number of a family: least, or up to span − 1 more.
@@ -119,9 +119,9 @@ fn put_move(
 ) {
     let x = pick(state, family.net_span as u32);
     let low = family.net_low as u32;
-    let dip = pick(last, family.dip_span as u32);
-    put_word(draws, at, drawn(x, low, dip));
-    put_word(gains, at, gained(x, low, dip));
+    let both = pick(last, family.both_span as u32);
+    put_word(draws, at, drawn(x, low, both));
+    put_word(gains, at, gained(x, low, both));
 }
 
 // Writes the arc that a seed gives, by the six states after it, at a place of the lists.
