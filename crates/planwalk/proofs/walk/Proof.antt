@@ -2,7 +2,7 @@
 use mathlib.Core.Path.{sym, _∙_}
 use native.Mathlib.Omega.{arith}
 use borrow.Author.Needs.{needs}
-use Rattle.model.specs.Lists.{lists}
+use Rattle.model.specs.Lists.{Lists, lists}
 use Rattle.judge.proofs.Judged.{judged-yes}
 use Rattle.judge.proofs.Answers.{told-judged, told-model, told-arcs}
 use Rattle.planwalk.proofs.Steps.{held-least}
@@ -16,11 +16,18 @@ judge-model-requires c κs = search needs
 enum-told : tie.Need-enum-told
 enum-told c = search needs
 
+-- from judging to the beginning, and the lists
+abbrev start : tie.After-judge-model → tie.Start
+start r = r .before .before .before .before .before .before .before
+
+abbrev lists-of : tie.Start → Lists
+lists-of s = lists (s .args .sources .now) (s .args .targets .now) (s .args .draws .now) (s .args .gains .now) (s .args .colours .now)
+
 returns : tie.Need-returns
 returns c =
     let r = c .before .before .before in
-    let a = r .before .before .before .before .before .before .before .args in
-    let l = lists (a .sources .now) (a .targets .now) (a .draws .now) (a .gains .now) (a .colours .now) in
+    let a = start r .args in
+    let l = lists-of (start r) in
     let w = a .plan .now in
     let judged = told-judged (a .n) (a .start) (a .k) l (a .b) (a .c) (a .p) (a .q) w _ (r .judge-model .ensures) _ (c .before .enum-told .given .1) in
     sym (walk-no-colour (a .n) (a .start) (a .k) l (a .b) (a .c) (a .p) (a .q) w (a .j) (a .allowance) judged (c .if1 .taken))
@@ -28,8 +35,8 @@ returns c =
 step-until-requires : tie.Need-step-until-requires
 step-until-requires c κs =
     let r = c .before .before .before in
-    let a = r .before .before .before .before .before .before .before .args in
-    let l = lists (a .sources .now) (a .targets .now) (a .draws .now) (a .gains .now) (a .colours .now) in
+    let a = start r .args in
+    let l = lists-of (start r) in
     let w = a .plan .now in
     let judged = told-judged (a .n) (a .start) (a .k) l (a .b) (a .c) (a .p) (a .q) w _ (r .judge-model .ensures) _ (c .before .enum-told .given .1) in
     let right = judged-yes (a .n) (a .start) (a .k) l (a .b) (a .c) (a .p) (a .q) w .0 judged in (
@@ -44,8 +51,8 @@ enum-known-verdict c = search needs
 returns-2 : tie.Need-returns-2
 returns-2 c =
     let r = c .before .before .before .before in
-    let a = r .before .before .before .before .before .before .before .args in
-    let l = lists (a .sources .now) (a .targets .now) (a .draws .now) (a .gains .now) (a .colours .now) in
+    let a = start r .args in
+    let l = lists-of (start r) in
     let w = a .plan .now in
     let e = c .before .before .enum-told .given .1 in
     let judged = told-judged (a .n) (a .start) (a .k) l (a .b) (a .c) (a .p) (a .q) w _ (r .judge-model .ensures) _ e in
@@ -56,8 +63,8 @@ returns-2 c =
 returns-3 : tie.Need-returns-3
 returns-3 c =
     let r = c .before .before .before in
-    let a = r .before .before .before .before .before .before .before .args in
-    let l = lists (a .sources .now) (a .targets .now) (a .draws .now) (a .gains .now) (a .colours .now) in
+    let a = start r .args in
+    let l = lists-of (start r) in
     let w = a .plan .now in
     let judged = told-judged (a .n) (a .start) (a .k) l (a .b) (a .c) (a .p) (a .q) w _ (r .judge-model .ensures) _ (c .before .verdict .given .1) in
     sym (walk-refused (a .n) (a .start) (a .k) l (a .b) (a .c) (a .p) (a .q) w (a .j) (a .allowance) _ judged)

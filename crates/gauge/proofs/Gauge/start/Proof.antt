@@ -1,7 +1,7 @@
 -- `Gauge::start` meets its contract: the refusal of fitness, else what 6 says. Assumes nothing.
 use mathlib.Core.Path.{_∙_}
 use borrow.Author.Needs.{needs}
-use Rattle.model.specs.Lists.{lists}
+use Rattle.model.specs.Lists.{Lists, lists}
 use Rattle.gauge.proofs.Gauges.{start-fit, start-unfit}
 use Rattle.gauge.proofs.Gauge.start.Statement.{statement}
 use Rattle.gauge.proofs.Gauge.start.Tie as tie
@@ -11,6 +11,13 @@ check-model-requires c κs = search needs
 
 enum-told : tie.Need-enum-told
 enum-told c = search needs
+
+-- from the check to the beginning, and the lists
+abbrev start : tie.After-check-model → tie.Start
+start d = d .before .before .before .before .before .before
+
+abbrev lists-of : tie.Start → Lists
+lists-of s = lists (s .args .sources .now) (s .args .targets .now) (s .args .draws .now) (s .args .gains .now) (s .args .colours .now)
 
 start-levelled-requires : tie.Need-start-levelled-requires
 start-levelled-requires c κs = search needs
@@ -24,16 +31,16 @@ refused-requires c κs = search needs
 returns : tie.Need-returns
 returns c =
     let d = c .before .before .before in
-    let a = d .before .before .before .before .before .before .args in
-    let l = lists (a .sources .now) (a .targets .now) (a .draws .now) (a .gains .now) (a .colours .now) in
+    let a = start d .args in
+    let l = lists-of (start d) in
     c .start-levelled .ensures
     ∙ start-fit (a .n) (a .start) (a .k) l _ (d .check-model .ensures) (a .b) (a .c) (c .before .enum-told .given .1)
 
 returns-2 : tie.Need-returns-2
 returns-2 c =
     let d = c .before .before .before .before in
-    let a = d .before .before .before .before .before .before .args in
-    let l = lists (a .sources .now) (a .targets .now) (a .draws .now) (a .gains .now) (a .colours .now) in
+    let a = start d .args in
+    let l = lists-of (start d) in
     c .refused .ensures
     ∙ start-unfit (a .n) (a .start) (a .k) l _ (d .check-model .ensures) (a .b) (a .c) _ (c .before .before .verdict .given .1)
 
