@@ -1,4 +1,4 @@
-/* Ask 4: an arc draws first and then gains. Refusal 5 of one arc is in cases.c, and random moves are in random.c and split.c. */
+/* Ask 4: an arc draws first and then gains. Refusal 5 of one arc is in cases.c, and random moves are in random.c, sizes.c and split.c. */
 #include "calls.h"
 
 /* One mode with one arc, in these lists. */

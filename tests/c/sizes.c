@@ -93,8 +93,8 @@ static uint32_t random_times(uint32_t n, uint32_t b)
 }
 
 /*
- * With draws, gains, credit and bound all so many times as great, every charge is: there is a plan where there was one before. That is
- * small enough for plain_has_plan.
+ * With draws, gains, credit and bound all so many times as great, every charge is: there is a plan exactly where the small model has one,
+ * and that has few enough pairs for plain_has_plan.
  */
 void test_random_scaled(unsigned long models)
 {
