@@ -7,7 +7,6 @@ use lib.IntN.{ℤ, pos}
 use lib.ListN.{getD, List·getD-map}
 use Rattle.walks.specs.BoundedStep.{Move}
 use Rattle.walks.specs.Weights.{drawOf, gainOf, moveOfWeight}
-use Rattle.model.specs.declared.Arc.{Arc}
 use Rattle.model.specs.Automaton.{moveOf}
 use Rattle.model.specs.Lists.{weighted, arcOf}
 
