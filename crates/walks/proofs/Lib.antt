@@ -1,4 +1,5 @@
--- The laws of walks, one idea a file; Sums serves the proof of the code, Weights says that the step with a weight is the step by its move, Energy that a step is an energy function.
+-- The laws of walks, one idea a file; Sums serves the proof of the code, Weights says that the step with a weight is the step by its move, Energy
+-- that a step is an energy function with the bound added.
 pub mod Sums
 pub mod Walks
 pub mod Weights
