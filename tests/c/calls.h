@@ -186,6 +186,12 @@ struct model model_e(void);
 struct model model_g(void);
 struct model model_j(void);
 
+/* The five models, and the answers to them that document 01 gives, A to L, whatever the models were made from. */
+struct examples {
+    struct model a, b, e, g, j;
+};
+void check_examples(const struct examples *of);
+
 void test_examples(void);
 void test_numbers(void);
 void test_lists(void);

@@ -70,23 +70,30 @@ struct model model_j(void)
     return model(1, 2, 2, zeros, zeros, j_draws, j_gains, j_colours);
 }
 
-void test_examples(void)
+/* The judged and searched ones of document 01. */
+void check_examples(const struct examples *of)
 {
     static const uint8_t arc0[] = {0}, arc1[] = {1}, arcs01[] = {0, 1}, arcs10[] = {1, 0}, plan_i[] = {0, 0, 0, 0, 0, 1, 2};
-    struct model a = model_a(), b = model_b(), e = model_e(), g = model_g(), j = model_j();
 
-    found("example A", &a, 0, 0);
-    refused("example B", &b, 0, 0, CHARGEPLAN_NO_PLAN, 0);
-    judged("example C", &b, 5, 5, 0, 1, arc0, 1, CHARGEPLAN_FALLING_CYCLE, 0);
-    judged("example D", &b, 1, 1, 0, 1, arc0, 1, CHARGEPLAN_IMPOSSIBLE_STEP, 1);
-    judged("example E", &e, 10, 10, 0, 2, arcs01, 2, CHARGEPLAN_YES, 0);
-    judged("example F", &e, 2, 2, 0, 2, arcs01, 2, CHARGEPLAN_IMPOSSIBLE_STEP, 1);
-    found("example G", &g, 0, 5);
-    refused("example H", &g, 0, 4, CHARGEPLAN_NO_PLAN, 0);
-    judged("example I", &g, 0, 5, 6, 1, plan_i, 7, CHARGEPLAN_YES, 0);
-    judged("example J", &j, 0, 2, 0, 2, arcs10, 2, CHARGEPLAN_YES, 0);
-    judged("example K", &j, 0, 2, 0, 2, arcs01, 2, CHARGEPLAN_IMPOSSIBLE_STEP, 0);
-    judged("example L", &j, 0, 2, 0, 1, arc1, 1, CHARGEPLAN_MISSING_COLOUR, 0);
+    found("example A", &of->a, 0, 0);
+    refused("example B", &of->b, 0, 0, CHARGEPLAN_NO_PLAN, 0);
+    judged("example C", &of->b, 5, 5, 0, 1, arc0, 1, CHARGEPLAN_FALLING_CYCLE, 0);
+    judged("example D", &of->b, 1, 1, 0, 1, arc0, 1, CHARGEPLAN_IMPOSSIBLE_STEP, 1);
+    judged("example E", &of->e, 10, 10, 0, 2, arcs01, 2, CHARGEPLAN_YES, 0);
+    judged("example F", &of->e, 2, 2, 0, 2, arcs01, 2, CHARGEPLAN_IMPOSSIBLE_STEP, 1);
+    found("example G", &of->g, 0, 5);
+    refused("example H", &of->g, 0, 4, CHARGEPLAN_NO_PLAN, 0);
+    judged("example I", &of->g, 0, 5, 6, 1, plan_i, 7, CHARGEPLAN_YES, 0);
+    judged("example J", &of->j, 0, 2, 0, 2, arcs10, 2, CHARGEPLAN_YES, 0);
+    judged("example K", &of->j, 0, 2, 0, 2, arcs01, 2, CHARGEPLAN_IMPOSSIBLE_STEP, 0);
+    judged("example L", &of->j, 0, 2, 0, 1, arc1, 1, CHARGEPLAN_MISSING_COLOUR, 0);
+}
+
+void test_examples(void)
+{
+    struct examples of = {model_a(), model_b(), model_e(), model_g(), model_j()};
+
+    check_examples(&of);
 }
 
 /* 1, 2 and 4, and their order. */

@@ -35,27 +35,16 @@ void test_parts_of_weights(void)
 /* Document 01's examples, with the weights that it gives. */
 void test_examples_by_weights(void)
 {
-    static const uint8_t arc0[] = {0}, arc1[] = {1}, arcs01[] = {0, 1}, arcs10[] = {1, 0}, plan_i[] = {0, 0, 0, 0, 0, 1, 2};
+    static const uint8_t plan_i[] = {0, 0, 0, 0, 0, 1, 2};
     static const int16_t none[] = {0}, minus_one[] = {-1}, there_and_back[] = {3, -3}, charged[] = {1, -5, 0}, coloured[] = {-2, 2};
     struct lists lists[5];
-    struct model a = by_weights(model_a(), none, &lists[0]), b = by_weights(model_b(), minus_one, &lists[1]),
-                 e = by_weights(model_e(), there_and_back, &lists[2]), g = by_weights(model_g(), charged, &lists[3]),
-                 j = by_weights(model_j(), coloured, &lists[4]);
+    struct examples of = {by_weights(model_a(), none, &lists[0]), by_weights(model_b(), minus_one, &lists[1]),
+        by_weights(model_e(), there_and_back, &lists[2]), by_weights(model_g(), charged, &lists[3]),
+        by_weights(model_j(), coloured, &lists[4])};
 
-    found("A by weights", &a, 0, 0);
-    refused("B by weights", &b, 0, 0, CHARGEPLAN_NO_PLAN, 0);
-    judged("C by weights", &b, 5, 5, 0, 1, arc0, 1, CHARGEPLAN_FALLING_CYCLE, 0);
-    judged("D by weights", &b, 1, 1, 0, 1, arc0, 1, CHARGEPLAN_IMPOSSIBLE_STEP, 1);
-    judged("E by weights", &e, 10, 10, 0, 2, arcs01, 2, CHARGEPLAN_YES, 0);
-    judged("F by weights", &e, 2, 2, 0, 2, arcs01, 2, CHARGEPLAN_IMPOSSIBLE_STEP, 1);
-    found("G by weights", &g, 0, 5);
-    refused("H by weights", &g, 0, 4, CHARGEPLAN_NO_PLAN, 0);
-    judged("I by weights", &g, 0, 5, 6, 1, plan_i, 7, CHARGEPLAN_YES, 0);
-    judged("J by weights", &j, 0, 2, 0, 2, arcs10, 2, CHARGEPLAN_YES, 0);
-    judged("K by weights", &j, 0, 2, 0, 2, arcs01, 2, CHARGEPLAN_IMPOSSIBLE_STEP, 0);
-    judged("L by weights", &j, 0, 2, 0, 1, arc1, 1, CHARGEPLAN_MISSING_COLOUR, 0);
-    walked("M by weights", &g, 0, 5, 6, 1, plan_i, 7, 0, 7, met(7));
-    walked("M by weights, allowance 6", &g, 0, 5, 6, 1, plan_i, 7, 0, 6, spent(6));
+    check_examples(&of);
+    walked("M by weights", &of.g, 0, 5, 6, 1, plan_i, 7, 0, 7, met(7));
+    walked("M by weights, allowance 6", &of.g, 0, 5, 6, 1, plan_i, 7, 0, 6, spent(6));
 }
 
 /* A step on an arc of this weight from a charge, by document 01's own words. */

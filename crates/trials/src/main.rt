@@ -49,6 +49,34 @@ fn small(models: u16) -> Family {
     }
 }
 
+// The family with medium numbers.
+fn medium(models: u16) -> Family {
+    let mut family = small(models);
+    family.modes_span = 8;
+    family.colours_span = COLOURS + 1;
+    family.arcs_least = 4;
+    family.arcs_span = 24;
+    family.bound_span = 32;
+    family.net_span = 33;
+    family.net_low = 18;
+    family
+}
+
+// The family with 64 modes, and the greatest bound that search takes with them.
+fn all_modes(models: u16) -> Family {
+    let mut family = small(models);
+    family.modes_least = MODES;
+    family.modes_span = 1;
+    family.colours_span = 1;
+    family.arcs_least = 200;
+    family.arcs_span = 56;
+    family.bound_least = 127;
+    family.bound_span = 1;
+    family.net_span = 121;
+    family.net_low = 101;
+    family
+}
+
 // Prints the line of a family.
 fn print_family(name: &[u8], models: u16, plans: u32, none: u32, differences: u32) {
     print_word(name);
@@ -86,14 +114,6 @@ fn try_family(name: &[u8], family: Family, first: u32) -> u32 {
 
 // Families with small and with medium numbers, with bound 0, with arcs equal in all fields and with no arcs.
 fn try_small(first: u32) -> u32 {
-    let mut medium = small(2000);
-    medium.modes_span = 8;
-    medium.colours_span = COLOURS + 1;
-    medium.arcs_least = 4;
-    medium.arcs_span = 24;
-    medium.bound_span = 32;
-    medium.net_span = 33;
-    medium.net_low = 18;
     let mut zero = small(1000);
     zero.bound_span = 1;
     zero.colours_span = COLOURS + 1;
@@ -109,7 +129,7 @@ fn try_small(first: u32) -> u32 {
     none.colours_span = COLOURS + 1;
     none.bound_span = 24;
     let second = try_family(b"small", small(6000), first);
-    let third = try_family(b"medium", medium, second);
+    let third = try_family(b"medium", medium(2000), second);
     let fourth = try_family(b"bound-0", zero, third);
     let fifth = try_family(b"equal-arcs", equal, fourth);
     try_family(b"no-arcs", none, fifth)
@@ -117,16 +137,6 @@ fn try_small(first: u32) -> u32 {
 
 // Families at the ceilings: 64 modes with bound 127, one mode with bound 8,191, and all four colours over as many pairs as there is space for.
 fn try_large(first: u32) -> u32 {
-    let mut modes = small(64);
-    modes.modes_least = MODES;
-    modes.modes_span = 1;
-    modes.colours_span = 1;
-    modes.arcs_least = 200;
-    modes.arcs_span = 56;
-    modes.bound_least = 127;
-    modes.bound_span = 1;
-    modes.net_span = 121;
-    modes.net_low = 101;
     let mut bound = small(64);
     bound.modes_span = 1;
     bound.colours_span = 1;
@@ -147,7 +157,7 @@ fn try_large(first: u32) -> u32 {
     colours.bound_span = 1;
     colours.net_span = 201;
     colours.net_low = 175;
-    let second = try_family(b"64-modes", modes, first);
+    let second = try_family(b"64-modes", all_modes(64), first);
     let third = try_family(b"bound-8191", bound, second);
     try_family(b"4-colours", colours, third)
 }
@@ -156,32 +166,17 @@ fn try_large(first: u32) -> u32 {
 fn try_two_parts(first: u32) {
     let mut few = small(4000);
     few.both_span = 6;
-    let mut medium = small(1000);
-    medium.modes_span = 8;
-    medium.colours_span = COLOURS + 1;
-    medium.arcs_least = 4;
-    medium.arcs_span = 24;
-    medium.bound_span = 32;
-    medium.net_span = 33;
-    medium.net_low = 16;
-    medium.both_span = 24;
+    let mut more = medium(1000);
+    more.net_low = 16;
+    more.both_span = 24;
     let mut level = small(1000);
     level.net_span = 1;
     level.net_low = 0;
     level.both_span = 12;
-    let mut modes = small(32);
-    modes.modes_least = MODES;
-    modes.modes_span = 1;
-    modes.colours_span = 1;
-    modes.arcs_least = 200;
-    modes.arcs_span = 56;
-    modes.bound_least = 127;
-    modes.bound_span = 1;
-    modes.net_span = 121;
-    modes.net_low = 101;
+    let mut modes = all_modes(32);
     modes.both_span = 64;
     let second = try_family(b"two-parts", few, first);
-    let third = try_family(b"medium-two-parts", medium, second);
+    let third = try_family(b"medium-two-parts", more, second);
     let fourth = try_family(b"level-two-parts", level, third);
     try_family(b"64-modes-two-parts", modes, fourth);
 }

@@ -4,7 +4,7 @@ use Prim.Native.Nat.{_-_}
 use native.Mathlib.Omega.{arith}
 use lib.ListN.{length}
 use borrow.Author.Needs.{needs}
-use Rattle.model.specs.Lists.{lists}
+use Rattle.model.specs.Lists.{Lists, lists}
 use Rattle.model.proofs.Arcs.{Copying, copying-none, copying-more, copying-unfit, copying-done, fitted-refused, fitted-yes}
 use Rattle.model.proofs.check_arcs.Statement.{statement}
 use Rattle.model.proofs.check_arcs.Tie as tie
@@ -16,13 +16,19 @@ Inv-loop n start k sources targets draws gains colours power arcs₀ i₀ arcs i
 abbrev μ-loop : tie.MeasureT-loop
 μ-loop n start k sources targets draws gains colours power arcs₀ i₀ arcs i = length sources - i
 
+-- from the power to the beginning, and the lists
+abbrev start : tie.After-two-to Inv-loop μ-loop → tie.Start Inv-loop μ-loop
+start c = c .before .before .before .before .before .before
+
+abbrev lists-of : tie.Start Inv-loop μ-loop → Lists
+lists-of s = lists (s .args .sources .now) (s .args .targets .now) (s .args .draws .now) (s .args .gains .now) (s .args .colours .now)
+
 two-to-requires : tie.Need-two-to-requires Inv-loop μ-loop
 two-to-requires c κs = search needs
 
 loop-holds : tie.Need-loop-holds Inv-loop μ-loop
 loop-holds c =
-    let a = c .before .before .before .before .before .before .args in
-    copying-none (a .n) (c .two-to .result) (lists (a .sources .now) (a .targets .now) (a .draws .now) (a .gains .now) (a .colours .now))
+    copying-none (start c .args .n) (c .two-to .result) (lists-of (start c))
 
 shared-slice-read-t18 : tie.Need-shared-slice-read-t18 Inv-loop μ-loop
 shared-slice-read-t18 c = search needs
@@ -57,8 +63,8 @@ refused-requires c κs = search needs
 returns : tie.Need-returns Inv-loop μ-loop
 returns c =
     let d = c .before .before .before .before .before .before .before .before .before in
-    let a = d .before .before .before .before .before .before .before .args in
-    let l = lists (a .sources .now) (a .targets .now) (a .draws .now) (a .gains .now) (a .colours .now) in
+    let a = start (d .before) .args in
+    let l = lists-of (start (d .before)) in
     c .refused .ensures
     ∙ fitted-refused (a .n) (a .start) (a .k) (d .before .two-to .result) l (d .before .two-to .ensures) _
     (copying-unfit (a .n) (d .before .two-to .result) l (d .loop .arcs) (d .loop .i) (d .loop .inv) _ (omega arith) refl
@@ -79,9 +85,9 @@ loop-less c = search needs
 loop-again : tie.Need-loop-again Inv-loop μ-loop
 loop-again c =
     let d = c .before .before .before .before .before .before .before .before in
-    let a = d .before .before .before .before .before .before .before .args in
-    let h = d .before .before .before .before .before .before .before .pre in
-    copying-more (a .n) (d .before .two-to .result) (lists (a .sources .now) (a .targets .now) (a .draws .now) (a .gains .now) (a .colours .now))
+    let a = start (d .before) .args in
+    let h = start (d .before) .pre in
+    copying-more (a .n) (d .before .two-to .result) (lists-of (start (d .before)))
     (d .loop .arcs) (d .loop .i) (d .loop .inv) _ (omega arith) (h .few-arcs) refl (sym (c .before .unfit-arc .ensures) ∙ c .if1 .left)
 
 cast-t33 : tie.Need-cast-t33 Inv-loop μ-loop
@@ -99,9 +105,9 @@ cast-t37 c = search needs
 returns-2 : tie.Need-returns-2 Inv-loop μ-loop
 returns-2 c =
     let d = c .before in
-    let a = d .before .before .before .before .before .before .before .args in
-    let h = d .before .before .before .before .before .before .before .pre in
-    let l = lists (a .sources .now) (a .targets .now) (a .draws .now) (a .gains .now) (a .colours .now) in
+    let a = start (d .before) .args in
+    let h = start (d .before) .pre in
+    let l = lists-of (start (d .before)) in
     let (e, f) = copying-done (a .n) (d .before .two-to .result) l (d .loop .arcs) (d .loop .i) (d .loop .inv) (c .loop-test .left) (h .equal) in
     fitted-yes (a .n) (a .start) (a .k) (d .before .two-to .result) l (d .before .two-to .ensures) (d .loop .arcs) e f
 

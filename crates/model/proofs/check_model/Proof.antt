@@ -1,7 +1,7 @@
 -- `model::check_model` meets its contract: the verdict on 1 to 4 decides who answers. Assumes nothing.
 use mathlib.Core.Path.{sym, _∙_}
 use borrow.Author.Needs.{needs}
-use Rattle.model.specs.Lists.{lists}
+use Rattle.model.specs.Lists.{Lists, lists}
 use Rattle.model.proofs.Fitness.{header-yes, fitted-through, fitted-stopped}
 use Rattle.model.proofs.check_model.Statement.{statement}
 use Rattle.model.proofs.check_model.Tie as tie
@@ -12,11 +12,18 @@ check-header-requires c κs = search needs
 enum-told : tie.Need-enum-told
 enum-told c = search needs
 
+-- from the check to the beginning, and the lists
+abbrev start : tie.After-check-header → tie.Start
+start d = d .before .before .before .before .before .before
+
+abbrev lists-of : tie.Start → Lists
+lists-of s = lists (s .args .sources .now) (s .args .targets .now) (s .args .draws .now) (s .args .gains .now) (s .args .colours .now)
+
 check-arcs-requires : tie.Need-check-arcs-requires
 check-arcs-requires c κs =
     let d = c .before .before in
-    let a = d .before .before .before .before .before .before .args in
-    header-yes (a .n) (a .start) (a .k) (lists (a .sources .now) (a .targets .now) (a .draws .now) (a .gains .now) (a .colours .now)) .0
+    let a = start d .args in
+    header-yes (a .n) (a .start) (a .k) (lists-of (start d)) .0
     (sym (d .check-header .ensures) ∙ c .enum-told .given .1)
 
 enum-known-header : tie.Need-enum-known-header
@@ -28,17 +35,17 @@ refused-requires c κs = search needs
 returns : tie.Need-returns
 returns c =
     let d = c .before .before .before in
-    let a = d .before .before .before .before .before .before .args in
+    let a = start d .args in
     c .check-arcs .ensures
-    ∙ fitted-through (a .n) (a .start) (a .k) (lists (a .sources .now) (a .targets .now) (a .draws .now) (a .gains .now) (a .colours .now))
+    ∙ fitted-through (a .n) (a .start) (a .k) (lists-of (start d))
     (sym (d .check-header .ensures) ∙ c .before .enum-told .given .1)
 
 returns-2 : tie.Need-returns-2
 returns-2 c =
     let d = c .before .before .before .before in
-    let a = d .before .before .before .before .before .before .args in
+    let a = start d .args in
     c .refused .ensures
-    ∙ fitted-stopped (a .n) (a .start) (a .k) (lists (a .sources .now) (a .targets .now) (a .draws .now) (a .gains .now) (a .colours .now)) _
+    ∙ fitted-stopped (a .n) (a .start) (a .k) (lists-of (start d)) _
     (sym (d .check-header .ensures) ∙ c .before .before .header .given .1)
 
 pub check-model-spec : {M : Type 1} → statement M
