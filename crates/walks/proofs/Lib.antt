@@ -2,6 +2,8 @@
 -- that a step is an energy function with the bound added.
 pub mod Sums
 pub mod Walks
+pub mod Cases
+pub mod Kept
 pub mod Weights
 pub mod Energy
 pub mod Charges

@@ -1,6 +1,7 @@
 -- What a reader must believe of the charge: the bounded step and walks of moves (BoundedStep, Walk), what they lose (Spill), what a weight means
 -- and the step with it (Weights), energy functions (Energy), and the words of the theory (Moves).
 pub mod BoundedStep
+pub mod Cases
 pub mod Walk
 pub mod Spill
 pub mod Weights

@@ -1,14 +1,19 @@
--- `walks::bounded_step` meets its contract: the sum that it makes is charge - draw + gain, cut off at the bound. Assumes nothing.
-use mathlib.Core.Path.{_≡_, refl, sym, ap, _∙_, subst}
-use Prim.Native.Nat.{ℕ, min, _+_, _-_}
+-- `walks::bounded_step` meets its contract: what it keeps of the charge under each case leads to the charge after the step. Assumes nothing.
+use mathlib.Core.Path.{_≡_, sym, ap, _∙_, subst}
+use mathlib.Core.Logic.{⊎-elim}
 use native.Mathlib.Omega.{arith}
-use lib.IntN.{ℤ, pos, _+ℤ_, _-ℤ_}
+use lib.IntN.{ℤ, pos, natAbs, _+ℤ_, _-ℤ_}
 use mir.Facts.{toZ-ofZ}
 use mir.Syntax.{w32}
 use mir.Val.{SFits, toZ, ofZ}
 use borrow.Author.Needs.{needs, sfits-of}
-use Rattle.walks.specs.BoundedStep.{Move}
-use Rattle.walks.proofs.Sums.{difference, drawn, cut, widened, widened-difference, change-sfits, room-sfits}
+use Rattle.walks.specs.declared.StepCase.{StepCase}
+use Rattle.walks.specs.declared.StepCase.the-variants.{TooLittle, Below, Exactly, Above}
+use Rattle.walks.specs.BoundedStep.{Move, after, lost}
+use Rattle.walks.specs.Cases.{Falls}
+use Rattle.walks.proofs.Cases.{to-equal, case-falls}
+use Rattle.walks.proofs.Kept.{Keeps, keeps-below, keeps-exactly, keeps-above}
+use Rattle.walks.proofs.Sums.{widened, change-word, room-fits, room-word}
 use Rattle.walks.proofs.Walks.{stepped-possible, stepped-impossible}
 use Rattle.walks.proofs.bounded_step.Statement.{statement}
 use Rattle.walks.proofs.bounded_step.Tie as tie
@@ -16,33 +21,8 @@ use Rattle.walks.proofs.bounded_step.Tie as tie
 abbrev move : tie.Start → Move
 move s = record { draw = s .args .draw; gain = s .args .gain }
 
-returns : tie.Need-returns
-returns c = let a = c .before .args in sym (stepped-impossible (a .bound) (move (c .before)) (a .charge) (c .if1 .taken))
-
-cast-change : tie.Need-cast-change
-cast-change c = search needs
-
-cast-change-2 : tie.Need-cast-change-2
-cast-change-2 c = search needs
-
-sub-change : tie.Need-sub-change
-sub-change c =
-    let f = c .before .fits in
-    subst (SFits w32) (sym (widened-difference (f .gain) (f .draw))) (change-sfits (f .gain) (f .draw))
-
--- the change, as the code makes it of gain and draw
-abbrev change : tie.Start → ℤ
-change s = toZ w32 (ofZ w32 (toZ w32 (s .args .gain) -ℤ toZ w32 (s .args .draw)))
-
-change-made : (s : tie.Start) → change s ≡ pos (s .args .gain) -ℤ pos (s .args .draw)
-change-made s = let f = s .fits in rw (widened (f .gain), widened (f .draw)) (toZ-ofZ (change-sfits (f .gain) (f .draw)))
-
--- what leads to the bound, as the code makes it
-abbrev room : tie.Start → ℤ
-room s = toZ w32 (s .args .bound) -ℤ change s
-
-room-made : (s : tie.Start) → room s ≡ pos (s .args .bound) -ℤ (pos (s .args .gain) -ℤ pos (s .args .draw))
-room-made s = rw (widened (s .fits .bound), change-made s) refl
+change-of-requires : tie.Need-change-of-requires
+change-of-requires c κs = search needs
 
 cast-room : tie.Need-cast-room
 cast-room c = search needs
@@ -50,89 +30,121 @@ cast-room c = search needs
 sub-room : tie.Need-sub-room
 sub-room c =
     let f = c .before .fits in
-    subst (SFits w32) (sym (room-made (c .before))) (room-sfits (f .bound) (f .gain) (f .draw))
+    room-fits (f .gain) (f .draw) (sfits-of (c .change-of .ok)) (c .change-of .ensures) (f .bound)
 
-cast-smaller : tie.Need-cast-smaller
-cast-smaller c = search needs
+step-case-requires : tie.Need-step-case-requires
+step-case-requires c κs = search needs
 
-smaller-requires : tie.Need-smaller-requires
-smaller-requires c κs = search needs
+-- what the case means
+falls : (c : tie.After-step-case) (x : StepCase) → c .step-case .result ≡ x → let s = c .before .before in Falls x (s .args .bound) (move s) (s .args .charge)
+falls c x q = let s = c .before .before in case-falls (s .args .bound) (move s) (s .args .charge) x .0 (sym (c .step-case .ensures) ∙ q)
 
--- charge - draw + gain, and the same cut off at the bound
-abbrev full : tie.Start → ℕ
-full s = s .args .charge - s .args .draw + s .args .gain
+enum-told : tie.Need-enum-told
+enum-told c = search needs
 
-abbrev reached : tie.Start → ℕ
-reached s = min (full s) (s .args .bound)
+returns : tie.Need-returns
+returns c =
+    let d = c .before .before in
+    let s = d .before .before in
+    sym (stepped-impossible (s .args .bound) (move s) (s .args .charge) (falls d TooLittle (c .enum-told .given .1)))
 
--- the sum and the whole, as the code makes them
-abbrev sum : tie.After-smaller → ℤ
-sum c = toZ w32 (ofZ w32 (c .smaller .result)) +ℤ change (c .before .before)
+enum-told-2 : tie.Need-enum-told-2
+enum-told-2 c = search needs
 
-sum-made : (c : tie.After-smaller) → sum c ≡ pos (reached (c .before .before))
+cast-kept : tie.Need-cast-kept
+cast-kept c = search needs
+
+enum-told-3 : tie.Need-enum-told-3
+enum-told-3 c = search needs
+
+enum-told-4 : tie.Need-enum-told-4
+enum-told-4 c = search needs
+
+-- from where the three possible cases meet to the change and to the start
+abbrev changed : tie.At-match-came → tie.After-change-of
+changed c = c .before .before
+
+abbrev start : tie.At-match-came → tie.Start
+start c = changed c .before
+
+-- what leads to the bound, as the code makes it
+abbrev room : tie.At-match-came → ℤ
+room c = toZ w32 (start c .args .bound) -ℤ toZ w32 (ofZ w32 (changed c .change-of .result))
+
+-- what is kept there leads to the charge after the step
+abbrev Kept : tie.At-match-came → ℤ → Type 0
+Kept c = let s = start c in Keeps (s .args .bound) (move s) (s .args .charge)
+
+charge-kept : (c : tie.At-match-came) → c .match .kept ≡ start c .args .charge → Kept c (pos (start c .args .charge)) → Kept c (toZ w32 (c .match .kept))
+charge-kept c q = subst (Kept c) (sym (ap (toZ w32) q ∙ widened (start c .fits .charge)))
+
+room-kept : (c : tie.At-match-came) → c .match .kept ≡ ofZ w32 (room c)
+    → (let a = start c .args in Kept c (pos (a .bound) -ℤ (pos (a .gain) -ℤ pos (a .draw))))
+    → Kept c (toZ w32 (c .match .kept))
+room-kept c q =
+    let d = changed c in
+    let f = d .before .fits in
+    let made = room-word (f .gain) (f .draw) (sfits-of (d .change-of .ok)) (d .change-of .ensures) (f .bound) in
+    subst (Kept c) (sym (ap (toZ w32) q ∙ made))
+
+kept : (c : tie.At-match-came) → Kept c (toZ w32 (c .match .kept))
+kept c =
+    ⊎-elim
+    (λ w. charge-kept c (w .2) (keeps-below (falls (c .before) Below (w .1 .given .1))))
+    (⊎-elim
+    (λ w. room-kept c (w .2) (keeps-exactly (falls (c .before) Exactly (w .1 .given .1))))
+    (λ w. room-kept c (w .2) (keeps-above (falls (c .before) Above (w .1 .given .1)))))
+    (c .match .came)
+
+-- the sum, and what is lost, as the code makes them
+abbrev sum : tie.At-match-came → ℤ
+sum c = toZ w32 (c .match .kept) +ℤ toZ w32 (ofZ w32 (changed c .change-of .result))
+
+sum-made : (c : tie.At-match-came) → let s = start c in sum c ≡ pos (after (s .args .bound) (move s) (s .args .charge))
 sum-made c =
-    let s = c .before .before in
-    let a = s .args in
-    let f = s .fits in
-    let result : toZ w32 (ofZ w32 (c .smaller .result)) ≡ c .smaller .result = toZ-ofZ (sfits-of (c .smaller .ok)) in
-    let word = toZ-ofZ (room-sfits (f .bound) (f .gain) (f .draw)) in
-    let smaller = simp (widened (f .charge), room-made s, word) at (c .smaller .ensures) in
-    rw (result, change-made s, smaller) (cut (a .bound) (a .charge) (a .gain) (a .draw) (c .before .if1 .left))
+    let d = changed c in
+    let f = d .before .fits in
+    ap {B = ℤ} (λ z. toZ w32 (c .match .kept) +ℤ z) (change-word (f .gain) (f .draw) (sfits-of (d .change-of .ok)) (d .change-of .ensures))
+    ∙ kept c .reaches
 
-add-sum : tie.Need-add-sum
-add-sum c = subst (SFits w32) (sym (sum-made c)) (sfits-of (omega (arith, c .before .before .fits .bound .fits)))
+add-reached : tie.Need-add-reached
+add-reached c = subst (SFits w32) (sym (sum-made c)) (sfits-of (omega (arith, start c .fits .bound .fits)))
 
-cast-whole : tie.Need-cast-whole
-cast-whole c = search needs
-
-abbrev whole : tie.After-smaller → ℤ
-whole c = toZ w32 (c .before .before .args .charge) +ℤ change (c .before .before)
-
-whole-made : (c : tie.After-smaller) → whole c ≡ pos (full (c .before .before))
-whole-made c =
-    let s = c .before .before in
-    let a = s .args in
-    rw (widened (s .fits .charge), change-made s) (drawn (a .charge) (a .gain) (a .draw) (c .before .if1 .left))
-
-add-whole : tie.Need-add-whole
-add-whole c =
-    let f = c .before .before .fits in
-    subst (SFits w32) (sym (whole-made c)) (sfits-of (omega (arith, f .charge .fits, f .gain .fits)))
-
--- the sum as a word, and what is lost
-sum-word : (c : tie.After-smaller) → toZ w32 (ofZ w32 (sum c)) ≡ pos (reached (c .before .before))
-sum-word c = toZ-ofZ (add-sum c) ∙ sum-made c
-
-abbrev lost : tie.After-smaller → ℤ
-lost c = toZ w32 (ofZ w32 (whole c)) -ℤ toZ w32 (ofZ w32 (sum c))
-
-lost-made : (c : tie.After-smaller) → lost c ≡ pos (full (c .before .before) - c .before .before .args .bound)
-lost-made c =
-    let s = c .before .before in
-    rw (sum-word c, toZ-ofZ (add-whole c), whole-made c) (difference (full s) (reached s) (omega arith) ∙ ap {B = ℤ} pos (omega arith))
+sum-word : (c : tie.At-match-came) → let s = start c in toZ w32 (ofZ w32 (sum c)) ≡ pos (after (s .args .bound) (move s) (s .args .charge))
+sum-word c = toZ-ofZ (add-reached c) ∙ sum-made c
 
 cast-reached : tie.Need-cast-reached
-cast-reached c = rw (sum-word c) (tt, record { fits = omega (arith, c .before .before .fits .bound .fits) })
+cast-reached c = rw (sum-word c) (tt, record { fits = omega (arith, start c .fits .bound .fits) })
+
+cast-lost : tie.Need-cast-lost
+cast-lost c = search needs
+
+abbrev rest : tie.At-match-came → ℤ
+rest c = toZ w32 (start c .args .charge) -ℤ toZ w32 (c .match .kept)
+
+rest-made : (c : tie.At-match-came) → let s = start c in rest c ≡ pos (lost (s .args .bound) (move s) (s .args .charge))
+rest-made c = ap {B = ℤ} (λ z. z -ℤ toZ w32 (c .match .kept)) (widened (start c .fits .charge)) ∙ kept c .loses
 
 sub-lost : tie.Need-sub-lost
 sub-lost c =
-    let f = c .before .before .fits in
-    subst (SFits w32) (sym (lost-made c)) (sfits-of (omega (arith, f .charge .fits, f .gain .fits)))
+    let f = start c .fits in
+    subst (SFits w32) (sym (rest-made c)) (sfits-of (omega (arith, f .charge .fits, f .gain .fits)))
 
-lost-word : (c : tie.After-smaller) → toZ w32 (ofZ w32 (lost c)) ≡ pos (full (c .before .before) - c .before .before .args .bound)
-lost-word c = toZ-ofZ (sub-lost c) ∙ lost-made c
+rest-word : (c : tie.At-match-came) → let s = start c in toZ w32 (ofZ w32 (rest c)) ≡ pos (lost (s .args .bound) (move s) (s .args .charge))
+rest-word c = toZ-ofZ (sub-lost c) ∙ rest-made c
 
-cast-lost : tie.Need-cast-lost
-cast-lost c = let f = c .before .before .fits in rw (lost-word c) (tt, record { fits = omega (arith, f .charge .fits, f .gain .fits) })
+cast-lost-2 : tie.Need-cast-lost-2
+cast-lost-2 c = let f = start c .fits in rw (rest-word c) (tt, record { fits = omega (arith, f .charge .fits, f .gain .fits) })
 
 returns-2 : tie.Need-returns-2
 returns-2 c =
-    let s = c .before .before in
-    rw (lost-word c, sum-word c) (sym (stepped-possible (s .args .bound) (move s) (s .args .charge) (c .before .if1 .left)))
+    let s = start c in
+    to-equal (ap natAbs (sum-word c)) (ap natAbs (rest-word c))
+    ∙ sym (stepped-possible (s .args .bound) (move s) (s .args .charge) (kept c .possible))
 
 pub bounded-step-spec : {M : Type 1} → statement M
 bounded-step-spec =
     tie.close (
-    tie.spec returns cast-change cast-change-2 sub-change cast-room sub-room cast-smaller smaller-requires add-sum cast-whole add-whole
-    cast-reached sub-lost cast-lost returns-2
+    tie.spec change-of-requires cast-room sub-room step-case-requires enum-told returns enum-told-2 cast-kept enum-told-3 enum-told-4 add-reached
+    cast-reached cast-lost sub-lost cast-lost-2 returns-2
     )

@@ -1,0 +1,101 @@
+-- `walks::step_case` meets its contract: its tests are the facts of the cases. Assumes nothing.
+use mathlib.Core.Path.{_≡_, sym, ap, _∙_, subst}
+use Prim.Native.Nat.{_+_, _-_}
+use native.Mathlib.Omega.{arith}
+use borrow.Author.Needs.{needs, sfits-of}
+use borrow.Author.Tests.{ltb-true, ltb-false}
+use lib.Dec.{ltb}
+use lib.IntN.{ℤ, pos, _+ℤ_, _-ℤ_}
+use lib.Signed.{ltZ}
+use mir.Syntax.{w32}
+use mir.Val.{SFits, toZ, ofZ}
+use Rattle.walks.specs.declared.StepCase.{StepCase}
+use Rattle.walks.specs.declared.StepCase.the-variants.{TooLittle, Below, Exactly, Above}
+use Rattle.walks.specs.BoundedStep.{Move}
+use Rattle.walks.specs.Cases.{Falls, stepCase}
+use Rattle.walks.proofs.Cases.{falls-case}
+use Rattle.walks.proofs.Sums.{tested, widened, whole-made, room-fits, room-word}
+use Rattle.walks.proofs.step_case.Statement.{statement}
+use Rattle.walks.proofs.step_case.Tie as tie
+
+abbrev move : tie.Start → Move
+move s = record { draw = s .args .draw; gain = s .args .gain }
+
+falls : (s : tie.Start) (x : StepCase) → Falls x (s .args .bound) (move s) (s .args .charge) → x ≡ stepCase (s .args .bound) (move s) (s .args .charge)
+falls s x f = sym (falls-case (s .args .bound) (move s) (s .args .charge) x f)
+
+returns : tie.Need-returns
+returns c = falls (c .before) TooLittle (c .if1 .taken)
+
+change-of-requires : tie.Need-change-of-requires
+change-of-requires c κs = search needs
+
+cast-room : tie.Need-cast-room
+cast-room c = search needs
+
+sub-room : tie.Need-sub-room
+sub-room c =
+    let f = c .before .before .fits in
+    room-fits (f .gain) (f .draw) (sfits-of (c .change-of .ok)) (c .change-of .ensures) (f .bound)
+
+cast-if2 : tie.Need-cast-if2
+cast-if2 c = search needs
+
+-- the charge set against what leads to the bound
+abbrev room : tie.After-change-of → ℤ
+room c = toZ w32 (c .before .before .args .bound) -ℤ toZ w32 (ofZ w32 (c .change-of .result))
+
+below : (c : tie.After-change-of) → let a = c .before .before .args in
+    ltZ (toZ w32 (a .charge)) (toZ w32 (ofZ w32 (room c))) ≡ ltb (a .charge + a .gain) (a .bound + a .draw)
+below c =
+    let a = c .before .before .args in
+    let f = c .before .before .fits in
+    rw (widened (f .charge), room-word (f .gain) (f .draw) (sfits-of (c .change-of .ok)) (c .change-of .ensures) (f .bound))
+    (tested (a .bound) (a .charge) (a .gain) (a .draw))
+
+returns-2 : tie.Need-returns-2
+returns-2 c =
+    let s = c .before .before .before in
+    let a = s .args in
+    let h = c .before .before .if1 .left in
+    let k = ltb-true (a .charge + a .gain) (a .bound + a .draw) (sym (below (c .before)) ∙ c .if2 .taken) in
+    falls s Below (h, omega (arith, h, k))
+
+cast-whole : tie.Need-cast-whole
+cast-whole c = search needs
+
+-- charge - draw + gain
+whole : (c : tie.After-change-of) → let a = c .before .before .args in
+    toZ w32 (a .charge) +ℤ toZ w32 (ofZ w32 (c .change-of .result)) ≡ pos (a .charge - a .draw + a .gain)
+whole c =
+    let f = c .before .before .fits in
+    whole-made (f .gain) (f .draw) (sfits-of (c .change-of .ok)) (c .change-of .ensures) (f .charge) (c .before .if1 .left)
+
+add-whole : tie.Need-add-whole
+add-whole c =
+    let f = c .before .before .before .fits in
+    subst (SFits w32) (sym (whole (c .before))) (sfits-of (omega (arith, f .charge .fits, f .gain .fits)))
+
+cast-if3 : tie.Need-cast-if3
+cast-if3 c = search needs
+
+returns-3 : tie.Need-returns-3
+returns-3 c =
+    let d = c .before .before in
+    falls (d .before .before) Exactly (d .before .if1 .left, sym (ap (ofZ w32) (whole d)) ∙ c .if3 .taken)
+
+returns-4 : tie.Need-returns-4
+returns-4 c =
+    let d = c .before .before in
+    let s = d .before .before in
+    let a = s .args in
+    let h = d .before .if1 .left in
+    let k = ltb-false (a .charge + a .gain) (a .bound + a .draw) (sym (below d) ∙ c .before .if2 .left) in
+    let other : (a .charge - a .draw + a .gain ≡ a .bound) → ⊥ = λ q. c .if3 .left (ap (ofZ w32) (whole d) ∙ q) in
+    falls s Above (h, omega (arith, h, k, other))
+
+pub step-case-spec : {M : Type 1} → statement M
+step-case-spec =
+    tie.close (
+    tie.spec returns change-of-requires cast-room sub-room cast-if2 returns-2 cast-whole add-whole cast-if3 returns-3 returns-4
+    )
