@@ -243,5 +243,6 @@ void test_random_searches(unsigned long models);
 void test_random_scaled(unsigned long models);
 void test_random_weights(unsigned long models);
 void test_random_large_weights(unsigned long models);
+void test_random_cases(unsigned long moves);
 
 #endif

@@ -1,4 +1,4 @@
-/* Ask 4: an arc draws first and then gains. Refusal 5 of one arc is in cases.c, and random moves are in random.c, sizes.c and split.c. */
+/* Asks 4 and 10: an arc draws first and then gains, and the cases of a step. Refusal 5 of one arc is in cases.c, and random moves are in random.c, sizes.c and split.c. */
 #include "calls.h"
 
 /* One mode with one arc, in these lists. */
@@ -120,19 +120,28 @@ void test_draw_first(void)
     leads_to("far below the bound: no difference", 4, 3, 5, 10, 4, 0);
 }
 
-/* A move from this charge with every small gain, by Ask 4's own words. */
+/* A move from this charge, by the case of Ask 10 that it falls under. */
+static void by_case(uint32_t draw, uint32_t gain, uint32_t charge, uint32_t b)
+{
+    uint32_t sum = charge - draw + gain;
+
+    if (charge < draw)
+        too_little("too little charge", draw, gain, charge, b);
+    else if (sum < b)
+        leads_to("below the bound", draw, gain, charge, b, sum, 0);
+    else if (sum == b)
+        leads_to("exactly the bound", draw, gain, charge, b, b, 0);
+    else
+        leads_to("above the bound", draw, gain, charge, b, b, sum - b);
+}
+
+/* A move with every small gain. */
 static void every_gain(uint32_t draw, uint32_t charge, uint32_t b, uint32_t most)
 {
     uint32_t gain;
 
-    for (gain = 0; gain <= most; gain++) {
-        uint32_t sum = charge - draw + gain;
-
-        if (charge < draw)
-            too_little("a small move", draw, gain, charge, b);
-        else
-            leads_to("a small move", draw, gain, charge, b, sum < b ? sum : b, sum > b ? sum - b : 0);
-    }
+    for (gain = 0; gain <= most; gain++)
+        by_case(draw, gain, charge, b);
 }
 
 /* Every small move from every charge under every small bound. */
@@ -145,6 +154,29 @@ void test_small_moves(void)
         for (charge = 0; charge <= b; charge++)
             for (draw = 0; draw <= MOVE; draw++)
                 every_gain(draw, charge, b, MOVE);
+}
+
+/* A move from the charges next to this one, as far as there are any up to the bound. */
+static void next_to(uint32_t draw, uint32_t gain, int64_t charge, uint32_t b)
+{
+    int64_t by;
+
+    for (by = -1; by <= 1; by++)
+        if (charge + by >= 0 && charge + by <= (int64_t)b)
+            by_case(draw, gain, (uint32_t)(charge + by), b);
+}
+
+/* Random moves of every size from where the case changes: the draw, and the charge that leads exactly to the bound. */
+void test_random_cases(unsigned long moves)
+{
+    unsigned long i;
+
+    for (i = 0; i < moves; i++) {
+        uint32_t b = below(CHARGEPLAN_BOUND_MOST + 1), draw = below(b + 2), gain = below(CHARGEPLAN_GAIN_MOST + 1);
+
+        next_to(draw, gain, draw, b);
+        next_to(draw, gain, (int64_t)b + draw - gain, b);
+    }
 }
 
 /* The greatest draws and gains, and totals near 2^64: what is drawn first is not lost. */

@@ -57,6 +57,11 @@ static void test_random_large_models_by_weights(void)
     test_random_large_weights(random_models / 200);
 }
 
+static void test_random_cases_of_a_step(void)
+{
+    test_random_cases(random_models / 4);
+}
+
 static const struct {
     const char *name;
     void (*run)(void);
@@ -112,6 +117,7 @@ static const struct {
     {"random models scaled up, and searched", test_random_models_scaled},
     {"random models and plans, by weights", test_random_models_by_weights},
     {"random models with many arcs and every weight, by weights", test_random_large_models_by_weights},
+    {"random steps where the case changes", test_random_cases_of_a_step},
 };
 
 int main(int argc, char **argv)

@@ -1,9 +1,9 @@
--- The laws of walks, one idea a file; Sums serves the proof of the code, Weights says that the step with a weight is the step by its move, Energy
--- that a step is an energy function with the bound added.
+-- The laws of walks, one idea a file; Sums and KeptCharge serve the proofs of the code, Cases says that a step falls under exactly one case, Weights that the
+-- step with a weight is the step by its move, Energy that a step is an energy function with the bound added.
 pub mod Sums
 pub mod Walks
 pub mod Cases
-pub mod Kept
+pub mod KeptCharge
 pub mod Weights
 pub mod Energy
 pub mod Charges

@@ -1,5 +1,5 @@
--- What a reader must believe of the charge: the bounded step and walks of moves (BoundedStep, Walk), what they lose (Spill), what a weight means
--- and the step with it (Weights), energy functions (Energy), and the words of the theory (Moves).
+-- What a reader must believe of the charge: the bounded step, its cases and walks of moves (BoundedStep, Cases, Walk), what they lose (Spill), what a
+-- weight means and the step with it (Weights), energy functions (Energy), and the words of the theory (Moves).
 pub mod BoundedStep
 pub mod Cases
 pub mod Walk

@@ -12,7 +12,7 @@ use Rattle.walks.specs.declared.StepCase.the-variants.{TooLittle, Below,
 use Rattle.walks.specs.BoundedStep.{Move, after, lost}
 use Rattle.walks.specs.Cases.{Falls}
 use Rattle.walks.proofs.Cases.{to-equal, case-falls}
-use Rattle.walks.proofs.Kept.{Keeps, keeps-below, keeps-exactly, keeps-above}
+use Rattle.walks.proofs.KeptCharge.{roomOf, KeptCharge, below-kept, exactly-kept, above-kept}
 use Rattle.walks.proofs.Sums.{widened, change-word, room-fits, room-word}
 use Rattle.walks.proofs.Walks.{stepped-possible, stepped-impossible}
 use Rattle.walks.proofs.bounded_step.Statement.{statement}
@@ -71,17 +71,16 @@ start c = changed c .before
 abbrev room : tie.At-match-came → ℤ
 room c = toZ w32 (start c .args .bound) -ℤ toZ w32 (ofZ w32 (changed c .change-of .result))
 
--- what is kept there leads to the charge after the step
+-- what is kept there leads to the charge after the step ..
 abbrev Kept : tie.At-match-came → ℤ → Type 0
-Kept c = let s = start c in Keeps (s .args .bound) (move s) (s .args .charge)
+Kept c = let s = start c in KeptCharge (s .args .bound) (move s) (s .args .charge)
 
-charge-kept : (c : tie.At-match-came) → c .match .kept ≡ start c .args .charge → Kept c (pos (start c .args .charge)) → Kept c (toZ w32 (c .match .kept))
-charge-kept c q = subst (Kept c) (sym (ap (toZ w32) q ∙ widened (start c .fits .charge)))
+-- .. where it is the charge, and where it is what leads to the bound
+by-charge : (c : tie.At-match-came) → c .match .kept ≡ start c .args .charge → Kept c (pos (start c .args .charge)) → Kept c (toZ w32 (c .match .kept))
+by-charge c q = subst (Kept c) (sym (ap (toZ w32) q ∙ widened (start c .fits .charge)))
 
-room-kept : (c : tie.At-match-came) → c .match .kept ≡ ofZ w32 (room c)
-    → (let a = start c .args in Kept c (pos (a .bound) -ℤ (pos (a .gain) -ℤ pos (a .draw))))
-    → Kept c (toZ w32 (c .match .kept))
-room-kept c q =
+by-room : (c : tie.At-match-came) → c .match .kept ≡ ofZ w32 (room c) → Kept c (roomOf (start c .args .bound) (move (start c))) → Kept c (toZ w32 (c .match .kept))
+by-room c q =
     let d = changed c in
     let f = d .before .fits in
     let made = room-word (f .gain) (f .draw) (sfits-of (d .change-of .ok)) (d .change-of .ensures) (f .bound) in
@@ -90,10 +89,10 @@ room-kept c q =
 kept : (c : tie.At-match-came) → Kept c (toZ w32 (c .match .kept))
 kept c =
     ⊎-elim
-    (λ w. charge-kept c (w .2) (keeps-below (falls (c .before) Below (w .1 .given .1))))
+    (λ w. by-charge c (w .2) (below-kept (falls (c .before) Below (w .1 .given .1))))
     (⊎-elim
-    (λ w. room-kept c (w .2) (keeps-exactly (falls (c .before) Exactly (w .1 .given .1))))
-    (λ w. room-kept c (w .2) (keeps-above (falls (c .before) Above (w .1 .given .1)))))
+    (λ w. by-room c (w .2) (exactly-kept (falls (c .before) Exactly (w .1 .given .1))))
+    (λ w. by-room c (w .2) (above-kept (falls (c .before) Above (w .1 .given .1)))))
     (c .match .came)
 
 -- the sum, and what is lost, as the code makes them

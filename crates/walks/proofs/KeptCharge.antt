@@ -8,25 +8,29 @@ use Rattle.walks.specs.BoundedStep.{Move, after, lost}
 use Rattle.walks.specs.Cases.{Falls}
 use Rattle.walks.proofs.Sums.{difference, drawn, room}
 
+-- the charge that leads exactly to the bound, which may be below 0
+abbrev pub roomOf : ℕ → Move → ℤ
+roomOf b m = pos b -ℤ (pos (m .gain) -ℤ pos (m .draw))
+
 -- k, kept of the charge e, leads to the charge after the step, and the rest of e is what the step loses
-pub record Keeps (b : ℕ) (m : Move) (e : ℕ) (k : ℤ) : Type 0 where
+pub record KeptCharge (b : ℕ) (m : Move) (e : ℕ) (k : ℤ) : Type 0 where
   pub possible : m .draw ≤ e
   pub reaches : k +ℤ (pos (m .gain) -ℤ pos (m .draw)) ≡ pos (after b m e)
   pub loses : pos e -ℤ k ≡ pos (lost b m e)
 
 module _ {b : ℕ} {m : Move} {e : ℕ} where
   -- below the bound all of the charge is kept ..
-  pub keeps-below : Falls Below b m e → Keeps b m e (pos e)
-  keeps-below (h, k) =
+  pub below-kept : Falls Below b m e → KeptCharge b m e (pos e)
+  below-kept (h, k) =
       record {
         possible = h;
         reaches = drawn e (m .gain) (m .draw) h ∙ ap {B = ℤ} pos (omega arith);
         loses = difference e e (omega arith) ∙ ap {B = ℤ} pos (omega arith);
       }
 
-  -- .. and else what leads exactly to the bound
-  keeps-room : m .draw ≤ e → b ≤ e - m .draw + m .gain → Keeps b m e (pos b -ℤ (pos (m .gain) -ℤ pos (m .draw)))
-  keeps-room h k =
+  -- .. and else as much as leads exactly to the bound
+  room-kept : m .draw ≤ e → b ≤ e - m .draw + m .gain → KeptCharge b m e (roomOf b m)
+  room-kept h k =
       let full = b + m .draw in
       record {
         possible = h;
@@ -36,8 +40,8 @@ module _ {b : ℕ} {m : Move} {e : ℕ} where
             ∙ ap {B = ℤ} pos (omega arith);
       }
 
-  pub keeps-exactly : Falls Exactly b m e → Keeps b m e (pos b -ℤ (pos (m .gain) -ℤ pos (m .draw)))
-  keeps-exactly (h, k) = keeps-room h (omega (arith, k))
+  pub exactly-kept : Falls Exactly b m e → KeptCharge b m e (roomOf b m)
+  exactly-kept (h, k) = room-kept h (omega (arith, k))
 
-  pub keeps-above : Falls Above b m e → Keeps b m e (pos b -ℤ (pos (m .gain) -ℤ pos (m .draw)))
-  keeps-above (h, k) = keeps-room h (omega (arith, k))
+  pub above-kept : Falls Above b m e → KeptCharge b m e (roomOf b m)
+  above-kept (h, k) = room-kept h (omega (arith, k))
