@@ -63,6 +63,7 @@ static const struct family families[] = {
     {"judging, 65,000 arcs, many steps cut off at the bound", make_steep_plan, 16, 0, 65000},
     {"search, 64 modes, 255 arcs with both parts, with a plan", make_64_modes_both, 16, 0, 0},
     {"judging, 65,000 arcs with both parts", make_plan_both, 16, 0, 65000},
+    {"judging, 65,000 arcs, below, exactly and above the bound", make_low_bound_plan, 16, 0, 65000},
 };
 
 /* Allocated once: the inputs of a family, their plans to be judged, the buffers of search, and what the library left in those. */

@@ -188,22 +188,27 @@ static bool make_arcs(struct input *in)
     return true;
 }
 
-static void make_model_and_arcs(struct input *in, int32_t weight)
+static void make_model_and_arcs(struct input *in, int32_t weight, uint32_t b)
 {
     do {
-        set_numbers(in, 8, 4, 4095, 8191);
+        set_numbers(in, 8, 4, b / 2, b);
         add_random_arcs(in, 255, -weight, weight, 2);
     } while (!make_arcs(in));
 }
 
 void make_plan(struct input *in)
 {
-    make_model_and_arcs(in, 1000);
+    make_model_and_arcs(in, 1000, 8191);
 }
 
 void make_steep_plan(struct input *in)
 {
-    make_model_and_arcs(in, 8191);
+    make_model_and_arcs(in, 8191, 8191);
+}
+
+void make_low_bound_plan(struct input *in)
+{
+    make_model_and_arcs(in, 2, 4);
 }
 
 void make_64_modes_both(struct input *in)

@@ -76,6 +76,9 @@ void make_plan(struct input *in);
 /* The same with weights from -8,191 to 8,191: many steps are cut off at the bound. */
 void make_steep_plan(struct input *in);
 
+/* The same with weights from -2 to 2 and b 4: steps below the bound, exactly to the bound and above it, in random order. */
+void make_low_bound_plan(struct input *in);
+
 /* As make_64_modes; each arc draws up to 100 and then gains up to 60. */
 void make_64_modes_both(struct input *in);
 

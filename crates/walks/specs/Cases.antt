@@ -38,10 +38,11 @@ stepIn Below b m e = To (e - m .draw + m .gain) 0
 stepIn Exactly b m e = To b 0
 stepIn Above b m e = To b (e - m .draw + m .gain - b)
 
--- the case of document 001's sum, the charge e and a weight w
+-- the case of document 001's sum, which may be below 0
 abbrev pub sumCase : ℕ → ℤ → StepCase
 sumCase b (pos x) = boundCase b x
 sumCase b (negsuc x) = TooLittle
 
+-- the case of the charge e and a weight w, whose sum is e + w
 unfoldable pub weightCase : ℕ → ℤ → ℕ → StepCase
 weightCase b w e = sumCase b (pos e +ℤ w)

@@ -26,9 +26,9 @@ fn change_of(draw: u16, gain: u16) -> i32
     (gain as i32) - (draw as i32)
 }
 
-// The case that charge, draw, gain and bound fall under, for all of them. `room` is the charge that would lead exactly to the bound. The charge is
-// compared with it, and not the whole sum with the bound, so that the next step of a walk waits for one operation less; the change is used twice, so
-// that the compiler shares it and the room with bounded_step.
+// The case that charge, draw, gain and bound fall under, for all of them. `room` is the charge that leads exactly to the bound. The charge is compared
+// with it, and not the whole sum with the bound, so that the next step of a walk waits for one operation less. The change is used twice, so that the
+// compiler shares it and the room with bounded_step.
 pub fn step_case(charge: u16, draw: u16, gain: u16, bound: u16) -> StepCase
     ensures { λ r. ⌜ r ≡ stepCase bound (record { draw = draw; gain = gain }) charge ⌝ }
 {
@@ -48,8 +48,8 @@ pub fn step_case(charge: u16, draw: u16, gain: u16, bound: u16) -> StepCase
 }
 
 // A step on an arc with this draw and this gain: possible only where the charge is at least the draw, and then to the smaller of
-// charge − draw + gain and the bound, with what the bound cut off. For all charges, draws, gains and bounds. Of the charge is kept what leads to the
-// bound at most, before gain and draw are counted, so that no branch hangs on the bound.
+// charge − draw + gain and the bound, with what the bound cut off. For all charges, draws, gains and bounds. Below the bound all of the charge is kept,
+// else as much as leads exactly to the bound, and then the change is added: so no branch hangs on the bound.
 pub fn bounded_step(charge: u16, draw: u16, gain: u16, bound: u16) -> Step
     ensures { λ r. ⌜ r ≡ stepped bound (record { draw = draw; gain = gain }) charge ⌝ }
 {

@@ -1,6 +1,6 @@
 -- `walks::step_case` meets its contract: its tests are the facts of the cases. Assumes nothing.
 use mathlib.Core.Path.{_≡_, sym, ap, _∙_, subst}
-use Prim.Native.Nat.{_+_, _-_}
+use Prim.Native.Nat.{_+_, _-_, _≤_}
 use native.Mathlib.Omega.{arith}
 use borrow.Author.Needs.{needs, sfits-of}
 use borrow.Author.Tests.{ltb-true, ltb-false}
@@ -33,66 +33,69 @@ change-of-requires c κs = search needs
 cast-room : tie.Need-cast-room
 cast-room c = search needs
 
+-- from the change to the start, and that the charge is at least the draw
+abbrev start : tie.After-change-of → tie.Start
+start d = d .before .before
+
+possible : (d : tie.After-change-of) → start d .args .draw ≤ start d .args .charge
+possible d = d .before .if1 .left
+
 sub-room : tie.Need-sub-room
-sub-room c =
-    let f = c .before .before .fits in
-    room-fits (f .gain) (f .draw) (sfits-of (c .change-of .ok)) (c .change-of .ensures) (f .bound)
+sub-room d = let f = start d .fits in room-fits (f .gain) (f .draw) (sfits-of (d .change-of .ok)) (d .change-of .ensures) (f .bound)
 
 cast-if2 : tie.Need-cast-if2
 cast-if2 c = search needs
 
 -- the charge set against what leads to the bound
 abbrev room : tie.After-change-of → ℤ
-room c = toZ w32 (c .before .before .args .bound) -ℤ toZ w32 (ofZ w32 (c .change-of .result))
+room d = toZ w32 (start d .args .bound) -ℤ toZ w32 (ofZ w32 (d .change-of .result))
 
-below : (c : tie.After-change-of) → let a = c .before .before .args in
-    ltZ (toZ w32 (a .charge)) (toZ w32 (ofZ w32 (room c))) ≡ ltb (a .charge + a .gain) (a .bound + a .draw)
-below c =
-    let a = c .before .before .args in
-    let f = c .before .before .fits in
-    rw (widened (f .charge), room-word (f .gain) (f .draw) (sfits-of (c .change-of .ok)) (c .change-of .ensures) (f .bound))
+below : (d : tie.After-change-of) → let a = start d .args in
+    ltZ (toZ w32 (a .charge)) (toZ w32 (ofZ w32 (room d))) ≡ ltb (a .charge + a .gain) (a .bound + a .draw)
+below d =
+    let a = start d .args in
+    let f = start d .fits in
+    rw (widened (f .charge), room-word (f .gain) (f .draw) (sfits-of (d .change-of .ok)) (d .change-of .ensures) (f .bound))
     (tested (a .bound) (a .charge) (a .gain) (a .draw))
 
 returns-2 : tie.Need-returns-2
 returns-2 c =
-    let s = c .before .before .before in
-    let a = s .args in
-    let h = c .before .before .if1 .left in
-    let k = ltb-true (a .charge + a .gain) (a .bound + a .draw) (sym (below (c .before)) ∙ c .if2 .taken) in
-    falls s Below (h, omega (arith, h, k))
+    let d = c .before in
+    let a = start d .args in
+    let h = possible d in
+    let k = ltb-true (a .charge + a .gain) (a .bound + a .draw) (sym (below d) ∙ c .if2 .taken) in
+    falls (start d) Below (h, omega (arith, h, k))
 
 cast-whole : tie.Need-cast-whole
 cast-whole c = search needs
 
 -- charge - draw + gain
-whole : (c : tie.After-change-of) → let a = c .before .before .args in
-    toZ w32 (a .charge) +ℤ toZ w32 (ofZ w32 (c .change-of .result)) ≡ pos (a .charge - a .draw + a .gain)
-whole c =
-    let f = c .before .before .fits in
-    whole-made (f .gain) (f .draw) (sfits-of (c .change-of .ok)) (c .change-of .ensures) (f .charge) (c .before .if1 .left)
+whole : (d : tie.After-change-of) → let a = start d .args in
+    toZ w32 (a .charge) +ℤ toZ w32 (ofZ w32 (d .change-of .result)) ≡ pos (a .charge - a .draw + a .gain)
+whole d =
+    let f = start d .fits in
+    whole-made (f .gain) (f .draw) (sfits-of (d .change-of .ok)) (d .change-of .ensures) (f .charge) (possible d)
 
 add-whole : tie.Need-add-whole
 add-whole c =
-    let f = c .before .before .before .fits in
-    subst (SFits w32) (sym (whole (c .before))) (sfits-of (omega (arith, f .charge .fits, f .gain .fits)))
+    let d = c .before in
+    let f = start d .fits in
+    subst (SFits w32) (sym (whole d)) (sfits-of (omega (arith, f .charge .fits, f .gain .fits)))
 
 cast-if3 : tie.Need-cast-if3
 cast-if3 c = search needs
 
 returns-3 : tie.Need-returns-3
-returns-3 c =
-    let d = c .before .before in
-    falls (d .before .before) Exactly (d .before .if1 .left, sym (ap (ofZ w32) (whole d)) ∙ c .if3 .taken)
+returns-3 c = let d = c .before .before in falls (start d) Exactly (possible d, sym (ap (ofZ w32) (whole d)) ∙ c .if3 .taken)
 
 returns-4 : tie.Need-returns-4
 returns-4 c =
     let d = c .before .before in
-    let s = d .before .before in
-    let a = s .args in
-    let h = d .before .if1 .left in
+    let a = start d .args in
+    let h = possible d in
     let k = ltb-false (a .charge + a .gain) (a .bound + a .draw) (sym (below d) ∙ c .before .if2 .left) in
     let other : (a .charge - a .draw + a .gain ≡ a .bound) → ⊥ = λ q. c .if3 .left (ap (ofZ w32) (whole d) ∙ q) in
-    falls s Above (h, omega (arith, h, k, other))
+    falls (start d) Above (h, omega (arith, h, k, other))
 
 pub step-case-spec : {M : Type 1} → statement M
 step-case-spec =
