@@ -1,4 +1,7 @@
-/* Asks 4 and 10: an arc draws first and then gains, and the cases of a step. Refusal 5 of one arc is in cases.c, and random moves are in random.c, sizes.c and split.c. */
+/*
+ * Asks 4 and 10: an arc draws first and then gains, and the cases of a step. Refusal 5 of one arc is in cases.c, and random moves of whole
+ * models are in random.c, sizes.c and split.c.
+ */
 #include "calls.h"
 
 /* One mode with one arc, in these lists. */
