@@ -61,32 +61,38 @@ tested b e g d =
 pub widened : {n : ℕ} → Fits w16 n → toZ w32 n ≡ pos n
 widened f = toZ-pos w32 (omega (arith, f .fits))
 
+-- g - d, as the code makes it of two words ..
 module _ {g d : ℕ} (gain : Fits w16 g) (draw : Fits w16 d) where
-  -- g - d, as the code makes it of two words
   pub change-made : toZ w32 g -ℤ toZ w32 d ≡ pos g -ℤ pos d
   change-made = rw (widened gain, widened draw) refl
 
   pub change-fits : SFits w32 (toZ w32 g -ℤ toZ w32 d)
   change-fits = subst (SFits w32) (sym change-made) (difference-sfits g d (omega (arith, gain .fits)) (omega (arith, draw .fits)))
 
-  -- as a function hands it back, it is z
-  module _ {z : ℤ} (fits : SFits w32 z) (made : z ≡ pos g -ℤ pos d) where
-    pub change-word : toZ w32 (ofZ w32 z) ≡ pos g -ℤ pos d
-    change-word = toZ-ofZ fits ∙ made
+-- .. and z, which a function handed back for it
+pub record Change (g d : ℕ) (z : ℤ) : Type 0 where
+  pub gain : Fits w16 g
+  pub draw : Fits w16 d
+  pub result : SFits w32 z
+  pub made : z ≡ pos g -ℤ pos d
 
-    -- e + (g - d)
-    pub whole-made : {e : ℕ} → Fits w16 e → d ≤ e → toZ w32 e +ℤ toZ w32 (ofZ w32 z) ≡ pos (e - d + g)
-    whole-made {e} f h = rw (widened f, change-word) (drawn e g d h)
+module _ {g d : ℕ} {z : ℤ} (change : Change g d z) where
+  pub change-word : toZ w32 (ofZ w32 z) ≡ pos g -ℤ pos d
+  change-word = toZ-ofZ (change .result) ∙ change .made
 
-    -- b - (g - d)
-    module _ {b : ℕ} (bound : Fits w16 b) where
-      room-made : toZ w32 b -ℤ toZ w32 (ofZ w32 z) ≡ pos b -ℤ (pos g -ℤ pos d)
-      room-made = rw (widened bound, change-word) refl
+  -- e + (g - d)
+  pub whole-made : {e : ℕ} → Fits w16 e → d ≤ e → toZ w32 e +ℤ toZ w32 (ofZ w32 z) ≡ pos (e - d + g)
+  whole-made {e} f h = rw (widened f, change-word) (drawn e g d h)
 
-      pub room-fits : SFits w32 (toZ w32 b -ℤ toZ w32 (ofZ w32 z))
-      room-fits =
-          subst (SFits w32) (sym (room-made ∙ room b g d))
-          (difference-sfits (b + d) g (omega (arith, bound .fits, draw .fits)) (omega (arith, gain .fits)))
+  -- b - (g - d)
+  module _ {b : ℕ} (bound : Fits w16 b) where
+    room-made : toZ w32 b -ℤ toZ w32 (ofZ w32 z) ≡ pos b -ℤ (pos g -ℤ pos d)
+    room-made = rw (widened bound, change-word) refl
 
-      pub room-word : toZ w32 (ofZ w32 (toZ w32 b -ℤ toZ w32 (ofZ w32 z))) ≡ pos b -ℤ (pos g -ℤ pos d)
-      room-word = toZ-ofZ room-fits ∙ room-made
+    pub room-fits : SFits w32 (toZ w32 b -ℤ toZ w32 (ofZ w32 z))
+    room-fits =
+        subst (SFits w32) (sym (room-made ∙ room b g d))
+        (difference-sfits (b + d) g (omega (arith, bound .fits, change .draw .fits)) (omega (arith, change .gain .fits)))
+
+    pub room-word : toZ w32 (ofZ w32 (toZ w32 b -ℤ toZ w32 (ofZ w32 z))) ≡ pos b -ℤ (pos g -ℤ pos d)
+    room-word = toZ-ofZ room-fits ∙ room-made

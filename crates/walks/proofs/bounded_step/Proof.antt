@@ -13,7 +13,7 @@ use Rattle.walks.specs.BoundedStep.{Move, after, lost}
 use Rattle.walks.specs.Cases.{Falls}
 use Rattle.walks.proofs.Cases.{to-equal, case-falls}
 use Rattle.walks.proofs.KeptCharge.{roomOf, KeptCharge, below-kept, exactly-kept, above-kept}
-use Rattle.walks.proofs.Sums.{widened, change-word, room-fits, room-word}
+use Rattle.walks.proofs.Sums.{widened, Change, change-word, room-fits, room-word}
 use Rattle.walks.proofs.Walks.{stepped-possible, stepped-impossible}
 use Rattle.walks.proofs.bounded_step.Statement.{statement}
 use Rattle.walks.proofs.bounded_step.Tie as tie
@@ -27,10 +27,13 @@ change-of-requires c κs = search needs
 cast-room : tie.Need-cast-room
 cast-room c = search needs
 
+change : (d : tie.After-change-of) → Change (d .before .args .gain) (d .before .args .draw) (d .change-of .result)
+change d =
+    let f = d .before .fits in
+    record { gain = f .gain; draw = f .draw; result = sfits-of (d .change-of .ok); made = d .change-of .ensures }
+
 sub-room : tie.Need-sub-room
-sub-room c =
-    let f = c .before .fits in
-    room-fits (f .gain) (f .draw) (sfits-of (c .change-of .ok)) (c .change-of .ensures) (f .bound)
+sub-room d = room-fits (change d) (d .before .fits .bound)
 
 step-case-requires : tie.Need-step-case-requires
 step-case-requires c κs = search needs
@@ -80,11 +83,7 @@ by-charge : (c : tie.At-match-came) → c .match .kept ≡ start c .args .charge
 by-charge c q = subst (Kept c) (sym (ap (toZ w32) q ∙ widened (start c .fits .charge)))
 
 by-room : (c : tie.At-match-came) → c .match .kept ≡ ofZ w32 (room c) → Kept c (roomOf (start c .args .bound) (move (start c))) → Kept c (toZ w32 (c .match .kept))
-by-room c q =
-    let d = changed c in
-    let f = d .before .fits in
-    let made = room-word (f .gain) (f .draw) (sfits-of (d .change-of .ok)) (d .change-of .ensures) (f .bound) in
-    subst (Kept c) (sym (ap (toZ w32) q ∙ made))
+by-room c q = subst (Kept c) (sym (ap (toZ w32) q ∙ room-word (change (changed c)) (start c .fits .bound)))
 
 kept : (c : tie.At-match-came) → Kept c (toZ w32 (c .match .kept))
 kept c =
@@ -100,11 +99,7 @@ abbrev sum : tie.At-match-came → ℤ
 sum c = toZ w32 (c .match .kept) +ℤ toZ w32 (ofZ w32 (changed c .change-of .result))
 
 sum-made : (c : tie.At-match-came) → let s = start c in sum c ≡ pos (after (s .args .bound) (move s) (s .args .charge))
-sum-made c =
-    let d = changed c in
-    let f = d .before .fits in
-    ap {B = ℤ} (λ z. toZ w32 (c .match .kept) +ℤ z) (change-word (f .gain) (f .draw) (sfits-of (d .change-of .ok)) (d .change-of .ensures))
-    ∙ kept c .reaches
+sum-made c = ap {B = ℤ} (λ z. toZ w32 (c .match .kept) +ℤ z) (change-word (change (changed c))) ∙ kept c .reaches
 
 add-reached : tie.Need-add-reached
 add-reached c = subst (SFits w32) (sym (sum-made c)) (sfits-of (omega (arith, start c .fits .bound .fits)))

@@ -14,7 +14,7 @@ use Rattle.walks.specs.declared.StepCase.the-variants.{TooLittle, Below,
 use Rattle.walks.specs.BoundedStep.{Move}
 use Rattle.walks.specs.Cases.{Falls, stepCase}
 use Rattle.walks.proofs.Cases.{falls-case}
-use Rattle.walks.proofs.Sums.{tested, widened, whole-made, room-fits, room-word}
+use Rattle.walks.proofs.Sums.{tested, widened, Change, whole-made, room-fits, room-word}
 use Rattle.walks.proofs.step_case.Statement.{statement}
 use Rattle.walks.proofs.step_case.Tie as tie
 
@@ -40,8 +40,12 @@ start d = d .before .before
 possible : (d : tie.After-change-of) → start d .args .draw ≤ start d .args .charge
 possible d = d .before .if1 .left
 
+change : (d : tie.After-change-of) → Change (start d .args .gain) (start d .args .draw) (d .change-of .result)
+change d =
+    record { gain = start d .fits .gain; draw = start d .fits .draw; result = sfits-of (d .change-of .ok); made = d .change-of .ensures }
+
 sub-room : tie.Need-sub-room
-sub-room d = let f = start d .fits in room-fits (f .gain) (f .draw) (sfits-of (d .change-of .ok)) (d .change-of .ensures) (f .bound)
+sub-room d = room-fits (change d) (start d .fits .bound)
 
 cast-if2 : tie.Need-cast-if2
 cast-if2 c = search needs
@@ -55,8 +59,7 @@ below : (d : tie.After-change-of) → let a = start d .args in
 below d =
     let a = start d .args in
     let f = start d .fits in
-    rw (widened (f .charge), room-word (f .gain) (f .draw) (sfits-of (d .change-of .ok)) (d .change-of .ensures) (f .bound))
-    (tested (a .bound) (a .charge) (a .gain) (a .draw))
+    rw (widened (f .charge), room-word (change d) (f .bound)) (tested (a .bound) (a .charge) (a .gain) (a .draw))
 
 returns-2 : tie.Need-returns-2
 returns-2 c =
@@ -72,9 +75,7 @@ cast-whole c = search needs
 -- charge - draw + gain
 whole : (d : tie.After-change-of) → let a = start d .args in
     toZ w32 (a .charge) +ℤ toZ w32 (ofZ w32 (d .change-of .result)) ≡ pos (a .charge - a .draw + a .gain)
-whole d =
-    let f = start d .fits in
-    whole-made (f .gain) (f .draw) (sfits-of (d .change-of .ok)) (d .change-of .ensures) (f .charge) (possible d)
+whole d = whole-made (change d) (start d .fits .charge) (possible d)
 
 add-whole : tie.Need-add-whole
 add-whole c =
