@@ -54,6 +54,15 @@ power-bit zero (suc j) =
 power-bit (suc i) zero = rw (div-one (2 ^ suc i), pow-suc 2 i, mul-mod-left (2 ^ i) 2, eqb·suc-zero i) refl
 power-bit (suc i) (suc j) = rw (pow-suc 2 i, halved (2 ^ i) j, eqb·suc-suc i j) (power-bit i j)
 
+-- the bits of a number are its binary digits, from the lowest on: so any set of colours has a byte
+pub bit-digits : (x d : ℕ) → d < 2 → (bit (x * 2 + d) 0 ≡ eqb d 1) × ((j : ℕ) → bit (x * 2 + d) (suc j) ≡ bit x j)
+bit-digits x d h =
+    let digit : (x * 2 + d) % 2 ≡ d = omega arith in
+    let rest : (x * 2 + d) / 2 ≡ x = omega arith in (
+      rw (div-one (x * 2 + d), digit) refl,
+      λ j. rw (pow-succ' 2 j, ← div-div-eq-div-mul (x * 2 + d) 2 (2 ^ j), rest) refl,
+    )
+
 -- an arc whose colour byte is 2 ^ i meets colour i alone
 pub meets-one : (g : Automaton) (a i j : ℕ) → arcAt g a .colours ≡ 2 ^ i → meets g j a ≡ eqb i j
 meets-one g a i j e = rw e (power-bit i j)

@@ -1,6 +1,7 @@
 -- What a caller of check_model learns from the value that it answers: the verdict, and the model that the value holds. Assumes nothing.
-use mathlib.Core.Path.{_≡_, sym, ap, _∙_}
+use mathlib.Core.Path.{_≡_, sym, ap, _∙_, subst}
 use Prim.Native.Nat.{ℕ, _<_}
+use native.Mathlib.Omega.{arith}
 use lib.ListN.{getD}
 use lib.Seq.{getD-take}
 use Rattle.refusals.specs.declared.Verdict.{Verdict}
@@ -10,7 +11,7 @@ use Rattle.model.specs.declared.Model.{Model}
 use Rattle.model.specs.declared.Fitted.{Fitted}
 use Rattle.model.specs.Automaton.{noArc, arcAt}
 use Rattle.model.specs.Lists.{Lists, automatonOf, held}
-use Rattle.model.specs.Fitness.{fitness, fittedOf, Holds}
+use Rattle.model.specs.Fitness.{fitness, fittedOf, ArcFits, Holds}
 use Rattle.model.proofs.Fitness.{fitted-verdict, fitted-held, fitted-holds}
 
 -- the arc with number a, as the code reads it
@@ -20,6 +21,10 @@ arcIn g a = getD (g .arcs) a noArc
 -- it is the model's arc
 pub held-arc : (g : Model) (a : ℕ) → a < g .count → arcAt (held g) a ≡ arcIn g a
 held-arc g a h = getD-take (g .count) (g .arcs) a noArc h
+
+-- what Holds gives to code that has the value: the arc that it reads under a number below the count is one of a fit model
+pub holds-arc : (g : Model) (a : ℕ) → Holds g → a < g .count → ArcFits (g .modes) (g .colours) (arcIn g a)
+holds-arc g a holds h = subst (ArcFits (g .modes) (g .colours)) (held-arc g a h) (holds .fit .arcs-fit a (omega (arith, holds .count)))
 
 module _ (n s k : ℕ) (l : Lists) (y : Fitted) (told : y ≡ fittedOf n s k l) where
   -- the verdict in y is fitness

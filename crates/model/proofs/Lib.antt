@@ -1,4 +1,5 @@
--- Laws of models and plans, one idea a file; Weights says what lists with weights mean; Arcs and Bits serve the proofs of the code too, and Held those of the code above.
+-- Laws of models and plans, one idea a file; Weights says what lists with weights mean; Places says plans by the places of their arcs; Arcs and Bits
+-- serve the proofs of the code too, and Held those of the code above.
 pub mod Bits
 pub mod Arcs
 pub mod Weights
@@ -6,4 +7,5 @@ pub mod Fitness
 pub mod Held
 pub mod SomeArc
 pub mod Leads
+pub mod Places
 pub mod Plans

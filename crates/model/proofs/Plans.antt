@@ -13,7 +13,7 @@ use Rattle.walks.proofs.Walks.{walked-append, map-times}
 use Rattle.walks.proofs.Charges.{walked-bound}
 use Rattle.walks.proofs.Rounds.{rounds-hold}
 use Rattle.model.specs.Automaton.{Automaton, arcAt, meets, moveOf, movesOf}
-use Rattle.model.specs.Plans.{Plan, Leads, walkedArcs, Feasible, Meets, Accepted, Serves}
+use Rattle.model.specs.Plans.{Plan, Leads, IsPlan, walkedArcs, Feasible, Meets, Accepted, Serves, SomePlan}
 use Rattle.model.proofs.Leads.{leads-append, leads-cut, leads-times}
 use Rattle.model.proofs.SomeArc.{some-right, some-times}
 
@@ -97,3 +97,10 @@ accepted-buchi g p h = (λ a j q n. (suc n, again j n (a j q)), λ f j q. once j
 -- "With k = 0 every plan is accepted."
 pub accepted-none : (g : Automaton) (p : Plan) → g .colours ≡ 0 → Accepted g p
 accepted-none g p e j h = absurd (omega arith)
+
+-- that SomePlan fails means that "no plan of any length is feasible and accepted" (document 01, demand 3); this pins each field of Serves
+pub no-plan-exists : (g : Automaton) (b c : ℕ) → (SomePlan g b c → ⊥) ↔ ((p : Plan) → IsPlan g p → Feasible g b c p → Accepted g p → ⊥)
+no-plan-exists g b c = (
+  λ none p plan feasible accepted. none (p, record { plan = plan; feasible = feasible; accepted = accepted }),
+  λ none (p, serves). none p (serves .plan) (serves .feasible) (serves .accepted),
+)

@@ -1,12 +1,27 @@
--- Some arc of a list passes a test: of two lists joined, and of a list repeated. Assumes nothing.
-use mathlib.Core.Bool.{Bool}
+-- Some arc of a list passes a test: at which place, of two lists joined, and of a list repeated. Assumes nothing.
+use mathlib.Core.Path.{_≡_}
+use mathlib.Core.Bool.{Bool, true}
 use mathlib.Core.List.{List, [], _∷_, _++_}
-use mathlib.Core.Logic.{_⊎_, inl, inr, ⊎-elim}
-use Prim.Native.Nat.{ℕ, suc}
+use mathlib.Core.Logic.{_⊎_, inl, inr, ⊎-elim, _↔_}
+use Prim.Native.Nat.{ℕ, zero, suc, _<_}
+use native.Mathlib.Omega.{arith}
+use lib.ListN.{length, getD}
 use Rattle.walks.specs.Walk.{times}
 use Rattle.model.specs.Plans.{SomeArc}
 
 module _ (test : ℕ → Bool) where
+  -- exactly where it does at some place
+  pub some-at : (w : List ℕ) → SomeArc test w ↔ ((i : ℕ) × (i < length w) × (test (getD w i 0) ≡ true))
+  some-at [] = (λ h. absurd h, λ (i, below, h). absurd (omega arith))
+  some-at (a ∷ w) =
+      let ih = some-at w in
+      (⊎-elim (λ h. (0, omega arith, h)) (λ h. let (i, below, q) = ih .0 h in (suc i, omega arith, q)), λ (i, below, h). here i below h (ih .1))
+    where
+      here : (i : ℕ) → i < suc (length w) → test (getD (a ∷ w) i 0) ≡ true → (((j : ℕ) × (j < length w) × (test (getD w j 0) ≡ true)) → SomeArc test w)
+          → SomeArc test (a ∷ w)
+      here zero below h more = inl h
+      here (suc i) below h more = inr (more (i, omega arith, h))
+
   pub some-left : (u v : List ℕ) → SomeArc test u → SomeArc test (u ++ v)
   some-left (a ∷ u) v (inl h) = inl h
   some-left (a ∷ u) v (inr h) = inr (some-left u v h)
