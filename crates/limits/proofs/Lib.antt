@@ -1,2 +1,3 @@
 -- Laws of the ceilings.
 pub mod Widths
+pub mod Spaces

@@ -1,8 +1,9 @@
 -- The walk of steps is the walk of the theory, on naturals: moves, charge, possible. Assumes nothing.
-use mathlib.Core.Path.{_≡_, refl, ap, _∙_}
-use mathlib.Core.List.{List, [], _∷_, _++_, map, map-append}
+use mathlib.Core.Path.{_≡_, refl, sym, ap, _∙_}
+use mathlib.Core.List.{List, [], _∷_, _++_, map, map-append, append-nil, append-assoc}
 use mathlib.Core.Logic.{_↔_}
-use Prim.Native.Nat.{ℕ, zero, suc, _≤_, _<_}
+use Prim.Native.Nat.{ℕ, zero, suc, _+_, _≤_, _<_}
+use native.Mathlib.Nat.{zero-add, suc-add}
 use native.Mathlib.Omega.{arith}
 use native.Mathlib.Decide.{decLe}
 use borrow.Author.Tests.{le-leb, lt-leb}
@@ -112,3 +113,12 @@ walked-append b (m ∷ u) v e = after-step-assoc (stepped b m e) (walked b (u ++
 pub map-times : {A B : Type 0} (f : A → B) (r : ℕ) (l : List A) → map f (times r l) ≡ times r (map f l)
 map-times {B = B} f zero l = refl
 map-times {B = B} f (suc r) l = map-append f l (times r l) ∙ ap {B = List B} (λ x. map f l ++ x) (map-times f r l)
+
+-- what "r times over" means, which pins times: once is the list, and the numbers of times add
+pub times-add : {A : Type 0} (r s : ℕ) (l : List A) → (times 1 l ≡ l) × (times (r + s) l ≡ times r l ++ times s l)
+times-add {A} r s l = (append-nil l, go r)
+  where
+    go : (r : ℕ) → times (r + s) l ≡ times r l ++ times s l
+    go zero = ap {B = List A} (λ x. times x l) (zero-add s)
+    go (suc r) =
+        ap {B = List A} (λ x. times x l) (suc-add r s) ∙ ap {B = List A} (λ x. l ++ x) (go r) ∙ sym (append-assoc l (times r l) (times s l))

@@ -1,0 +1,17 @@
+-- What the sizes of search's two buffers come to; this pins both formulas. Assumes nothing.
+use mathlib.Core.Path.{_≡_}
+use Prim.Native.Nat.{ℕ, _+_, _*_}
+use native.Mathlib.Nat.{mul-assoc, add-mul}
+use native.Mathlib.Omega.{arith}
+use Rattle.limits.specs.Ceilings.{workWords, workLevels, workSpace, planLevels, planBuffer}
+
+module _ (k n b : ℕ) where
+  -- the working space: 4 words for each level from 0 to k, mode and charge from 0 to b
+  pub work-entries : workSpace k n b ≡ 4 * ((k + 1) * (n * (b + 1)))
+  work-entries = omega (arith, mul-assoc (workWords * (k + workLevels)) n (b + 1), mul-assoc workWords (k + workLevels) (n * (b + 1)))
+
+  -- the plan buffer: "a run-in of at most n(b+1) and a round of at most (k+1)n(b+1) arcs"
+  pub plan-bytes : planBuffer k n b ≡ n * (b + 1) + (k + 1) * n * (b + 1)
+  plan-bytes =
+      let x = n * (b + 1) in
+      omega (arith, mul-assoc (k + planLevels) n (b + 1), add-mul k planLevels x, mul-assoc (k + 1) n (b + 1), add-mul k 1 x)
