@@ -65,6 +65,26 @@ pub calls-stop : (d : Call) (h : List Call) (x : Gauge) (r : Refusal) → called
 unfolding calledAll
 calls-stop d h x r e = after-refused (called d x) (calledAll h) r e
 
+-- what a history is, which pins calledAll and callsOf: on one arc it is the call of the step, refused or not ..
+pub steps-one : (n s k : ℕ) (l : Lists) (b a : ℕ) (x : Gauge) → stepsOf n s k l b (a ∷ []) x ≡ steppedOf n s k l b a x
+unfolding calledAll
+steps-one n s k l b a x = go (steppedOf n s k l b a x .verdict) (steppedOf n s k l b a x .gauge)
+  where
+    go : (v : Verdict) (y : Gauge) → stopAt v y (gauged Yes y) ≡ gauged v y
+    go Yes y = refl
+    go (Refused r) y = refl
+
+-- .. and one after the other, the second goes on from the gauge of the first, where no call of the first is refused
+pub calls-append : (h i : List Call) (x : Gauge) → calledAll (h ++ i) x ≡ afterGauged (calledAll h x) (calledAll i)
+unfolding calledAll
+calls-append [] i x = refl
+calls-append (d ∷ h) i x = go (called d x .verdict) (called d x .gauge) (calls-append h i)
+  where
+    go : (v : Verdict) (y : Gauge) → ((y : Gauge) → calledAll (h ++ i) y ≡ afterGauged (calledAll h y) (calledAll i))
+        → stopAt v y (calledAll (h ++ i) y) ≡ afterGauged (stopAt v y (calledAll h y)) (calledAll i)
+    go Yes y more = more y
+    go (Refused r) y more = refl
+
 -- what is lost and gained over a history of accepted steps, from any gauge
 pub history-balance : (h : List Call) (x y : Gauge) → calledAll h x ≡ gauged Yes y
     → (x .charge + gains (map callMove h) ≡ y .charge + draws (map callMove h) + lostBy h x) × (y .spill ≡ x .spill + lostBy h x)
