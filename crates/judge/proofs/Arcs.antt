@@ -5,7 +5,7 @@ use Prim.Native.Nat.{ℕ, _+_, _-_, _^_, _≤_, _<_}
 use native.Mathlib.Omega.{arith}
 use lib.ListN.{length, getD, take, drop, length-drop}
 use lib.Seq.{getD-take, getD-drop, length-take-le, take-all}
-use Rattle.limits.specs.Ceilings.{planMost}
+use Rattle.limits.specs.Ceilings.{arcsMost, planMost}
 use Rattle.refusals.specs.declared.Verdict.the-variants.{Yes}
 use Rattle.refusals.proofs.Verdicts.{and-then-yes}
 use Rattle.model.specs.declared.Model.{Model}
@@ -39,7 +39,11 @@ pub rest-part : (p : ℕ) (w : List ℕ) → take (length w - p) (drop p w) ≡ 
 rest-part p w = take-all (length w - p) (drop p w) (omega (arith, length-drop p w))
 
 module _ (g : Model) (w : List ℕ) (arcs : ArcNumbers g w) where
-  -- so are the first p of them
+  -- each is a place of the array in which the code holds the arcs; this pins both fields of ArcNumbers
+  pub arcs-inside : (i : ℕ) → i < length w → getD w i 0 < arcsMost
+  arcs-inside i h = omega (arith, arcs .few, arcs .below i h)
+
+  -- the first p of them are numbers of arcs too
   pub arcs-take : (p : ℕ) → p ≤ length w → ArcNumbers g (take p w)
   arcs-take p h =
       record {

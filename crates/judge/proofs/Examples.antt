@@ -1,17 +1,24 @@
 -- Document 01's examples A to L, from the definitions: one theorem over the table of specs/Examples. Assumes nothing.
-use mathlib.Core.Path.{_≡_, refl}
+use mathlib.Core.Path.{_≡_, refl, subst}
 use mathlib.Core.List.{List, [], _∷_}
-use Prim.Native.Nat.{ℕ}
+use Prim.Native.Nat.{ℕ, zero, suc, _<_}
+use native.Mathlib.Omega.{arith}
 use lib.Dec.{eqb}
+use lib.ListN.{length, getD}
 use Rattle.walks.specs.BoundedStep.{stepped}
+use Rattle.refusals.specs.declared.Answer.{Answer}
 use Rattle.refusals.specs.declared.Verdict.the-variants.{Yes}
+use Rattle.refusals.specs.Refusals.{answerOf}
+use Rattle.refusals.proofs.Verdicts.{and-then-yes}
+use Rattle.model.specs.Automaton.{Automaton}
+use Rattle.model.specs.Lists.{automatonOf}
 use Rattle.model.specs.Fitness.{fitness, header, unfitLists, unfitArc, arcsVerdict, levelsOf}
 use Rattle.model.specs.Plans.{SomePlan}
 use Rattle.judge.specs.Shape.{planOf, shape, lengthOf, numbers, chain, closing}
 use Rattle.judge.specs.Charges.{charges, rounds, secondRound, ran}
 use Rattle.judge.specs.Colours.{coloursOf, missingFrom}
 use Rattle.judge.specs.Judged.{judged, judgedLevels, judgedPlan, servesOf}
-use Rattle.judge.specs.Examples.{Example, Found, None, modelIn, Stands, All, ofA, ofB, ofG, examples}
+use Rattle.judge.specs.Examples.{Claim, Found, None, Judged, Example, modelIn, Admitted, Says, Stands, All, ofA, ofB, ofG, examples}
 use Rattle.judge.proofs.Judged.{judged-yes}
 use Rattle.judge.proofs.NoPlan.{no-plan}
 
@@ -43,3 +50,37 @@ examples-hold =
     and refl
     and refl
     and tt
+
+-- What a row that stands says, in the words of models and judging alone; this pins each case of Says.
+module _ (x : Example) (stands : Stands x) where
+  abbrev model : Automaton
+  model = automatonOf (x .modes) 0 (x .colours) (x .arcs)
+
+  says : (k : Claim) → x .claim ≡ k → Says x k
+  says k e = subst (Says x) e stands
+
+  -- none of 1 to 6 applies
+  abbrev Clear : Type 0
+  Clear = (fitness (x .modes) 0 (x .colours) (x .arcs) ≡ Yes) × (levelsOf (x .bound) (x .credit) ≡ Yes)
+
+  clear : Admitted x → Clear
+  clear a = and-then-yes (fitness (x .modes) 0 (x .colours) (x .arcs)) (levelsOf (x .bound) (x .credit)) .0 a
+
+  -- "plan found"
+  pub row-found : x .claim ≡ Found → Clear × SomePlan model (x .bound) (x .credit)
+  row-found e = let (a, some) = says Found e in (clear a, some)
+
+  -- "10"
+  pub row-none : x .claim ≡ None → Clear × (SomePlan model (x .bound) (x .credit) → ⊥)
+  row-none e = let (a, none) = says None e in (clear a, none)
+
+  -- judging's number and detail
+  pub row-judged : (p q : ℕ) (w : List ℕ) (r : Answer) → x .claim ≡ Judged p q w r
+      → answerOf (judged (x .modes) 0 (x .colours) (x .arcs) (x .bound) (x .credit) p q w) ≡ r
+  row-judged p q w r e = says (Judged p q w r) e
+
+-- .. and where all rows stand, the one at each place does: this pins All
+pub rows-stand : (l : List Example) (d : Example) → All Stands l → (i : ℕ) → i < length l → Stands (getD l i d)
+rows-stand [] d all i h = absurd (omega arith)
+rows-stand (x ∷ l) d all zero h = all .0
+rows-stand (x ∷ l) d all (suc i) h = rows-stand l d (all .1) i (omega arith)
