@@ -17,7 +17,8 @@ use Rattle.model.specs.Plans.{SomePlan}
 use Rattle.judge.specs.Judged.{judged, Right}
 use Rattle.judge.proofs.Judged.{judged-yes}
 use Rattle.gauge.specs.declared.Gauge.{Gauge}
-use Rattle.gauge.specs.Gauge.{startedOf, steppedOf}
+use Rattle.gauge.specs.declared.Gauged.{Gauged}
+use Rattle.gauge.specs.Gauge.{gauged, startedOf, steppedOf}
 use Rattle.lent_gauge.proofs.Refused.{stepped-keeps}
 use Rattle.planwalk.specs.Walked.{walkAnswer, walkOf}
 use Rattle.search.specs.declared.Searched.{Searched}
@@ -139,6 +140,12 @@ module _ {n s k : ℕ} {l : Lists} {b a : ℕ} {x y : Gauge} {r : ℕ} (h : Desk
   -- a step of a gauge: number and detail are those of the verdict
   pub desk-step-parts : Parts r (answerOf (steppedOf n s k l b a x .verdict)) 0 0
   desk-step-parts = rw (h .word) (unpacked (answerOf (steppedOf n s k l b a x .verdict)) 0 0 (step-fields n s k l b a x))
+
+  -- where the number is 0, the step is accepted, and its gauge is the lent one as the call leaves it; this pins moved-on
+  pub desk-step-moved : numberIn r ≡ 0 → steppedOf n s k l b a x ≡ gauged Yes y
+  desk-step-moved e =
+      let yes = yes-number (steppedOf n s k l b a x .verdict) .0 (sym (desk-step-parts .number) ∙ e) in
+      ap {B = Gauged} (λ (v : Verdict). gauged v (steppedOf n s k l b a x .gauge)) yes ∙ ap {B = Gauged} (gauged Yes) (sym (h .moved-on))
 
   -- "a refusal leaves the gauge as found"
   pub desk-step-kept : (numberIn r ≡ 0 → ⊥) → y ≡ x
