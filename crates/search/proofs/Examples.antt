@@ -1,12 +1,13 @@
 -- Document 01, "Examples": what search answers to the rows A, B, G and H of the table of examples. Assumes nothing.
-use mathlib.Core.Path.{_≡_}
+use mathlib.Core.Path.{_≡_, ap}
 use mathlib.Core.List.{List}
 use Prim.Native.Nat.{ℕ}
 use lib.ListN.{length}
 use Rattle.refusals.specs.declared.Verdict.the-variants.{Yes}
+use Rattle.refusals.proofs.Verdicts.{clash}
 use Rattle.judge.specs.Examples.{Claim, Found, None, Judged, Example, Admitted, Says, Stands}
 use Rattle.search.specs.declared.Searched.{Searched}
-use Rattle.search.specs.Search.{spaces, searchable, SearchOf}
+use Rattle.search.specs.Search.{searchAnswer, spaces, searchable, SearchOf}
 use Rattle.search.specs.Examples.{Answers}
 use Rattle.search.proofs.Searchable.{searchable-on}
 use Rattle.search.proofs.Demand3.{search-ten, search-complete}
@@ -28,3 +29,9 @@ example-searched x {work} {plan} {r = r} stands room h = go (x .claim) stands
         let (p, q, e, f) = search-complete n 0 (x .colours) (x .arcs) (x .bound) (x .credit) h (through a) some in (p, q, e)
     go None (a, none) = search-ten n 0 (x .colours) (x .arcs) (x .bound) (x .credit) h (through a) .1 none
     go (Judged p q w a) says = tt
+
+-- what a row says of search, in the paper's numbers: 0 where a plan is found, else 10; this pins each case of Answers
+pub answers-number : (k : Claim) (r : Searched) → Answers k r → (k ≡ Found → searchAnswer r .answer .number ≡ 0) × (k ≡ None → searchAnswer r .answer .number ≡ 10)
+answers-number Found r (p, q, e) = (λ same. ap {B = ℕ} (λ (x : Searched). searchAnswer x .answer .number) e, λ same. clash (cc))
+answers-number None r ten = (λ same. clash (cc), λ same. ten)
+answers-number (Judged p q w a) r says = (λ same. clash (cc), λ same. clash (cc))
