@@ -1,5 +1,5 @@
--- What the definitions of feasible and accepted come to: two rounds decide the first, and the second is document 001's acceptance of the
--- infinite run. Assumes nothing.
+-- What the definitions of feasible and accepted come to: document 001's feasibility and acceptance of the infinite run; and two rounds decide the
+-- first. Assumes nothing.
 use mathlib.Core.Path.{_≡_, refl, sym, ap, _∙_, subst}
 use mathlib.Core.List.{List, _++_, map-append, append-nil, append-assoc}
 use mathlib.Core.Logic.{_↔_}
@@ -9,6 +9,8 @@ use Rattle.walks.specs.BoundedStep.{Move}
 use lib.ListN.{length, take, drop, length-append, take-append-drop}
 use lib.Seq.{drop-append-le, drop-append-seam}
 use Rattle.walks.specs.Walk.{End, Ends, Blocked, afterWalk, walked, IsPossible, RoundsHold, times}
+use Rattle.walks.specs.Accumulated.{FeasibleRun, runWeights}
+use Rattle.walks.proofs.Accumulated.{possible-accumulated}
 use Rattle.walks.proofs.Walks.{walked-append, map-times}
 use Rattle.walks.proofs.Charges.{walked-bound}
 use Rattle.walks.proofs.Rounds.{rounds-hold}
@@ -42,6 +44,13 @@ module _ (g : Automaton) (b c : ℕ) (p : Plan) where
 
       from : ((e : ℕ) × (walked b (movesOf g (p .prefix)) c ≡ Ends e) × RoundsHold b (movesOf g (p .cycle)) e) → Feasible g b c p
       from (e, q, k) r = subst IsPossible (sym (plan-walked r)) (rw q (rounds-hold b (movesOf g (p .cycle)) e (bounded e q) .1 k r))
+
+  -- Feasible is document 001's feasibility of the infinite run: "the accumulated weights of all prefixes are non-negative". The prefix and any number
+  -- of rounds of the cycle are the run's finite parts, and each arc is its draw and then its gain.
+  pub feasible-accumulated : c ≤ b → Feasible g b c p ↔ ((r : ℕ) → FeasibleRun b c (runWeights (movesOf g (p .prefix ++ times r (p .cycle)))))
+  feasible-accumulated h =
+      let run : ℕ → List Move = λ r. movesOf g (p .prefix ++ times r (p .cycle)) in
+      (λ f r. possible-accumulated b (run r) c h .0 (f r), λ f r. possible-accumulated b (run r) c h .1 (f r))
 
 -- the first arcs of a walk that is possible end at some charge
 walked-part : (g : Automaton) (b : ℕ) (u v : List ℕ) (e : ℕ) → IsPossible (walkedArcs g b (u ++ v) e) → (x : ℕ) × (walkedArcs g b u e ≡ Ends x)

@@ -5,6 +5,7 @@ pub mod Walks
 pub mod Cases
 pub mod KeptCharge
 pub mod Weights
+pub mod Accumulated
 pub mod Energy
 pub mod Charges
 pub mod Spill

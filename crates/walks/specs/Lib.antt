@@ -5,5 +5,6 @@ pub mod Cases
 pub mod Walk
 pub mod Spill
 pub mod Weights
+pub mod Accumulated
 pub mod Energy
 pub mod Moves

@@ -3,7 +3,7 @@ use mathlib.Core.Path.{_≡_, refl, sym, ap, _∙_, subst}
 use mathlib.Core.Bool.{Bool, true, false, not, _||_}
 use mathlib.Core.List.{List, [], _∷_, _++_, map}
 use mathlib.Core.Logic.{_↔_}
-use Prim.Native.Nat.{ℕ, zero, suc, _^_}
+use Prim.Native.Nat.{ℕ, zero, suc, _^_, _≤_}
 use native.Mathlib.Omega.{arith}
 use native.Mathlib.Decide.{decLe}
 use borrow.Author.Tests.{lt-ltb, le-ltb}
@@ -16,9 +16,11 @@ use Rattle.limits.specs.Ceilings.{arcsMost, drawMost, gainMost}
 use Rattle.walks.specs.declared.Step.{Step}
 use Rattle.walks.specs.declared.Step.the-variants.{To, Impossible}
 use Rattle.walks.specs.BoundedStep.{Move, stepped}
-use Rattle.walks.specs.Walk.{afterStep, walked, IsPossible, times}
+use Rattle.walks.specs.Walk.{End, afterStep, walked, IsPossible, times}
 use Rattle.walks.specs.Weights.{drawOf, gainOf, moveOfWeight, weighed}
+use Rattle.walks.specs.Accumulated.{FeasibleRun}
 use Rattle.walks.proofs.Weights.{stepped-weight}
+use Rattle.walks.proofs.Accumulated.{walkedWeights, weights-feasible}
 use Rattle.model.specs.Automaton.{noArc, arcAt, moveOf}
 use Rattle.model.specs.Lists.{arcsFrom}
 use Rattle.model.specs.Fitness.{unfitLists, header, headerOf, unfitArc, arcsVerdict, fitness}
@@ -45,6 +47,18 @@ or-twice : (a x c d : Bool) → (a || x || x || c || d) ≡ (a || x || c || d)
 or-twice true x c d = refl
 or-twice false true c d = refl
 or-twice false false c d = refl
+
+-- what follows a step may be given in another way
+after-step : (t : Step) (f h : ℕ → End) → ((y : ℕ) → f y ≡ h y) → afterStep t f ≡ afterStep t h
+after-step (To y u) f h same = same y
+after-step Impossible f h same = refl
+
+-- a walk of arcs by their weights is the walk of these weights
+walked-weights : (l : WeightLists) (b : ℕ) (w : List ℕ) (e : ℕ) → walkedByWeight l b w e ≡ walkedWeights b (map (weightAt l) w) e
+unfolding walkedByWeight
+walked-weights l b [] e = refl
+walked-weights l b (a ∷ w) e =
+    after-step (weighed b (weightAt l a) e) (walkedByWeight l b w) (walkedWeights b (map (weightAt l) w)) (λ y. walked-weights l b w y)
 
 module _ (l : WeightLists) where
   draw-at : (a : ℕ) → getD (map drawOf (l .weights)) a 0 ≡ drawOf (getD (l .weights) a (pos 0))
@@ -99,18 +113,32 @@ module _ (l : WeightLists) where
     pub walked-same : (b : ℕ) (w : List ℕ) (e : ℕ) → walkedArcs (modelBy n s k l) b w e ≡ walkedByWeight l b w e
     unfolding walked walkedByWeight
     walked-same b [] e = refl
-    walked-same b (a ∷ w) e = rw (step-same b a e) (on (weighed b (weightAt l a) e) (λ y. walked-same b w y))
-      where
-        on : (t : Step) → ((y : ℕ) → walkedArcs (modelBy n s k l) b w y ≡ walkedByWeight l b w y)
-            → afterStep t (walkedArcs (modelBy n s k l) b w) ≡ afterStep t (walkedByWeight l b w)
-        on (To y u) r = r y
-        on Impossible r = refl
+    walked-same b (a ∷ w) e =
+        rw (step-same b a e)
+        (after-step (weighed b (weightAt l a) e) (walkedArcs (modelBy n s k l) b w) (walkedByWeight l b w) (λ y. walked-same b w y))
 
     feasible-same : (b c : ℕ) (p : Plan) → Feasible (modelBy n s k l) b c p ↔ FeasibleByWeight l b c p
     feasible-same b c p = (
       λ f r. subst IsPossible (walked-same b (p .prefix ++ times r (p .cycle)) c) (f r),
       λ f r. subst IsPossible (sym (walked-same b (p .prefix ++ times r (p .cycle)) c)) (f r),
     )
+
+    -- it is document 001's feasibility of the infinite run, with one weight for each arc
+    pub feasible-weights : (b c : ℕ) (p : Plan) → c ≤ b
+        → Feasible (modelBy n s k l) b c p ↔ ((r : ℕ) → FeasibleRun b c (map (weightAt l) (p .prefix ++ times r (p .cycle))))
+    feasible-weights b c p h = (
+      λ f r. feasible r .0 (subst IsPossible (walk r) (f r)),
+      λ f r. subst IsPossible (sym (walk r)) (feasible r .1 (f r)),
+    )
+      where
+        run : ℕ → List ℕ
+        run r = p .prefix ++ times r (p .cycle)
+
+        walk : (r : ℕ) → walkedArcs (modelBy n s k l) b (run r) c ≡ walkedWeights b (map (weightAt l) (run r)) c
+        walk r = walked-same b (run r) c ∙ walked-weights l b (run r) c
+
+        feasible : (r : ℕ) → IsPossible (walkedWeights b (map (weightAt l) (run r)) c) ↔ FeasibleRun b c (map (weightAt l) (run r))
+        feasible r = weights-feasible b (map (weightAt l) (run r)) c h
 
     -- a plan is feasible and accepted exactly where it is so by weights
     pub serves-same : (b c : ℕ) (p : Plan) → Serves (modelBy n s k l) b c p ↔ ServesByWeight n s k l b c p
