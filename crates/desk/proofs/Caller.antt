@@ -8,14 +8,14 @@ use native.Mathlib.Omega.{arith}
 use lib.ListN.{length, take, replicate}
 use Rattle.refusals.specs.declared.Answer.{Answer}
 use Rattle.refusals.specs.declared.Refusal.{Refusal}
-use Rattle.refusals.specs.declared.Verdict.{Verdict}
 use Rattle.refusals.specs.declared.Verdict.the-variants.{Yes, Refused}
 use Rattle.refusals.specs.Refusals.{numbered, answerOf}
+use Rattle.refusals.proofs.Numbers.{refusal-number, yes-number}
 use Rattle.model.specs.Automaton.{Automaton}
 use Rattle.model.specs.Lists.{Lists, automatonOf}
 use Rattle.model.specs.Plans.{SomePlan}
 use Rattle.judge.specs.Judged.{judged, Right}
-use Rattle.judge.proofs.Judged.{judged-yes}
+use Rattle.judge.proofs.Judged.{judged-zero}
 use Rattle.gauge.specs.declared.Gauge.{Gauge}
 use Rattle.gauge.specs.declared.Gauged.{Gauged}
 use Rattle.gauge.specs.Gauge.{gauged, startedOf, steppedOf}
@@ -28,7 +28,6 @@ use Rattle.search.proofs.Demand3.{answered-found, plan-searchable, search-judge
 use Rattle.search.proofs.Agreed.{search-agrees, agreed-answer}
 use Rattle.desk.specs.Packing.{numberIn, detailIn, firstIn, secondIn}
 use Rattle.desk.specs.Desk.{deskJudged, deskStarted, deskWalked, DeskSearched, DeskStepped}
-use Rattle.desk.proofs.Details.{refusal-number}
 use Rattle.desk.proofs.Sizes.{judge-fields, start-fields, step-fields, walk-fields, search-fields}
 use Rattle.desk.proofs.Unpacked.{Parts, unpacked}
 
@@ -36,12 +35,7 @@ use Rattle.desk.proofs.Unpacked.{Parts, unpacked}
 abbrev SearchParts : ℕ → Searched → Type 0
 SearchParts r x = Parts r (searchAnswer x .answer) (searchAnswer x .p) (searchAnswer x .q)
 
--- 0 is the number of the yes alone
-yes-number : (v : Verdict) → (answerOf v .number ≡ 0) ↔ (v ≡ Yes)
-yes-number Yes = (λ e. refl, λ e. refl)
-yes-number (Refused r) = (λ e. absurd (omega (arith, refusal-number r)), λ e. ap (λ (v : Verdict). answerOf v .number) e)
-
--- in search, that of a plan alone, and the word has its two lengths
+-- 0 is in search the number of a plan alone, and the word has its two lengths
 plan-parts : (x : Searched) {r : ℕ} → SearchParts r x → numberIn r ≡ 0 → x ≡ outcome.Plan (firstIn r) (secondIn r)
 plan-parts (outcome.Plan p q) parts e = cc
 plan-parts (outcome.Refused y) parts e = absurd (omega (arith, refusal-number y))
@@ -65,11 +59,7 @@ module _ (n s k : ℕ) (l : Lists) (b c p q : ℕ) (w : List ℕ) where
 
   -- the number is 0 exactly where all is right
   pub desk-judged : (numberIn (deskJudged n s k l b c p q w) ≡ 0) ↔ Right n s k l b c p q w
-  desk-judged =
-      let number = desk-judge-parts .number in
-      let yes = yes-number (judged n s k l b c p q w) in
-      let right = judged-yes n s k l b c p q w in
-      (λ e. right .0 (yes .0 (sym number ∙ e)), λ r. number ∙ yes .1 (right .1 r))
+  desk-judged = rw (desk-judge-parts .number) (judged-zero n s k l b c p q w)
 
 module _ {n s k : ℕ} {l : Lists} {b c : ℕ} {work plan work′ plan′ : List ℕ} {r : ℕ} (h : DeskSearched n s k l b c work plan work′ plan′ r) where
   -- search: the parts are those of what is answered

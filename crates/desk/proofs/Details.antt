@@ -1,4 +1,4 @@
--- How large the numbers and the details of refusals are: a detail of judging or of the walk is at most twice the longest plan that judging
+-- How large the details of refusals are: a detail of judging or of the walk is at most twice the longest plan that judging
 -- takes, one of the gauge or of 1 to 9 of search at most 255. Assumes nothing.
 use mathlib.Core.Path.{_≡_, refl}
 use mathlib.Core.Bool.{Bool, true, false, not, _&&_, _||_}
@@ -14,10 +14,10 @@ use Rattle.walks.specs.declared.Step.{Step}
 use Rattle.walks.specs.declared.Step.the-variants.{To, Impossible}
 use Rattle.walks.specs.BoundedStep.{stepped}
 use Rattle.refusals.specs.declared.Refusal.{Refusal}
-use Rattle.refusals.specs.declared.Refusal.the-variants.{ModeCount, StartMode, ArcLists, ColourCount, UnfitArc, Levels, Product, WorkingSpace, PlanBuffer, NoPlan, PlanLength, ArcNumber, OtherMode, OpenCycle, ImpossibleStep, FallingCycle, MissingColour, NoSuchColour, MixedGauge}
+use Rattle.refusals.specs.declared.Refusal.the-variants.{ModeCount, StartMode, ArcLists, ColourCount, Levels, Product, WorkingSpace, PlanBuffer, PlanLength, OpenCycle, FallingCycle}
 use Rattle.refusals.specs.declared.Verdict.{Verdict}
 use Rattle.refusals.specs.declared.Verdict.the-variants.{Yes, Refused}
-use Rattle.refusals.specs.Refusals.{numbered, answerOf, refuse, andThen}
+use Rattle.refusals.specs.Refusals.{answerOf, refuse, andThen}
 use Rattle.refusals.proofs.Scan.{Scan}
 use Rattle.model.specs.declared.Arc.{Arc}
 use Rattle.model.specs.Automaton.{Automaton, arcAt, meets, moveOf}
@@ -39,28 +39,6 @@ use Rattle.planwalk.specs.declared.Walked.the-variants as outcome
 use Rattle.planwalk.specs.Walked.{walkOf}
 use Rattle.planwalk.proofs.Least.{walk-refused-by}
 use Rattle.search.specs.Search.{spaces, searchable}
-
--- the numbers of refusals are not 0, and fit a byte
-pub refusal-number : (r : Refusal) → (0 < numbered r .number) × (numbered r .number < 2 ^ 8)
-refusal-number ModeCount = omega arith
-refusal-number StartMode = omega arith
-refusal-number ArcLists = omega arith
-refusal-number ColourCount = omega arith
-refusal-number (UnfitArc d) = omega arith
-refusal-number Levels = omega arith
-refusal-number Product = omega arith
-refusal-number WorkingSpace = omega arith
-refusal-number PlanBuffer = omega arith
-refusal-number NoPlan = omega arith
-refusal-number PlanLength = omega arith
-refusal-number (ArcNumber d) = omega arith
-refusal-number (OtherMode d) = omega arith
-refusal-number OpenCycle = omega arith
-refusal-number (ImpossibleStep d) = omega arith
-refusal-number FallingCycle = omega arith
-refusal-number (MissingColour d) = omega arith
-refusal-number NoSuchColour = omega arith
-refusal-number MixedGauge = omega arith
 
 -- the detail of a verdict is at most d
 pub record Within (d : ℕ) (v : Verdict) : Type 0 where

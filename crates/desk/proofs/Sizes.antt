@@ -9,6 +9,7 @@ use mir.Val.{boolByte}
 use Rattle.refusals.specs.declared.Verdict.{Verdict}
 use Rattle.refusals.specs.declared.Verdict.the-variants.{Yes, Refused}
 use Rattle.refusals.specs.Refusals.{answerOf}
+use Rattle.refusals.proofs.Numbers.{refusal-number}
 use Rattle.model.specs.Automaton.{Automaton}
 use Rattle.model.specs.Lists.{Lists}
 use Rattle.judge.specs.Judged.{judged}
@@ -21,7 +22,7 @@ use Rattle.planwalk.proofs.Least.{walk-met, walk-spent}
 use Rattle.search.specs.declared.Searched.{Searched}
 use Rattle.search.specs.Search.{searchAnswer, searchable, Answered, none, found, SearchOf}
 use Rattle.desk.specs.Packing.{Fields}
-use Rattle.desk.proofs.Details.{Within, refusal-number, judged-within, walked-within, started-within, stepped-within, searchable-within}
+use Rattle.desk.proofs.Details.{Within, judged-within, walked-within, started-within, stepped-within, searchable-within}
 
 -- the numbers of answers fit a byte
 answer-number : (v : Verdict) → answerOf v .number < 2 ^ 8

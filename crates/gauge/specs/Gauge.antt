@@ -10,10 +10,11 @@ use Rattle.limits.specs.Ceilings.{spillMost}
 use Rattle.walks.specs.declared.Step.{Step}
 use Rattle.walks.specs.declared.Step.the-variants.{To, Impossible}
 use Rattle.walks.specs.BoundedStep.{stepped}
+use Rattle.refusals.specs.declared.Answer.{Answer}
 use Rattle.refusals.specs.declared.Refusal.the-variants.{ArcNumber, OtherMode, ImpossibleStep, MixedGauge}
 use Rattle.refusals.specs.declared.Verdict.{Verdict}
 use Rattle.refusals.specs.declared.Verdict.the-variants.{Yes, Refused}
-use Rattle.refusals.specs.Refusals.{refuse, andThen}
+use Rattle.refusals.specs.Refusals.{refuse, andThen, answerOf}
 use Rattle.model.specs.Automaton.{Automaton, arcAt, moveOf}
 use Rattle.model.specs.Lists.{Lists, automatonOf}
 use Rattle.model.specs.Fitness.{fitness, levelsOf}
@@ -49,6 +50,10 @@ stopAt (Refused r) x y = gauged (Refused r) x
 unfoldable pub startedOf : ℕ → ℕ → ℕ → Lists → ℕ → ℕ → Gauged
 startedOf n s k l b c = stopAt (andThen (fitness n s k l) (levelsOf b c)) noGauge (gauged Yes (newGauge (automatonOf n s k l) b c))
 
+-- the number and the detail of a start
+abbrev pub startedAnswer : ℕ → ℕ → ℕ → Lists → ℕ → ℕ → Answer
+startedAnswer n s k l b c = answerOf (startedOf n s k l b c .verdict)
+
 -- the gauge x after a step to mode t: moved on, or as found where the step is not possible; "A step that would carry the total past 64 bits
 -- is refused by 15, after the test for zero."
 abbrev pub landed : Gauge → ℕ → Step → Gauged
@@ -80,6 +85,10 @@ movedLevelled g b a x = stopAt (levelsOf b (x .charge)) x (movedMatched g b a x)
 -- "A gauge step uses 1 to 6, then 12, 13, 15 with detail 0, and a refusal leaves the gauge as found."; with Ask 3, 22 stands after 6
 unfoldable pub steppedOf : ℕ → ℕ → ℕ → Lists → ℕ → ℕ → Gauge → Gauged
 steppedOf n s k l b a x = stopAt (fitness n s k l) x (movedLevelled (automatonOf n s k l) b a x)
+
+-- the number and the detail of a step
+abbrev pub steppedAnswer : ℕ → ℕ → ℕ → Lists → ℕ → ℕ → Gauge → Answer
+steppedAnswer n s k l b a x = answerOf (steppedOf n s k l b a x .verdict)
 
 -- a matching gauge: its n, m and b are those of the model g and the bound b
 pub record Matches (g : Automaton) (b : ℕ) (x : Gauge) : Type 0 where

@@ -1,8 +1,9 @@
 // The gauge by value: starting it, and stepping it on one arc.
 ghost use mathlib.Core.Path.{_≡_};
+ghost use Rattle.refusals.specs.Refusals.{answerOf};
 ghost use Rattle.model.specs.Lists.{lists, held};
 ghost use Rattle.model.specs.Fitness.{levelsOf, Holds};
-ghost use Rattle.gauge.specs.Gauge.{gauge, gauged, noGauge, stopAt, startedOf, landed, movedOf, mixedUp, movedMatched, movedLevelled, steppedOf};
+ghost use Rattle.gauge.specs.Gauge.{gauge, gauged, noGauge, stopAt, startedOf, startedAnswer, landed, movedOf, mixedUp, movedMatched, movedLevelled, steppedOf, steppedAnswer};
 use limits::Limits;
 use model::Model;
 use model::check_levels;
@@ -175,7 +176,8 @@ impl Gauge {
         c: u32,
         b: u32,
     ) -> Gauged
-        ensures { λ r. ⌜ r ≡ startedOf n start k (lists (now (sources .entry)) (now (targets .entry)) (now (draws .entry)) (now (gains .entry)) (now (colours .entry))) b c ⌝ }
+        ensures gauged { λ r. ⌜ r ≡ startedOf n start k (lists (now (sources .entry)) (now (targets .entry)) (now (draws .entry)) (now (gains .entry)) (now (colours .entry))) b c ⌝ }
+        ensures answer { λ r. ⌜ answerOf (r .verdict) ≡ startedAnswer n start k (lists (now (sources .entry)) (now (targets .entry)) (now (draws .entry)) (now (gains .entry)) (now (colours .entry))) b c ⌝ }
     {
         let fitted = check_model(n, start, k, sources, targets, draws, gains, colours);
         let verdict = fitted.verdict;
@@ -206,7 +208,8 @@ impl Gauge {
         b: u32,
         arc: u32,
     ) -> Gauged
-        ensures { λ r. ⌜ r ≡ steppedOf n start k (lists (now (sources .entry)) (now (targets .entry)) (now (draws .entry)) (now (gains .entry)) (now (colours .entry))) b arc self ⌝ }
+        ensures gauged { λ r. ⌜ r ≡ steppedOf n start k (lists (now (sources .entry)) (now (targets .entry)) (now (draws .entry)) (now (gains .entry)) (now (colours .entry))) b arc self ⌝ }
+        ensures answer { λ r. ⌜ answerOf (r .verdict) ≡ steppedAnswer n start k (lists (now (sources .entry)) (now (targets .entry)) (now (draws .entry)) (now (gains .entry)) (now (colours .entry))) b arc self ⌝ }
     {
         let fitted = check_model(n, start, k, sources, targets, draws, gains, colours);
         let verdict = fitted.verdict;

@@ -6,6 +6,7 @@ use mathlib.Core.Logic.{_↔_}
 use Prim.Native.Nat.{ℕ, _≤_}
 use Rattle.refusals.specs.declared.Verdict.the-variants.{Yes}
 use Rattle.refusals.proofs.Verdicts.{and-then-yes}
+use Rattle.refusals.proofs.Numbers.{yes-number}
 use Rattle.model.specs.Automaton.{Automaton}
 use Rattle.model.specs.Lists.{Lists, automatonOf}
 use Rattle.model.specs.Fitness.{fitness, levelsOf}
@@ -14,7 +15,7 @@ use Rattle.model.proofs.Fitness.{fitness-yes, levels-yes}
 use Rattle.judge.specs.Shape.{planOf, shape, Lengths}
 use Rattle.judge.specs.Charges.{charges}
 use Rattle.judge.specs.Colours.{coloursOf}
-use Rattle.judge.specs.Judged.{servesOf, judgedPlan, judgedLevels, judged, Right}
+use Rattle.judge.specs.Judged.{servesOf, judgedPlan, judgedLevels, judged, judgedAnswer, Right}
 use Rattle.judge.proofs.Shapes.{shape-yes}
 use Rattle.judge.proofs.Runs.{charges-yes}
 use Rattle.judge.proofs.Colours.{colours-yes}
@@ -60,3 +61,10 @@ judged-yes n s k l b c p q w =
             inner .1 (levels-yes b c .1 (r .bound, r .credit), plan-yes g b c p q w (r .credit) .1 (r .lengths, r .serves)),
           ),
     )
+
+-- demand 2 in the paper's number: judging answers 0 exactly for what is right
+pub judged-zero : (n s k : ℕ) (l : Lists) (b c p q : ℕ) (w : List ℕ) → (judgedAnswer n s k l b c p q w .number ≡ 0) ↔ Right n s k l b c p q w
+judged-zero n s k l b c p q w =
+    let zero = yes-number (judged n s k l b c p q w) in
+    let right = judged-yes n s k l b c p q w in
+    (λ e. right .0 (zero .0 e), λ r. zero .1 (right .1 r))

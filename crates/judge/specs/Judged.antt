@@ -3,8 +3,9 @@ use Prim.Native.Nat.{ℕ, _≤_, _<_}
 use mathlib.Core.List.{List}
 use lib.ListN.{length, getD}
 use Rattle.limits.specs.Ceilings.{arcsMost, boundMost}
+use Rattle.refusals.specs.declared.Answer.{Answer}
 use Rattle.refusals.specs.declared.Verdict.{Verdict}
-use Rattle.refusals.specs.Refusals.{andThen}
+use Rattle.refusals.specs.Refusals.{andThen, answerOf}
 use Rattle.model.specs.declared.Model.{Model}
 use Rattle.model.specs.Automaton.{Automaton}
 use Rattle.model.specs.Lists.{Lists, automatonOf}
@@ -31,7 +32,11 @@ judgedLevels g b c p q w = andThen (levelsOf b c) (judgedPlan g b c p q w)
 unfoldable pub judged : ℕ → ℕ → ℕ → Lists → ℕ → ℕ → ℕ → ℕ → List ℕ → Verdict
 judged n s k l b c p q w = andThen (fitness n s k l) (judgedLevels (automatonOf n s k l) b c p q w)
 
--- the same, with the model as the code holds it, for calls that go on with it
+-- the number and the detail of judging
+abbrev pub judgedAnswer : ℕ → ℕ → ℕ → Lists → ℕ → ℕ → ℕ → ℕ → List ℕ → Answer
+judgedAnswer n s k l b c p q w = answerOf (judged n s k l b c p q w)
+
+-- the verdict, with the model as the code holds it, for calls that go on with it
 unfoldable pub judgedModel : ℕ → ℕ → ℕ → Lists → ℕ → ℕ → ℕ → ℕ → List ℕ → JudgedModel
 judgedModel n s k l b c p q w = record { verdict = judged n s k l b c p q w; model = fittedOf n s k l .model }
 

@@ -3,13 +3,13 @@ ghost use mathlib.Core.Path.{_≡_};
 ghost use Prim.Native.Nat.{_+_, _*_, _^_, _≤_, _<_};
 ghost use lib.ListN.{length, drop};
 ghost use Rattle.limits.specs.Ceilings.{planMost};
-ghost use Rattle.refusals.specs.Refusals.{andThen};
+ghost use Rattle.refusals.specs.Refusals.{andThen, answerOf};
 ghost use Rattle.model.specs.Lists.{lists, held};
 ghost use Rattle.model.specs.Fitness.{Holds};
 ghost use Rattle.judge.specs.Shape.{planOf, lengthOf, numbers, path, shape};
 ghost use Rattle.judge.specs.Charges.{ran, secondRound, rounds, charges};
 ghost use Rattle.judge.specs.Colours.{metBy, coloursOf};
-ghost use Rattle.judge.specs.Judged.{servesOf, judgedPlan, judgedLevels, judgedModel, judged, ArcNumbers};
+ghost use Rattle.judge.specs.Judged.{servesOf, judgedPlan, judgedLevels, judgedModel, judged, judgedAnswer, ArcNumbers};
 use limits::Limits;
 use model::Model;
 use model::check_levels;
@@ -315,7 +315,8 @@ pub fn judge(
     q: u32,
     plan: &[u8],
 ) -> Verdict
-    ensures { λ r. ⌜ r ≡ judged n start k (lists (now (sources .entry)) (now (targets .entry)) (now (draws .entry)) (now (gains .entry)) (now (colours .entry))) b c p q (now (plan .entry)) ⌝ }
+    ensures verdict { λ r. ⌜ r ≡ judged n start k (lists (now (sources .entry)) (now (targets .entry)) (now (draws .entry)) (now (gains .entry)) (now (colours .entry))) b c p q (now (plan .entry)) ⌝ }
+    ensures answer { λ r. ⌜ answerOf r ≡ judgedAnswer n start k (lists (now (sources .entry)) (now (targets .entry)) (now (draws .entry)) (now (gains .entry)) (now (colours .entry))) b c p q (now (plan .entry)) ⌝ }
 {
     let judged = judge_model(
         n,

@@ -59,7 +59,11 @@ walkOf n s k l b c p q w j t =
     walkIf (andThen (judged n s k l b c p q w) (refuse (leb k j) NoSuchColour Yes))
     (walkOn (startedOf n s k l b c) (gaugeWalk n s k l b j (stepsOfPlan (planOf p w) t) 0))
 
--- the same without the gauge: the least step, counted from 1 on behind i others, whose arc meets colour j, or all of them
+-- the number and the detail of the walk, whether the colour was met, and the steps made
+abbrev pub walkedAnswer : ℕ → ℕ → ℕ → Lists → ℕ → ℕ → ℕ → ℕ → List ℕ → ℕ → ℕ → WalkAnswer
+walkedAnswer n s k l b c p q w j t = walkAnswer (walkOf n s k l b c p q w j t)
+
+-- the walk without the gauge: the least step, counted from 1 on behind i others, whose arc meets colour j, or all of them
 unfoldable pub firstMet : Automaton → ℕ → List ℕ → ℕ → Walked
 firstMet g j [] i = outcome.Spent i
 firstMet g j (a ∷ w) i = metOr (meets g j a) (suc i) (firstMet g j w (suc i))

@@ -7,7 +7,7 @@ ghost use Rattle.model.specs.Automaton.{bit};
 ghost use Rattle.model.specs.Lists.{lists, held};
 ghost use Rattle.judge.specs.Shape.{planOf};
 ghost use Rattle.judge.specs.Judged.{ArcNumbers};
-ghost use Rattle.planwalk.specs.Walked.{walkAnswer, stepsOfPlan, positionAfter, firstMet, walkOf};
+ghost use Rattle.planwalk.specs.Walked.{walkAnswer, stepsOfPlan, positionAfter, firstMet, walkOf, walkedAnswer};
 use judge::judge_model;
 use model::Model;
 use refusals::Answer;
@@ -110,7 +110,8 @@ pub fn walk(
     j: u32,
     allowance: u16,
 ) -> Walked
-    ensures { λ r. ⌜ r ≡ walkOf n start k (lists (now (sources .entry)) (now (targets .entry)) (now (draws .entry)) (now (gains .entry)) (now (colours .entry))) b c p q (now (plan .entry)) j allowance ⌝ }
+    ensures walked { λ r. ⌜ r ≡ walkOf n start k (lists (now (sources .entry)) (now (targets .entry)) (now (draws .entry)) (now (gains .entry)) (now (colours .entry))) b c p q (now (plan .entry)) j allowance ⌝ }
+    ensures answer { λ r. ⌜ walkAnswer r ≡ walkedAnswer n start k (lists (now (sources .entry)) (now (targets .entry)) (now (draws .entry)) (now (gains .entry)) (now (colours .entry))) b c p q (now (plan .entry)) j allowance ⌝ }
 {
     let judged = judge_model(
         n,

@@ -18,7 +18,7 @@ use Rattle.judge.specs.Judged.{judged}
 use Rattle.judge.proofs.Judged.{judged-yes}
 use Rattle.search.specs.declared.Searched.{Searched}
 use Rattle.search.specs.declared.Searched.the-variants as outcome
-use Rattle.search.specs.Search.{noPlan, searchAnswer, searchable, Found, Answered, none, found, SearchOf}
+use Rattle.search.specs.Search.{noPlan, searchAnswer, searchable, Found, Answered, found, SearchOf}
 use Rattle.search.proofs.Written.{answered-plan}
 use Rattle.search.proofs.Searchable.{searchable-yes}
 
@@ -36,12 +36,6 @@ found-lengths {p = p} {q} {plan′ = plan′} f =
 -- the plan of an answer with one
 pub answered-found : {g : Automaton} {b c p q : ℕ} {plan plan′ : List ℕ} → Answered g b c plan plan′ (outcome.Plan p q) → Found g b c p q plan plan′
 answered-found (found f) = f
-
--- 10 is the number of that refusal alone
-answered-ten : {g : Automaton} {b c : ℕ} {plan plan′ : List ℕ} {r : Searched} → Answered g b c plan plan′ r
-    → (searchAnswer r .answer .number ≡ 10) ↔ (r ≡ noPlan)
-answered-ten (none e) = (λ h. refl, λ h. refl)
-answered-ten (found f) = (λ h. absurd (omega arith), λ h. clash (cc))
 
 module _ (n s k : ℕ) (l : Lists) (b c : ℕ) {work plan work′ plan′ : List ℕ} where
   -- where a plan is answered, none of 1 to 9 applies
@@ -76,9 +70,7 @@ module _ (n s k : ℕ) (l : Lists) (b c : ℕ) {work plan work′ plan′ : List
 
     -- in the paper's number
     pub search-ten : (searchAnswer r .answer .number ≡ 10) ↔ (SomePlan (automatonOf n s k l) b c → ⊥)
-    search-ten =
-        let t = answered-ten (h .decided through .answered) in
-        (λ e. search-none .0 (t .0 e), λ no. t .1 (search-none .1 no))
+    search-ten = h .by-number .ten through
 
     -- and where there is a plan, one is found
     pub search-complete : SomePlan (automatonOf n s k l) b c

@@ -3,6 +3,7 @@ use mathlib.Core.Path.{_≡_, refl, sym, ap, subst, subst₂, _∙_}
 use mathlib.Core.List.{List}
 use mathlib.Core.Logic.{_↔_}
 use Prim.Native.Nat.{ℕ, _+_, _*_, _≤_}
+use native.Mathlib.Omega.{arith}
 use lib.Dec.{ltb}
 use lib.ListN.{length, replicate}
 use Rattle.limits.specs.Ceilings.{boundMost, productMost, workSpace, planBuffer}
@@ -10,7 +11,7 @@ use Rattle.refusals.specs.declared.Refusal.{Refusal}
 use Rattle.refusals.specs.declared.Refusal.the-variants.{Product, WorkingSpace, PlanBuffer}
 use Rattle.refusals.specs.declared.Verdict.{Verdict}
 use Rattle.refusals.specs.declared.Verdict.the-variants.{Yes, Refused}
-use Rattle.refusals.specs.Refusals.{andThen}
+use Rattle.refusals.specs.Refusals.{answer, andThen}
 use Rattle.refusals.proofs.Verdicts.{clash, refuse-yes, and-then-yes}
 use Rattle.refusals.proofs.Tests.{lt-no}
 use Rattle.model.specs.Automaton.{Automaton}
@@ -22,7 +23,7 @@ use Rattle.model.specs.Plans.{SomePlan}
 use Rattle.model.proofs.Fitness.{fitness-yes, levels-yes, fitted-held, fitted-holds}
 use Rattle.search.specs.declared.Searched.{Searched}
 use Rattle.search.specs.declared.Searched.the-variants as outcome
-use Rattle.search.specs.Search.{noPlan, spaces, levelsAndSpaces, searchable, Answered, Search}
+use Rattle.search.specs.Search.{searchAnswer, noPlan, spaces, levelsAndSpaces, searchable, Found, Answered, none, found, Decided, SearchByNumber, Search}
 use Rattle.search.specs.Tasks.{Solvable, checkedOf}
 
 -- none of 7 to 9 applies
@@ -114,13 +115,46 @@ module _ (n s k : ℕ) (l : Lists) (b c words bytes : ℕ) {y : Fitted} (told : 
         buffer = subst₂ (λ (x z : ℕ). planBuffer x z b ≤ bytes) (sym colours) (sym modes) (a .buffer);
       }
 
+module _ {g : Automaton} {b c : ℕ} {plan plan′ : List ℕ} where
+  -- where none of 1 to 9 applies, 10 is the number of one answer alone ..
+  answered-ten : {r : Searched} → Answered g b c plan plan′ r → (searchAnswer r .answer .number ≡ 10) ↔ (r ≡ noPlan)
+  answered-ten (none e) = (λ h. refl, λ h. refl)
+  answered-ten (found f) = (λ h. absurd (omega arith), λ h. clash (cc))
+
+  -- .. and any other is a plan's
+  answered-otherwise : {r : Searched} → Answered g b c plan plan′ r → (searchAnswer r .answer .number ≡ 10 → ⊥)
+      → (searchAnswer r .answer ≡ answer 0 0) × Found g b c (searchAnswer r .p) (searchAnswer r .q) plan plan′
+  answered-otherwise (none e) h = absurd (h refl)
+  answered-otherwise (found f) h = (refl, f)
+
 module _ {v : Verdict} {g : Automaton} {b c : ℕ} {work plan : List ℕ} where
+  -- what search answers says the same by its number
+  pub in-numbers : {work′ plan′ : List ℕ} {r : Searched} → ((x : Refusal) → v ≡ Refused x → r ≡ outcome.Refused x)
+      → (v ≡ Yes → Decided g b c work plan work′ plan′ r) → SearchByNumber v g b c plan plan′ (searchAnswer r)
+  in-numbers refused decided =
+      record {
+        refused = λ x e. rw (refused x e) (refl, refl, refl);
+        ten = λ e. let d = decided e in let t = answered-ten (d .answered) in (λ n. d .no-plan .0 (t .0 n), λ no. t .1 (d .no-plan .1 no));
+        ten-alone = λ e n. rw (answered-ten (decided e .answered) .0 n) (refl, refl, refl);
+        otherwise = λ e n. answered-otherwise (decided e .answered) n;
+      }
+
   -- where the verdict is a refusal, that is answered and both buffers are left as they were
   pub search-refused : {x : Refusal} → v ≡ Refused x → Search v g b c work plan work plan (outcome.Refused x)
-  search-refused told = record { refused = λ y e. (cc, refl, refl); decided = λ e. clash (cc) }
+  search-refused {x} told =
+      record {
+        refused = λ y e. (cc, refl, refl);
+        decided = λ e. clash (cc);
+        by-number = in-numbers {work′ = work} {r = outcome.Refused x} (λ y e. cc) (λ e. clash (cc));
+      }
 
   -- where it is yes, search is decided and the working space cleared
   pub search-decided : {work′ plan′ : List ℕ} {r : Searched} → v ≡ Yes → ((r ≡ noPlan) ↔ (SomePlan g b c → ⊥))
       → Answered g b c plan plan′ r → work′ ≡ replicate (length work) 0 → Search v g b c work plan work′ plan′ r
-  search-decided told none answered cleared =
-      record { refused = λ y e. clash (cc); decided = λ e. record { no-plan = none; answered = answered; cleared = cleared } }
+  search-decided {work′} {plan′} {r} told ten answered cleared =
+      let decided : Decided g b c work plan work′ plan′ r = record { no-plan = ten; answered = answered; cleared = cleared } in
+      record {
+        refused = λ y e. clash (cc);
+        decided = λ e. decided;
+        by-number = in-numbers (λ y e. clash (cc)) (λ e. decided);
+      }

@@ -76,10 +76,21 @@ pub record Decided (g : Automaton) (b c : ℕ) (work plan work′ plan′ : List
   -- "After 10 or a plan, the whole lent working space is zero"
   pub cleared : work′ ≡ replicate (length work) 0
 
+-- The same by document 01's numbers: a is the number and the detail that are answered, with p and q. v: what 1 to 9 say.
+pub record SearchByNumber (v : Verdict) (g : Automaton) (b c : ℕ) (plan plan′ : List ℕ) (a : SearchAnswer) : Type 0 where
+  -- "the first that applies is answered, with one detail"; "Where search refuses, p and q are 0"
+  pub refused : (x : Refusal) → v ≡ Refused x → (a .answer ≡ numbered x) × (a .p ≡ 0) × (a .q ≡ 0)
+  -- "the answer is 10 exactly when no plan of any length is feasible and accepted"
+  pub ten : v ≡ Yes → (a .answer .number ≡ 10) ↔ (SomePlan g b c → ⊥)
+  pub ten-alone : v ≡ Yes → a .answer .number ≡ 10 → (a .answer ≡ answer 10 0) × (a .p ≡ 0) × (a .q ≡ 0)
+  -- "Otherwise it is p and q, and the first p + q bytes of the plan buffer .. a feasible and accepted plan"; the yes is 0
+  pub otherwise : v ≡ Yes → (a .answer .number ≡ 10 → ⊥) → (a .answer ≡ answer 0 0) × Found g b c (a .p) (a .q) plan plan′
+
 -- Search, over all inputs. v: what 1 to 9 say. "Refusals 1 to 9 leave both buffers of the search untouched."
 pub record Search (v : Verdict) (g : Automaton) (b c : ℕ) (work plan work′ plan′ : List ℕ) (r : Searched) : Type 0 where
   pub refused : (x : Refusal) → v ≡ Refused x → (r ≡ outcome.Refused x) × (work′ ≡ work) × (plan′ ≡ plan)
   pub decided : v ≡ Yes → Decided g b c work plan work′ plan′ r
+  pub by-number : SearchByNumber v g b c plan plan′ (searchAnswer r)
 
 -- the claim of the call: by its numbers, lists and buffers
 abbrev pub SearchOf : ℕ → ℕ → ℕ → Lists → ℕ → ℕ → List ℕ → List ℕ → List ℕ → List ℕ → Searched → Type 0

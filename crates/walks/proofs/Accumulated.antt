@@ -1,22 +1,19 @@
 -- Walks are document 001's feasible runs: a walk is possible exactly where its accumulated weights are at least 0. Assumes nothing.
-use mathlib.Core.Path.{_≡_, refl, sym, ap, _∙_, subst}
-use mathlib.Core.Bool.{cond}
+use mathlib.Core.Path.{_≡_, refl, sym, ap, _∙_}
 use mathlib.Core.List.{List, [], _∷_}
 use mathlib.Core.Logic.{_↔_}
-use Prim.Native.Nat.{ℕ, zero-le, _-_, _≤_, min}
+use Prim.Native.Nat.{ℕ, zero-le, _-_, _≤_, _<_, min}
 use native.Mathlib.Omega.{arith}
 use native.Mathlib.Decide.{decLe}
 use borrow.Author.Tests.{le-leb, lt-leb}
 use lib.IntN.{ℤ, pos, negsuc, negℤ, _+ℤ_}
 use lib.Signed.{_≤ℤ_, leZ-yes}
-use Rattle.walks.specs.declared.Step.{Step}
-use Rattle.walks.specs.declared.Step.the-variants.{To, Impossible}
-use Rattle.walks.specs.BoundedStep.{Move, after, stepped}
+use Rattle.walks.specs.BoundedStep.{Move, after}
 use Rattle.walks.specs.Walk.{End, Ends, Blocked, afterStep, walked, IsPossible}
 use Rattle.walks.specs.Weights.{clipped, weighed}
 use Rattle.walks.specs.Accumulated.{smaller, accumulatedFrom, accumulated, NonNegative, FeasibleRun, runWeights}
 use Rattle.walks.proofs.Sums.{difference, deficit}
-use Rattle.walks.proofs.Walks.{stepped-possible, stepped-impossible}
+use Rattle.walks.proofs.Walks.{step-on, step-off}
 
 -- weights walked one after the other from charge e
 abbrev pub walkedWeights : ℕ → List ℤ → ℕ → End
@@ -56,20 +53,26 @@ weights-feasible b ws c h =
     let within : min c b ≡ c = omega arith in
     rw (smaller-pos b c, within) (weights-accumulated b ws c)
 
--- a move is walked as its two weights are, from a charge within the bound
+module _ (b : ℕ) (m : Move) (ws : List ℤ) (e : ℕ) where
+  -- a draw and then a gain, walked as two weights from a charge within the bound: they lead to the charge after the move ..
+  two-weights-on : e ≤ b → m .draw ≤ e → walkedWeights b (negℤ (pos (m .draw)) ∷ pos (m .gain) ∷ ws) e ≡ walkedWeights b ws (after b m e)
+  unfolding weighed
+  two-weights-on h k = let within : min (e - m .draw) b ≡ e - m .draw = omega arith in rw (difference e (m .draw) k, within) refl
+
+  -- .. or the first is not possible
+  two-weights-off : e < m .draw → walkedWeights b (negℤ (pos (m .draw)) ∷ pos (m .gain) ∷ ws) e ≡ Blocked
+  unfolding weighed
+  two-weights-off k = rw (deficit e (m .draw) k) refl
+
+-- moves are walked as their weights are
 moves-weights : (b : ℕ) (ms : List Move) (e : ℕ) → e ≤ b → walked b ms e ≡ walkedWeights b (runWeights ms) e
-unfolding walked weighed
+unfolding walked
 moves-weights b [] e h = refl
 moves-weights b (m ∷ ms) e h =
     elim (decLe (m .draw) e) [
-      | yes k ↦
-          rw (stepped-possible b m e k, difference e (m .draw) k, kept b (e - m .draw) (omega arith))
-          (moves-weights b ms (after b m e) (omega arith))
-      | no k ↦ rw (stepped-impossible b m e (omega arith), deficit e (m .draw) (omega arith)) refl
+      | yes k ↦ step-on b m ms e k ∙ moves-weights b ms (after b m e) (omega arith) ∙ sym (two-weights-on b m (runWeights ms) e h k)
+      | no k ↦ step-off b m ms e (omega arith) ∙ sym (two-weights-off b m (runWeights ms) e (omega arith))
     ]
-  where
-    kept : (b x : ℕ) → x ≤ b → min x b ≡ x
-    kept b x l = omega arith
 
 -- so a walk of moves is possible exactly where its run is feasible
 pub possible-accumulated : (b : ℕ) (ms : List Move) (c : ℕ) → c ≤ b → IsPossible (walked b ms c) ↔ FeasibleRun b c (runWeights ms)

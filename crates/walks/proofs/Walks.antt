@@ -50,11 +50,12 @@ pub record WalksAlike (b : ℕ) (ms : List Move) (e : ℕ) : Type 0 where
   pub leads : Possible b ms e → walked b ms e ≡ Ends (charge b ms e)
 
 module _ (b : ℕ) (m : Move) (ms : List Move) (e : ℕ) where
-  step-on : m .draw ≤ e → walked b (m ∷ ms) e ≡ walked b ms (after b m e)
+  -- a walk goes on after a first move that is possible, and any other blocks it
+  pub step-on : m .draw ≤ e → walked b (m ∷ ms) e ≡ walked b ms (after b m e)
   unfolding walked
   step-on h = rw (stepped-possible b m e h)
 
-  step-off : e < m .draw → walked b (m ∷ ms) e ≡ Blocked
+  pub step-off : e < m .draw → walked b (m ∷ ms) e ≡ Blocked
   unfolding walked
   step-off h = rw (stepped-impossible b m e h)
 

@@ -20,6 +20,7 @@ use Rattle.gauge.specs.Gauge.{startedOf, movedOf, movedMatched, movedLevelled, 
 use Rattle.planwalk.specs.Walked.{stepsOfPlan, gaugeWalk, walkOf}
 use Rattle.search.specs.declared.Searched.{Searched}
 use Rattle.search.specs.Search as search
+use Rattle.search.proofs.Searchable.{in-numbers}
 use Rattle.weights.specs.Models.{WeightLists, listsOf, modelBy, OnePart, weightAt, fitnessByWeight, SomePlanByWeight}
 use Rattle.weights.specs.Calls as by
 use Rattle.weights.proofs.Parts.{one-part}
@@ -140,7 +141,11 @@ module _ (n s k : ℕ) (l : WeightLists) where
       let v = searchable-same b c (length work) (length plan) in
       let decided = decided-same b c work plan work′ plan′ r in (
         λ h. record { refused = λ x e. h .refused x (v ∙ e); decided = λ e. decided .0 (h .decided (v ∙ e)) },
-        λ h. record { refused = λ x e. h .refused x (sym v ∙ e); decided = λ e. decided .1 (h .decided (sym v ∙ e)) },
+        λ h. record {
+          refused = λ x e. h .refused x (sym v ∙ e);
+          decided = λ e. decided .1 (h .decided (sym v ∙ e));
+          by-number = in-numbers (λ x e. h .refused x (sym v ∙ e) .0) (λ e. decided .1 (h .decided (sym v ∙ e)));
+        },
       )
 
 -- all of them

@@ -23,13 +23,13 @@ pack-requires c κs =
     let told = c .before .before .before in
     let call = told .before in
     let start = call .before .before .before .before .before .before .before in
-    rw (bit-met (told .answer .result .met), told .answer .ensures, call .walk .ensures)
+    rw (bit-met (told .answer .result .met), told .answer .ensures, call .walk .ensures .1)
     (walk-fields _ _ _ _ _ _ _ _ _ _ _ (omega (arith, start .fits .allowance .fits)))
 
 returns : tie.Need-returns
 returns c =
     let told = c .before .before .before .before in
-    c .pack .ensures ∙ rw (bit-met (told .answer .result .met), told .answer .ensures, told .before .walk .ensures) refl
+    c .pack .ensures ∙ rw (bit-met (told .answer .result .met), told .answer .ensures, told .before .walk .ensures .1) refl
 
 pub chargeplan-walk-spec : {M : Type 1} → statement M
 chargeplan-walk-spec = tie.close (tie.spec walk-requires answer-requires cast-steps cast-met pack-requires returns)

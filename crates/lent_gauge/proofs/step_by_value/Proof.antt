@@ -20,7 +20,7 @@ answer-requires : tie.Need-answer-requires
 answer-requires c κs = search needs
 
 returns : tie.Need-returns
-returns c = told (c .before .before .step .result) _ (c .answer .result) (c .answer .ensures) (c .before .before .step .ensures)
+returns c = told (c .before .before .step .result) _ (c .answer .result) (c .answer .ensures) (c .before .before .step .ensures .0)
 
 pub step-by-value-spec : {M : Type 1} → statement M
 step-by-value-spec = tie.close (tie.spec step-requires answer-requires returns)

@@ -2,9 +2,11 @@
 use mathlib.Core.Path.{sym, _∙_}
 use native.Mathlib.Omega.{arith}
 use borrow.Author.Needs.{needs}
+use Rattle.refusals.proofs.Numbers.{in-number}
 use Rattle.model.specs.Lists.{Lists, lists}
 use Rattle.judge.proofs.Judged.{judged-yes}
 use Rattle.judge.proofs.Answers.{told-judged, told-model, told-arcs}
+use Rattle.planwalk.specs.Walked.{walkAnswer}
 use Rattle.planwalk.proofs.Steps.{held-least}
 use Rattle.planwalk.proofs.Refused.{walk-refused, walk-no-colour}
 use Rattle.planwalk.proofs.walk.Statement.{statement}
@@ -30,7 +32,7 @@ returns c =
     let l = lists-of (start r) in
     let w = a .plan .now in
     let judged = told-judged (a .n) (a .start) (a .k) l (a .b) (a .c) (a .p) (a .q) w _ (r .judge-model .ensures) _ (c .before .enum-told .given .1) in
-    sym (walk-no-colour (a .n) (a .start) (a .k) l (a .b) (a .c) (a .p) (a .q) w (a .j) (a .allowance) judged (c .if1 .taken))
+    in-number walkAnswer (sym (walk-no-colour (a .n) (a .start) (a .k) l (a .b) (a .c) (a .p) (a .q) w (a .j) (a .allowance) judged (c .if1 .taken)))
 
 step-until-requires : tie.Need-step-until-requires
 step-until-requires c κs =
@@ -56,9 +58,10 @@ returns-2 c =
     let w = a .plan .now in
     let e = c .before .before .enum-told .given .1 in
     let judged = told-judged (a .n) (a .start) (a .k) l (a .b) (a .c) (a .p) (a .q) w _ (r .judge-model .ensures) _ e in
-    c .step-until .ensures
+    in-number walkAnswer
+    (c .step-until .ensures
     ∙ held-least (a .n) (a .start) (a .k) l (a .b) (a .c) (a .p) (a .q) w judged (a .j) (a .allowance) (c .before .if1 .left) (r .judge-model .result .model)
-    (told-model (a .n) (a .start) (a .k) l (a .b) (a .c) (a .p) (a .q) w _ (r .judge-model .ensures) e)
+    (told-model (a .n) (a .start) (a .k) l (a .b) (a .c) (a .p) (a .q) w _ (r .judge-model .ensures) e))
 
 returns-3 : tie.Need-returns-3
 returns-3 c =
@@ -67,7 +70,7 @@ returns-3 c =
     let l = lists-of (start r) in
     let w = a .plan .now in
     let judged = told-judged (a .n) (a .start) (a .k) l (a .b) (a .c) (a .p) (a .q) w _ (r .judge-model .ensures) _ (c .before .verdict .given .1) in
-    sym (walk-refused (a .n) (a .start) (a .k) l (a .b) (a .c) (a .p) (a .q) w (a .j) (a .allowance) _ judged)
+    in-number walkAnswer (sym (walk-refused (a .n) (a .start) (a .k) l (a .b) (a .c) (a .p) (a .q) w (a .j) (a .allowance) _ judged))
 
 pub walk-spec : {M : Type 1} → statement M
 walk-spec =

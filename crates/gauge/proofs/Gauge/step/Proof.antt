@@ -1,8 +1,11 @@
 -- `Gauge::step` meets its contract: the refusal of fitness, else what 6 and the step say. Assumes nothing.
 use mathlib.Core.Path.{_∙_}
 use borrow.Author.Needs.{needs}
+use Rattle.refusals.specs.Refusals.{answerOf}
+use Rattle.refusals.proofs.Numbers.{in-number}
 use Rattle.model.specs.Lists.{Lists, lists}
 use Rattle.model.proofs.Held.{told-holds}
+use Rattle.gauge.specs.declared.Gauged.{Gauged}
 use Rattle.gauge.proofs.Gauges.{step-fit, step-unfit}
 use Rattle.gauge.proofs.Gauge.step.Statement.{statement}
 use Rattle.gauge.proofs.Gauge.step.Tie as tie
@@ -38,16 +41,18 @@ returns c =
     let d = c .before .before .before in
     let a = start d .args in
     let l = lists-of (start d) in
-    c .step-levelled .ensures
-    ∙ step-fit (a .n) (a .start) (a .k) l _ (d .check-model .ensures) (a .b) (a .arc) (a .self) (c .before .enum-told .given .1)
+    in-number (λ (y : Gauged). answerOf (y .verdict))
+    (c .step-levelled .ensures
+    ∙ step-fit (a .n) (a .start) (a .k) l _ (d .check-model .ensures) (a .b) (a .arc) (a .self) (c .before .enum-told .given .1))
 
 returns-2 : tie.Need-returns-2
 returns-2 c =
     let d = c .before .before .before .before in
     let a = start d .args in
     let l = lists-of (start d) in
-    c .refused .ensures
-    ∙ step-unfit (a .n) (a .start) (a .k) l _ (d .check-model .ensures) (a .b) (a .arc) (a .self) _ (c .before .before .verdict .given .1)
+    in-number (λ (y : Gauged). answerOf (y .verdict))
+    (c .refused .ensures
+    ∙ step-unfit (a .n) (a .start) (a .k) l _ (d .check-model .ensures) (a .b) (a .arc) (a .self) _ (c .before .before .verdict .given .1))
 
 pub step-spec : {M : Type 1} → statement M
 step-spec =

@@ -1,0 +1,93 @@
+-- The numbers of the table: no two refusals share one, 0 is that of the yes alone, and each fits a byte. Assumes nothing.
+use mathlib.Core.Path.{_≡_, refl, sym, ap, _∙_}
+use mathlib.Core.Bool.{cond}
+use mathlib.Core.Logic.{_↔_}
+use Prim.Native.Nat.{_^_, _<_}
+use native.Mathlib.Omega.{arith}
+use lib.Dec.{eqb}
+use Rattle.refusals.specs.declared.Answer.{Answer}
+use Rattle.refusals.specs.declared.Refusal.{Refusal}
+use Rattle.refusals.specs.declared.Refusal.the-variants.{ModeCount, StartMode, ArcLists, ColourCount, UnfitArc, Levels, Product, WorkingSpace, PlanBuffer, NoPlan, PlanLength, ArcNumber, OtherMode, OpenCycle, ImpossibleStep, FallingCycle, MissingColour, NoSuchColour, MixedGauge}
+use Rattle.refusals.specs.declared.Verdict.{Verdict}
+use Rattle.refusals.specs.declared.Verdict.the-variants.{Yes, Refused}
+use Rattle.refusals.specs.Refusals.{numbered, answerOf}
+
+-- the numbers of refusals are not 0, and fit a byte
+pub refusal-number : (r : Refusal) → (0 < numbered r .number) × (numbered r .number < 2 ^ 8)
+refusal-number ModeCount = omega arith
+refusal-number StartMode = omega arith
+refusal-number ArcLists = omega arith
+refusal-number ColourCount = omega arith
+refusal-number (UnfitArc d) = omega arith
+refusal-number Levels = omega arith
+refusal-number Product = omega arith
+refusal-number WorkingSpace = omega arith
+refusal-number PlanBuffer = omega arith
+refusal-number NoPlan = omega arith
+refusal-number PlanLength = omega arith
+refusal-number (ArcNumber d) = omega arith
+refusal-number (OtherMode d) = omega arith
+refusal-number OpenCycle = omega arith
+refusal-number (ImpossibleStep d) = omega arith
+refusal-number FallingCycle = omega arith
+refusal-number (MissingColour d) = omega arith
+refusal-number NoSuchColour = omega arith
+refusal-number MixedGauge = omega arith
+
+-- the refusal that a number and a detail stand for
+abbrev refusalOf : Answer → Refusal
+refusalOf x =
+    cond (eqb (x .number) 1) ModeCount
+    (cond (eqb (x .number) 2) StartMode
+    (cond (eqb (x .number) 3) ArcLists
+    (cond (eqb (x .number) 4) ColourCount
+    (cond (eqb (x .number) 5) (UnfitArc (x .detail))
+    (cond (eqb (x .number) 6) Levels
+    (cond (eqb (x .number) 7) Product
+    (cond (eqb (x .number) 8) WorkingSpace
+    (cond (eqb (x .number) 9) PlanBuffer
+    (cond (eqb (x .number) 10) NoPlan
+    (cond (eqb (x .number) 11) PlanLength
+    (cond (eqb (x .number) 12) (ArcNumber (x .detail))
+    (cond (eqb (x .number) 13) (OtherMode (x .detail))
+    (cond (eqb (x .number) 14) OpenCycle
+    (cond (eqb (x .number) 15) (ImpossibleStep (x .detail))
+    (cond (eqb (x .number) 16) FallingCycle
+    (cond (eqb (x .number) 17) (MissingColour (x .detail))
+    (cond (eqb (x .number) 18) NoSuchColour
+    MixedGauge)))))))))))))))))
+
+refusal-back : (r : Refusal) → refusalOf (numbered r) ≡ r
+refusal-back ModeCount = refl
+refusal-back StartMode = refl
+refusal-back ArcLists = refl
+refusal-back ColourCount = refl
+refusal-back (UnfitArc d) = refl
+refusal-back Levels = refl
+refusal-back Product = refl
+refusal-back WorkingSpace = refl
+refusal-back PlanBuffer = refl
+refusal-back NoPlan = refl
+refusal-back PlanLength = refl
+refusal-back (ArcNumber d) = refl
+refusal-back (OtherMode d) = refl
+refusal-back OpenCycle = refl
+refusal-back (ImpossibleStep d) = refl
+refusal-back FallingCycle = refl
+refusal-back (MissingColour d) = refl
+refusal-back NoSuchColour = refl
+refusal-back MixedGauge = refl
+
+-- a number and a detail are those of one refusal alone
+pub refusal-one : (q r : Refusal) → numbered q ≡ numbered r → q ≡ r
+refusal-one q r e = sym (refusal-back q) ∙ ap {B = Refusal} refusalOf e ∙ refusal-back r
+
+-- 0 is the number of the yes alone
+pub yes-number : (v : Verdict) → (answerOf v .number ≡ 0) ↔ (v ≡ Yes)
+yes-number Yes = (λ e. refl, λ e. refl)
+yes-number (Refused r) = (λ e. absurd (omega (arith, refusal-number r)), λ e. ap (λ (v : Verdict). answerOf v .number) e)
+
+module _ {A B : Type 0} (f : A → B) where
+  -- what is answered, and with it its number, by the definition f that gives it
+  pub in-number : {x y : A} → x ≡ y → (x ≡ y) × (f x ≡ f y)
+  in-number e = (e, ap {B = B} f e)
