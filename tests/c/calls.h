@@ -234,6 +234,7 @@ void test_parts_of_weights(void);
 void test_examples_by_weights(void);
 void test_weight_steps(void);
 void test_unfit_weights(void);
+void test_equal_plans(void);
 void test_random(unsigned long models);
 void test_random_large(unsigned long models);
 void test_random_draws(unsigned long models);
@@ -244,5 +245,6 @@ void test_random_scaled(unsigned long models);
 void test_random_weights(unsigned long models);
 void test_random_large_weights(unsigned long models);
 void test_random_cases(unsigned long moves);
+void test_random_equal_plans(unsigned long models);
 
 #endif

@@ -62,6 +62,11 @@ static void test_random_cases_of_a_step(void)
     test_random_cases(random_models / 4);
 }
 
+static void test_random_plans_again(void)
+{
+    test_random_equal_plans(random_models / 40);
+}
+
 static const struct {
     const char *name;
     void (*run)(void);
@@ -79,6 +84,7 @@ static const struct {
     {"search, long plans", test_long_plans},
     {"search, a ring of 64 modes", test_ring},
     {"search, arcs in any order", test_groups},
+    {"search, equal inputs give equal plans", test_equal_plans},
     {"gauge, starting", test_start},
     {"gauge, document 01's examples", test_steps},
     {"gauge, the greatest gain and draw", test_extreme_steps},
@@ -118,6 +124,7 @@ static const struct {
     {"random models and plans, by weights", test_random_models_by_weights},
     {"random models with many arcs and every weight, by weights", test_random_large_models_by_weights},
     {"random steps where the case changes", test_random_cases_of_a_step},
+    {"random searches, equal inputs give equal plans", test_random_plans_again},
 };
 
 int main(int argc, char **argv)
