@@ -37,11 +37,11 @@
  * THE CALLS. First the calls over a struct chargeplan_model, which have the model in one argument. They are inline functions over the
  * library's own entries, which come after them and take each list with a length of its own.
  *
- * COST. Stack, with the arguments on it: up to 15,000 bytes for judging and for search, 8,500 for starting a gauge, 10,600 for a step of
- * one, 17,100 for the walk. Every call reads the five lists once. Judging then looks at 2 * p + 4 * q places of the plan at most, and
- * the walk at p + q more. Search tries arcs, arcs * (b + 1) * ((k + 1) * (n + 1) + 2) times at most, which is 25 million at the ceilings;
- * the slowest search that was found takes some 35 ms, one of a random model of 64 modes 0.1 ms. docs/C-API.md says how this was counted and
- * measured.
+ * COST. Stack, with the arguments on it: up to 15,000 bytes for judging and for search, 8,500 for starting a gauge, 10,600 for a
+ * step of one, 17,100 for the walk. Every call reads the five lists once. Judging then looks at 2 * p + 4 * q places of the plan at
+ * most, and the walk at p + q more. Search tries arcs at most m * (b + 1) * ((k + 1) * (n + 1) + 2) times, where there are m of them:
+ * 25 million times at the ceilings. The slowest search that was found takes some 35 ms, one of a random model of 64 modes 0.1 ms.
+ * docs/C-API.md says how this was counted and measured.
  */
 #ifndef CHARGEPLAN_H
 #define CHARGEPLAN_H
@@ -158,9 +158,9 @@ static inline uint64_t chargeplan_model_judge(const struct chargeplan_model *m, 
  *
  * Answers 0 with p and q: the prefix is in plan[0] to plan[p - 1] and the cycle in plan[p] to plan[p + q - 1]; later bytes are
  * as they were. Which feasible and accepted plan it is, is free; equal n, start, k, lists, c and b give an equal plan, whatever the
- * buffers are (docs/C-API.md says on what that rests). Answers 10 where no plan of any length is feasible and
- * accepted: a larger b may help, another buffer will not. After either, every word of work is 0, and after 10 plan is as it
- * was. Else answers the first of 1 to 9 that applies; work and plan are then as they were.
+ * buffers are (docs/C-API.md says on what that rests). Answers 10 where no plan of any length is feasible and accepted: a larger b
+ * may help, another buffer will not. After either, every word of work is 0, and after 10 plan is as it was. Else answers the first of
+ * 1 to 9 that applies; work and plan are then as they were.
  */
 static inline uint64_t chargeplan_model_search(const struct chargeplan_model *m, uint32_t c, uint32_t b, uint16_t *work,
     size_t work_length, uint8_t *plan, size_t plan_length);
