@@ -4,27 +4,40 @@
  * a walk tells at which step each colour is first met.
  *
  *     desk MISSION
+ *     desk -h
  *
  * A mission is a text of lines, in any order: "modes N", "start MODE", "colours K", "bound B" and "credit C", each once, and for
  * each arc "arc SOURCE TARGET MOVE COLOUR..", with the numbers of the colours that the arc meets. A move is one word: "-9" draws 9, "5"
  * or "+5" gains 5, "0" does nothing, and "-5+8" draws 5 first and then gains 8. Other numbers have no sign: "-5 +3" cannot be read,
- * but "-5 3" can, as a draw of 5 and colour 3. What follows a '#' is a comment. A line has at most 250 characters.
- * Exit status: 0 a plan, 1 no plan exists, 2 refused, 3 the mission cannot be read or there is no memory.
+ * but "-5 3" can, as a draw of 5 and colour 3. What follows a '#' is a comment. A line has at most 250 characters and ends with LF, with
+ * CR LF or with the file. A NUL byte cannot be read, nor a CR elsewhere, not even in a comment. Of the first line that cannot be read
+ * stderr has the number and what is wrong in it.
+ * Exit status: 0 a plan, or -h; 1 no plan exists; 2 refused; 3 the mission cannot be read, the answer cannot be written, or there is no
+ * memory.
  */
 #include "chargeplan.h"
 
+#include <ctype.h>
+#include <errno.h>
 #include <inttypes.h>
+#include <stdarg.h>
 #include <stdio.h>
 #include <stdlib.h>
 #include <string.h>
 
 enum { PLAN = 0, NO_PLAN = 1, REFUSED = 2, FAILED = 3 };
 
-/* A line with its end. */
-enum { LINE = 254 };
+/* The most characters of a line, without its end. */
+enum { LINE = 250 };
+
+/* The most characters of a word that is printed as wrong. */
+enum { SHOWN = 40 };
 
 /* One arc more than the planner takes is kept, so that it refuses a list that is too long by its number. */
 enum { ARCS_KEPT = CHARGEPLAN_ARCS_MOST + 1 };
+
+/* The greatest colour that a byte of the list can hold. */
+enum { COLOUR_BIT_MOST = 7 };
 
 /* The numbers of a mission, in the order of their words. */
 enum { MODES, START, COLOURS, BOUND, CREDIT, NUMBERS };
@@ -33,7 +46,7 @@ static const char *const number_words[NUMBERS] = {"modes", "start", "colours", "
 
 struct mission {
     uint32_t numbers[NUMBERS];
-    int known[NUMBERS];
+    unsigned lines[NUMBERS]; /* where each number stands; 0 where it has not been read */
     size_t arcs;
     uint8_t sources[ARCS_KEPT];
     uint8_t targets[ARCS_KEPT];
@@ -95,145 +108,260 @@ static int is_yes(const char *call, uint64_t answer)
     return 0;
 }
 
-static const char blanks[] = " \t\r\n";
+/* A text that is being read, and the number of the line that was read last. */
+struct text {
+    const char *name;
+    FILE *file;
+    unsigned line;
+};
 
-/* Whether nothing but blanks is left of a line. */
-static int is_blank(const char *line)
+/* Says what is wrong with the line that was read last. The answer is 0: it cannot be read. */
+static int wrong(const struct text *t, const char *reason, ...)
 {
-    return line[strspn(line, blanks)] == '\0';
+    va_list parts;
+
+    fprintf(stderr, "%s: line %u: ", t->name, t->line);
+    va_start(parts, reason);
+    vfprintf(stderr, reason, parts);
+    va_end(parts);
+    fprintf(stderr, "\n");
+    return 0;
 }
 
-/* Whether a word ends before this character. */
-static int is_end(char next)
+/* Says why the file cannot be opened or read. The answer is 0. */
+static int wrong_file(const char *name, const char *what)
 {
-    return next == '\0' || strchr(blanks, next) != NULL;
+    fprintf(stderr, "%s: cannot be %s: %s\n", name, what, strerror(errno));
+    return 0;
 }
 
-/* The digits that a text begins with, as a number up to most; the answer is 0 where there are none or the number is greater. */
-static int read_digits(char **text, long most, long *value)
+/* Makes a word fit to be printed: what is no printable character becomes '?', and what is too long is cut. */
+static const char *shown(char *word)
+{
+    char *c;
+
+    for (c = word; *c != '\0'; c++)
+        if (!isprint((unsigned char)*c))
+            *c = '?';
+    if (c - word > SHOWN)
+        strcpy(word + SHOWN - 3, "...");
+    return word;
+}
+
+/* The next word of a line, and the line moved behind it; NULL where there is none. */
+static char *next_word(char **line)
+{
+    static const char blanks[] = " \t";
+    char *word = *line + strspn(*line, blanks);
+    char *end = word + strcspn(word, blanks);
+
+    *line = *end == '\0' ? end : end + 1;
+    *end = '\0';
+    return word == end ? NULL : word;
+}
+
+/* The digits that a text begins with, and the text moved behind them; the answer is 0 where there are none. */
+static int read_digits(char **text, unsigned long long *value)
 {
     if (**text < '0' || **text > '9')
         return 0;
-    *value = strtol(*text, text, 10);
-    return *value <= most;
+    /* Of more digits than it can hold this makes the greatest number, which is above every limit here. */
+    *value = strtoull(*text, text, 10);
+    return 1;
 }
 
-/* The next word of a line as a number up to most; the answer is 0 where it is none. */
-static int next_number(char **line, long most, long *value)
+/* A word as a number up to most; what is its name. The answer is 0 where it is none, with the reason printed. */
+static int read_value(const struct text *t, const char *what, char *word, uint32_t most, uint32_t *value)
 {
-    *line += strspn(*line, blanks);
-    return read_digits(line, most, value) && is_end(**line);
-}
+    unsigned long long number;
+    char *end = word;
 
-/* The next word of a line as a move: "-DRAW", "GAIN", "+GAIN" or "-DRAW+GAIN"; the answer is 0 where it is none. */
-static int next_move(char **line, long *draw, long *gain)
-{
-    *draw = 0;
-    *gain = 0;
-    *line += strspn(*line, blanks);
-    if (**line == '-') {
-        ++*line;
-        if (!read_digits(line, UINT16_MAX, draw))
-            return 0;
-        if (is_end(**line))
-            return 1;
-        if (**line != '+')
-            return 0;
-    }
-    if (**line == '+')
-        ++*line;
-    return read_digits(line, UINT16_MAX, gain) && is_end(**line);
+    if (!read_digits(&end, &number) || *end != '\0')
+        return wrong(t, "%s \"%s\" is not a number of digits alone", what, shown(word));
+    if (number > most)
+        return wrong(t, "%s %s is above %" PRIu32, what, shown(word), most);
+    *value = (uint32_t)number;
+    return 1;
 }
 
 /* The number after its word, to the end of the line; once. */
-static int read_number(struct mission *m, int which, char *line)
+static int read_number(const struct text *t, struct mission *m, int which, char *line)
 {
-    long value;
+    const char *name = number_words[which];
+    char *word = next_word(&line);
 
-    if (m->known[which] || !next_number(&line, INT32_MAX, &value) || !is_blank(line))
+    if (m->lines[which] > 0)
+        return wrong(t, "\"%s\" a second time, after line %u", name, m->lines[which]);
+    if (word == NULL)
+        return wrong(t, "no number after \"%s\"", name);
+    if (!read_value(t, name, word, UINT32_MAX, &m->numbers[which]))
         return 0;
-    m->numbers[which] = (uint32_t)value;
-    m->known[which] = 1;
+    word = next_word(&line);
+    if (word != NULL)
+        return wrong(t, "\"%s\" where the line should end", shown(word));
+    m->lines[which] = t->line;
+    return 1;
+}
+
+/* The next word of an arc's line as an end of the arc, "source" or "target". */
+static int read_end(const struct text *t, const char *what, char **line, uint8_t *end)
+{
+    char *word = next_word(line);
+    uint32_t value = 0;
+
+    if (word == NULL)
+        return wrong(t, "the arc has no %s", what);
+    if (!read_value(t, what, word, UINT8_MAX, &value))
+        return 0;
+    *end = (uint8_t)value;
+    return 1;
+}
+
+/* The draw and the gain of a move: "-DRAW", "GAIN", "+GAIN" or "-DRAW+GAIN"; the answer is 0 where the word is none. */
+static int split_move(char *word, unsigned long long *draw, unsigned long long *gain)
+{
+    *draw = 0;
+    *gain = 0;
+    if (*word == '-') {
+        word++;
+        if (!read_digits(&word, draw))
+            return 0;
+        if (*word == '\0')
+            return 1;
+    }
+    if (*word == '+')
+        word++;
+    return read_digits(&word, gain) && *word == '\0';
+}
+
+/* The next word of an arc's line as its move. */
+static int read_move(const struct text *t, char **line, uint16_t *draw, uint16_t *gain)
+{
+    char *word = next_word(line);
+    unsigned long long drawn, gained;
+
+    if (word == NULL)
+        return wrong(t, "the arc has no move");
+    if (!split_move(word, &drawn, &gained))
+        return wrong(t, "\"%s\" is no move: -DRAW, GAIN, +GAIN or -DRAW+GAIN", shown(word));
+    if (drawn > UINT16_MAX || gained > UINT16_MAX)
+        return wrong(t, "the %s of %s is above %u", drawn > UINT16_MAX ? "draw" : "gain", shown(word), (unsigned)UINT16_MAX);
+    *draw = (uint16_t)drawn;
+    *gain = (uint16_t)gained;
+    return 1;
+}
+
+/* The colours that an arc meets, a bit each, to the end of its line. */
+static int read_colours(const struct text *t, char *line, uint8_t *met)
+{
+    unsigned bits = 0;
+    uint32_t colour = 0;
+    char *word;
+
+    while ((word = next_word(&line)) != NULL) {
+        if (!read_value(t, "colour", word, COLOUR_BIT_MOST, &colour))
+            return 0;
+        bits |= 1u << colour;
+    }
+    *met = (uint8_t)bits;
     return 1;
 }
 
 /* One arc, to the end of the line. A number that its list can hold is left to the planner. */
-static int read_arc(struct mission *m, char *line)
+static int read_arc(const struct text *t, struct mission *m, char *line)
 {
-    long source, target, draw, gain, colour;
-    unsigned met = 0;
+    uint8_t source = 0, target = 0, met = 0;
+    uint16_t draw = 0, gain = 0;
 
-    if (!next_number(&line, UINT8_MAX, &source) || !next_number(&line, UINT8_MAX, &target) || !next_move(&line, &draw, &gain))
+    if (!read_end(t, "source", &line, &source) || !read_end(t, "target", &line, &target) || !read_move(t, &line, &draw, &gain)
+        || !read_colours(t, line, &met))
         return 0;
-    while (!is_blank(line)) {
-        if (!next_number(&line, 7, &colour))
-            return 0;
-        met |= 1u << colour;
-    }
     if (m->arcs == ARCS_KEPT)
         return 1;
-    m->sources[m->arcs] = (uint8_t)source;
-    m->targets[m->arcs] = (uint8_t)target;
-    m->draws[m->arcs] = (uint16_t)draw;
-    m->gains[m->arcs] = (uint16_t)gain;
-    m->met[m->arcs] = (uint8_t)met;
+    m->sources[m->arcs] = source;
+    m->targets[m->arcs] = target;
+    m->draws[m->arcs] = draw;
+    m->gains[m->arcs] = gain;
+    m->met[m->arcs] = met;
     m->arcs++;
     return 1;
 }
 
-static int read_line(struct mission *m, char *line)
+/* What a line says; the answer is 0 where it cannot be read, with the reason printed. */
+static int read_line(const struct text *t, struct mission *m, char *line)
 {
-    char word[9];
-    int length = 0, which;
+    char *word;
+    int which;
 
     line[strcspn(line, "#")] = '\0';
-    if (is_blank(line))
+    word = next_word(&line);
+    if (word == NULL)
         return 1;
-    if (sscanf(line, "%8s%n", word, &length) != 1)
-        return 0;
     if (strcmp(word, "arc") == 0)
-        return read_arc(m, line + length);
+        return read_arc(t, m, line);
     for (which = 0; which < NUMBERS; which++)
         if (strcmp(word, number_words[which]) == 0)
-            return read_number(m, which, line + length);
-    return 0;
+            return read_number(t, m, which, line);
+    return wrong(t, "unknown word \"%s\"", shown(word));
 }
 
-/* The lines of a mission; the answer is 0 where one cannot be read, with the reason printed. */
-static int read_lines(FILE *file, const char *name, struct mission *m)
+/*
+ * The characters of a line, the first of which has been read; there is room for the CR of its end and a NUL. The answer is 0 where they
+ * are no line, with the reason printed: a NUL would hide what follows it, and so would a CR in a comment, since it may show as the end
+ * of a line and is none.
+ */
+static int fill_line(const struct text *t, int first, char line[LINE + 2])
 {
-    char line[LINE];
-    unsigned number = 0;
+    size_t length = 0;
+    int c;
 
-    while (fgets(line, LINE, file) != NULL) {
-        number++;
-        if (strlen(line) == LINE - 1 || !read_line(m, line)) {
-            fprintf(stderr, "%s: line %u cannot be read\n", name, number);
-            return 0;
-        }
+    for (c = first; c != '\n' && c != EOF; c = fgetc(t->file)) {
+        if (c == '\0')
+            return wrong(t, "a NUL byte");
+        if (length > 0 && line[length - 1] == '\r')
+            return wrong(t, "a CR that does not end the line");
+        if (length == LINE && c != '\r')
+            return wrong(t, "longer than %d characters", LINE);
+        line[length++] = (char)c;
     }
-    if (ferror(file)) {
-        fprintf(stderr, "%s: cannot be read\n", name);
-        return 0;
-    }
+    if (length > 0 && line[length - 1] == '\r')
+        length--;
+    line[length] = '\0';
     return 1;
+}
+
+/* The lines of a text; the answer is 0 where one cannot be read, with the reason printed. */
+static int read_lines(struct text *t, struct mission *m)
+{
+    char line[LINE + 2];
+    int first;
+
+    while ((first = fgetc(t->file)) != EOF) {
+        t->line++;
+        if (!fill_line(t, first, line))
+            return 0;
+        /* A line that a failed read has cut is not looked at. */
+        if (ferror(t->file))
+            break;
+        if (!read_line(t, m, line))
+            return 0;
+    }
+    return !ferror(t->file) || wrong_file(t->name, "read");
 }
 
 /* The mission of a file; the answer is 0 where it cannot be read or lacks a number, with the reason printed. */
 static int read_mission(const char *name, struct mission *m)
 {
+    struct text t = {name, fopen(name, "r"), 0};
     int fine, which;
-    FILE *file = fopen(name, "r");
 
-    if (file == NULL) {
-        fprintf(stderr, "%s: cannot be opened\n", name);
-        return 0;
-    }
+    if (t.file == NULL)
+        return wrong_file(name, "opened");
     memset(m, 0, sizeof *m);
-    fine = read_lines(file, name, m);
-    fclose(file);
+    fine = read_lines(&t, m);
+    fclose(t.file);
     for (which = 0; fine && which < NUMBERS; which++)
-        if (!m->known[which]) {
+        if (m->lines[which] == 0) {
             fprintf(stderr, "%s: has no line \"%s\"\n", name, number_words[which]);
             fine = 0;
         }
@@ -253,12 +381,12 @@ static struct chargeplan_model model_of(const struct mission *m)
 enum { MOVE = sizeof "-65535+65535" };
 
 /* Writes the move of an arc as a mission has it. */
-static void write_move(char word[MOVE], unsigned draw, unsigned gain)
+static void write_move(char word[MOVE], uint16_t draw, uint16_t gain)
 {
     if (draw > 0 && gain > 0)
-        snprintf(word, MOVE, "-%u+%u", draw, gain);
+        snprintf(word, MOVE, "-%u+%u", (unsigned)draw, (unsigned)gain);
     else
-        snprintf(word, MOVE, "%s%u", draw > 0 ? "-" : "", draw > 0 ? draw : gain);
+        snprintf(word, MOVE, "%s%u", draw > 0 ? "-" : "", (unsigned)(draw > 0 ? draw : gain));
 }
 
 /* Steps the gauge on an arc, and prints the arc's move, the gauge and the step's spill. The answer is 0 where the step is refused. */
@@ -350,34 +478,69 @@ static int plan_mission(const struct chargeplan_model *model, uint32_t c, uint32
     return run_plan(model, c, b, plan, p, q) && print_colours(model, c, b, plan, p, q) ? PLAN : REFUSED;
 }
 
-int main(int argc, char **argv)
+/* Lends the buffers that the mission's search needs, and tells what came of it. */
+static int answer_mission(const struct mission *m)
 {
-    struct mission m;
-    struct chargeplan_model model;
-    uint32_t bound;
-    size_t words, bytes;
-    uint16_t *work;
-    uint8_t *plan;
+    struct chargeplan_model model = model_of(m);
+    uint32_t bound = m->numbers[BOUND];
+    /* Where the numbers are refused in any case, no buffer is needed: both sizes are 0. */
+    size_t words = chargeplan_work_words(model.n, model.k, bound);
+    size_t bytes = chargeplan_plan_bytes(model.n, model.k, bound);
+    uint16_t *work = malloc(words * sizeof *work);
+    uint8_t *plan = malloc(bytes);
     int status = FAILED;
 
-    if (argc != 2) {
-        fprintf(stderr, "usage: desk MISSION\n");
-        return FAILED;
-    }
-    if (!read_mission(argv[1], &m))
-        return FAILED;
-    model = model_of(&m);
-    bound = m.numbers[BOUND];
-    /* Where the numbers are refused in any case, no buffer is needed: both sizes are 0. */
-    words = chargeplan_work_words(model.n, model.k, bound);
-    bytes = chargeplan_plan_bytes(model.n, model.k, bound);
-    work = malloc(words * sizeof *work);
-    plan = malloc(bytes);
     if (words > 0 && (work == NULL || plan == NULL))
         fprintf(stderr, "no memory for %lu words and %lu bytes\n", (unsigned long)words, (unsigned long)bytes);
     else
-        status = plan_mission(&model, m.numbers[CREDIT], bound, work, words, plan, bytes);
+        status = plan_mission(&model, m->numbers[CREDIT], bound, work, words, plan, bytes);
     free(work);
     free(plan);
     return status;
+}
+
+static void print_help(void)
+{
+    printf("usage: desk MISSION\n"
+           "\n"
+           "Searches a plan for a mission, judges it and runs it on the bench. A mission is a text of lines, in any order:\n"
+           "\n"
+           "    modes N                            how many modes, numbered from 0\n"
+           "    start MODE                         the mode on arrival\n"
+           "    colours K                          how many colours (duties), numbered from 0\n"
+           "    bound B                            the battery size\n"
+           "    credit C                           the charge on arrival\n"
+           "    arc SOURCE TARGET MOVE COLOUR..    one for each arc, with the numbers of the colours that it meets\n"
+           "\n"
+           "MOVE is -DRAW, GAIN, +GAIN or -DRAW+GAIN. What follows a '#' is a comment. A line has at most %d characters.\n"
+           "\n"
+           "Exit status: 0 a plan, 1 no plan exists, 2 refused, 3 the mission cannot be read, the answer cannot be written, or there is\n"
+           "no memory.\n",
+        LINE);
+}
+
+/* The exit status once all that was printed is written; 3 where it cannot be. */
+static int close_output(int status)
+{
+    int failed = ferror(stdout);
+
+    if (fclose(stdout) == 0 && !failed)
+        return status;
+    fprintf(stderr, "desk: standard output cannot be written\n");
+    return FAILED;
+}
+
+int main(int argc, char **argv)
+{
+    struct mission m;
+
+    if (argc != 2) {
+        fprintf(stderr, "usage: desk MISSION (desk -h says what a mission is)\n");
+        return FAILED;
+    }
+    if (strcmp(argv[1], "-h") == 0 || strcmp(argv[1], "--help") == 0) {
+        print_help();
+        return close_output(EXIT_SUCCESS);
+    }
+    return read_mission(argv[1], &m) ? close_output(answer_mission(&m)) : FAILED;
 }
