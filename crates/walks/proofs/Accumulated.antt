@@ -31,6 +31,15 @@ smaller-pos b x =
 at-least-zero : (e : ℕ) → pos 0 ≤ℤ pos e
 at-least-zero e = leZ-yes (rw (le-leb 0 e zero-le) tt)
 
+-- e₁ = min (b, c): a credit above the bound counts as the bound
+pub credit-cut : (b c : ℕ) (ws : List ℤ) → accumulated b c ws ≡ accumulated b (min c b) ws
+unfolding accumulated
+credit-cut b c ws =
+    let first : smaller (pos b) (pos c) ≡ smaller (pos b) (pos (min c b)) =
+    smaller-pos b c ∙ ap {B = ℤ} pos (omega arith) ∙ sym (smaller-pos b (min c b))
+    in
+    ap {B = List ℤ} (accumulatedFrom (pos b) ws) first
+
 -- the accumulated weights from e on begin with e
 first-weight : (b : ℤ) (ws : List ℤ) (e : ℤ) → NonNegative (accumulatedFrom b ws e) → pos 0 ≤ℤ e
 first-weight b [] e h = h .0
