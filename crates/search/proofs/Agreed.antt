@@ -5,7 +5,9 @@ use mathlib.Core.Path.{_≡_, refl, sym, ap, subst₂, _∙_}
 use mathlib.Core.List.{List, [], _∷_}
 use Prim.Native.Nat.{ℕ, zero, suc, _+_, _<_}
 use native.Mathlib.Omega.{arith}
+use native.Mathlib.Decide.{ℕ-discrete}
 use lib.ListN.{length, getD, take}
+use Rattle.refusals.specs.declared.Answer.{Answer}
 use Rattle.refusals.specs.declared.Refusal.{Refusal}
 use Rattle.refusals.specs.declared.Verdict.{Verdict}
 use Rattle.refusals.specs.declared.Verdict.the-variants.{Yes, Refused}
@@ -18,9 +20,10 @@ use Rattle.model.proofs.Arcs.{arcs-length, arcs-here}
 use Rattle.model.proofs.Leads.{leads-cut}
 use Rattle.judge.proofs.Leads.{leads-chain}
 use Rattle.judge.proofs.Shapes.{numbers-yes}
+use Rattle.search.specs.declared.SearchAnswer.{SearchAnswer}
 use Rattle.search.specs.declared.Searched.{Searched}
 use Rattle.search.specs.declared.Searched.the-variants as outcome
-use Rattle.search.specs.Search.{noPlan, IsFound, searchAnswer, searchable, Answered, none, found, SearchOf}
+use Rattle.search.specs.Search.{noPlan, IsFound, searchAnswer, searchable, Answered, none, found, SearchByNumber, SearchOf}
 use Rattle.search.specs.Agreed.{Agreed, refusals, tens, plans, GivenNumbers}
 use Rattle.search.proofs.Demand3.{answered-found, plan-searchable, search-none}
 
@@ -110,3 +113,23 @@ pub agreed-answer : {v : Verdict} {r r₂ : Searched} → Agreed v r r₂ → se
 agreed-answer (refusals e) = refl
 agreed-answer (tens e) = refl
 agreed-answer (plans e) = refl
+
+-- by the numbers that are answered: two answers to a call have the same number and detail, and the same p and q where it is not a plan
+pub numbers-agree : (v : Verdict) {g : Automaton} {b c : ℕ} {plan plan′ plan₂ plan₂′ : List ℕ} {a a₂ : SearchAnswer}
+    → SearchByNumber v g b c plan plan′ a → SearchByNumber v g b c plan₂ plan₂′ a₂
+    → (a .answer ≡ a₂ .answer) × ((a .answer .number ≡ 0 → ⊥) → (a .p ≡ a₂ .p) × (a .q ≡ a₂ .q))
+numbers-agree (Refused x) h h₂ =
+    let (e, p, q) = h .refused x refl in
+    let (e₂, p₂, q₂) = h₂ .refused x refl in
+    (e ∙ sym e₂, λ no. (p ∙ sym p₂, q ∙ sym q₂))
+numbers-agree Yes {a = a} h h₂ =
+    elim (ℕ-discrete (a .answer .number) 10) [
+      | yes ten ↦
+          let (e, p, q) = h .ten-alone refl ten in
+          let (e₂, p₂, q₂) = h₂ .ten-alone refl (h₂ .ten refl .1 (h .ten refl .0 ten)) in
+          (e ∙ sym e₂, λ no. (p ∙ sym p₂, q ∙ sym q₂))
+      | no plan ↦
+          let e = h .otherwise refl plan .0 in
+          let e₂ = h₂ .otherwise refl (λ ten. plan (h .ten refl .1 (h₂ .ten refl .0 ten))) .0 in
+          (e ∙ sym e₂, λ no. absurd (no (ap {B = ℕ} (λ (x : Answer). x .number) e)))
+    ]

@@ -1,15 +1,17 @@
 -- Demand 3, from what search promises of every call. Document 01: "Demand 3 is one claim over all inputs of this call": the answer is 10
 -- exactly when there is no plan, and else a plan, to which judging says yes. Assumes nothing.
-use mathlib.Core.Path.{_≡_, refl}
+use mathlib.Core.Path.{_≡_, refl, ap}
 use mathlib.Core.List.{List}
 use mathlib.Core.Logic.{_↔_}
 use Prim.Native.Nat.{ℕ, _+_}
 use native.Mathlib.Omega.{arith}
 use lib.ListN.{length, take, length-drop}
 use lib.Seq.{length-take-le}
+use Rattle.refusals.specs.declared.Answer.{Answer}
 use Rattle.refusals.specs.declared.Verdict.{Verdict}
 use Rattle.refusals.specs.declared.Verdict.the-variants.{Yes, Refused}
 use Rattle.refusals.proofs.Verdicts.{clash}
+use Rattle.refusals.proofs.Numbers.{refusal-number}
 use Rattle.model.specs.Automaton.{Automaton}
 use Rattle.model.specs.Lists.{Lists, automatonOf}
 use Rattle.model.specs.Plans.{SomePlan}
@@ -37,6 +39,20 @@ found-lengths {p = p} {q} {plan′ = plan′} f =
 pub answered-found : {g : Automaton} {b c p q : ℕ} {plan plan′ : List ℕ} → Answered g b c plan plan′ (outcome.Plan p q) → Found g b c p q plan plan′
 answered-found (found f) = f
 
+-- judging says yes to a plan that is found where none of 1 to 9 applies
+found-judged : (n s k : ℕ) (l : Lists) (b c words bytes : ℕ) {p q : ℕ} {plan plan′ : List ℕ} → searchable n s k l b c words bytes ≡ Yes
+    → Found (automatonOf n s k l) b c p q plan plan′ → judged n s k l b c p q (take (p + q) plan′) ≡ Yes
+found-judged n s k l b c words bytes {p} {q} {plan′ = plan′} through f =
+    let able = searchable-yes n s k l b c words bytes .0 through in
+    judged-yes n s k l b c p q (take (p + q) plan′) .1 (record {
+      equal = able .equal;
+      fit = able .fit;
+      bound = able .low;
+      credit = able .credit;
+      lengths = found-lengths f;
+      serves = f .serves;
+    })
+
 module _ (n s k : ℕ) (l : Lists) (b c : ℕ) {work plan work′ plan′ : List ℕ} where
   -- where a plan is answered, none of 1 to 9 applies
   pub plan-searchable : {p q : ℕ} → SearchOf n s k l b c work plan work′ plan′ (outcome.Plan p q)
@@ -47,20 +63,21 @@ module _ (n s k : ℕ) (l : Lists) (b c : ℕ) {work plan work′ plan′ : List
       go Yes e = e
       go (Refused x) e = let stopped = h .refused x e .0 in clash (cc)
 
-  -- judging says yes to the plan that is handed back
+  -- so it does to the plan that is handed back ..
   pub search-judged : {p q : ℕ} → SearchOf n s k l b c work plan work′ plan′ (outcome.Plan p q) → judged n s k l b c p q (take (p + q) plan′) ≡ Yes
-  search-judged {p} {q} h =
-      let through = plan-searchable h in
-      let able = searchable-yes n s k l b c (length work) (length plan) .0 through in
-      let f = answered-found (h .decided through .answered) in
-      judged-yes n s k l b c p q (take (p + q) plan′) .1 (record {
-        equal = able .equal;
-        fit = able .fit;
-        bound = able .low;
-        credit = able .credit;
-        lengths = found-lengths f;
-        serves = f .serves;
-      })
+  search-judged h = let through = plan-searchable h in found-judged n s k l b c (length work) (length plan) through (answered-found (h .decided through .answered))
+
+  -- .. and by the numbers that are answered: where the number is 0, to the plan with this p and q
+  pub search-zero : {r : Searched} → SearchOf n s k l b c work plan work′ plan′ r → searchAnswer r .answer .number ≡ 0
+      → judged n s k l b c (searchAnswer r .p) (searchAnswer r .q) (take (searchAnswer r .p + searchAnswer r .q) plan′) ≡ Yes
+  search-zero {r} h zero = go (searchable n s k l b c (length work) (length plan)) refl
+    where
+      go : (v : Verdict) → searchable n s k l b c (length work) (length plan) ≡ v
+          → judged n s k l b c (searchAnswer r .p) (searchAnswer r .q) (take (searchAnswer r .p + searchAnswer r .q) plan′) ≡ Yes
+      go Yes e = found-judged n s k l b c (length work) (length plan) e (h .by-number .otherwise e (λ ten. absurd (omega (arith, zero, ten))) .1)
+      go (Refused x) e =
+          let number = ap {B = ℕ} (λ (a : Answer). a .number) (h .by-number .refused x e .0) in
+          absurd (omega (arith, zero, number, refusal-number x))
 
   module _ {r : Searched} (h : SearchOf n s k l b c work plan work′ plan′ r)
       (through : searchable n s k l b c (length work) (length plan) ≡ Yes) where
