@@ -25,7 +25,7 @@ use Rattle.planwalk.specs.Walked.{walkAnswer, walkOf}
 use Rattle.search.specs.declared.Searched.{Searched}
 use Rattle.search.specs.declared.Searched.the-variants as outcome
 use Rattle.search.specs.Search.{searchAnswer, searchable, Found, Answered, none, found, SearchOf}
-use Rattle.search.proofs.Demand3.{answered-found, plan-searchable, search-judged, search-ten}
+use Rattle.search.proofs.Demand3.{answered-found, plan-searchable, search-judged, search-ten, search-plan-kept}
 use Rattle.search.proofs.Agreed.{search-agrees, agreed-answer}
 use Rattle.desk.specs.Packing.{numberIn, detailIn, firstIn, secondIn}
 use Rattle.desk.specs.Desk.{deskJudged, deskStarted, deskWalked, DeskSearched, DeskStepped}
@@ -46,12 +46,6 @@ answered-number : {g : Automaton} {b c : ℕ} {plan plan′ : List ℕ} {x : Sea
     → (searchAnswer x .answer .number ≡ 0) ⊎ (searchAnswer x .answer .number ≡ 10)
 answered-number (none e) = inr refl
 answered-number (found f) = inl refl
-
--- where it is 10, the plan buffer is untouched
-answered-kept : {g : Automaton} {b c : ℕ} {plan plan′ : List ℕ} {x : Searched} → Answered g b c plan plan′ x
-    → searchAnswer x .answer .number ≡ 10 → plan′ ≡ plan
-answered-kept (none e) ten = e
-answered-kept (found f) ten = absurd (omega arith)
 
 module _ (n s k : ℕ) (l : Lists) (b c p q : ℕ) (w : List ℕ) where
   -- judging: the number and the detail are those of the verdict, and p and q are 0
@@ -108,7 +102,7 @@ module _ {n s k : ℕ} {l : Lists} {b c : ℕ} {work plan work′ plan′ : List
 
     -- after 10 the plan buffer is untouched
     pub desk-none : numberIn r ≡ 10 → plan′ ≡ plan
-    desk-none ten = answered-kept (h .claim .decided through .answered) (sym (desk-search-parts .number) ∙ ten)
+    desk-none ten = search-plan-kept n s k l b c (h .claim) (λ zero. absurd (omega (arith, desk-search-parts .number, ten, zero)))
 
 -- two words for one call have the same number and detail, whatever stands in the buffers
 pub desk-agrees : {n s k : ℕ} {l : Lists} {b c : ℕ} {work plan work′ plan′ work₂ plan₂ work₂′ plan₂′ : List ℕ} {r r₂ : ℕ}

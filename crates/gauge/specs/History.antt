@@ -42,7 +42,7 @@ stepsOf n s k l b w = calledAll (callsOf n s k l b w)
 abbrev pub callMove : Call → Move
 callMove d = moveOf (arcAt (callModel d) (d .arc))
 
--- "the sum, over the history, of what each step lost"
+-- "the sum, over the history, of what each step lost": of calls none of which is refused
 unfoldable pub lostBy : List Call → Gauge → ℕ
 lostBy [] x = 0
 lostBy (d ∷ h) x = lostIn (stepped (d .bound) (callMove d) (x .charge)) + lostBy h (called d x .gauge)

@@ -2,12 +2,13 @@
 -- exactly when there is no plan, and else a plan, to which judging says yes. Assumes nothing.
 use mathlib.Core.Path.{_≡_, refl, ap}
 use mathlib.Core.List.{List}
-use mathlib.Core.Logic.{_↔_}
+use mathlib.Core.Logic.{_↔_, _⊎_, inl, inr}
 use Prim.Native.Nat.{ℕ, _+_}
 use native.Mathlib.Omega.{arith}
-use lib.ListN.{length, take, length-drop}
+use lib.ListN.{length, take, length-drop, replicate}
 use lib.Seq.{length-take-le}
 use Rattle.refusals.specs.declared.Answer.{Answer}
+use Rattle.refusals.specs.declared.Refusal.{Refusal}
 use Rattle.refusals.specs.declared.Verdict.{Verdict}
 use Rattle.refusals.specs.declared.Verdict.the-variants.{Yes, Refused}
 use Rattle.refusals.proofs.Verdicts.{clash}
@@ -20,7 +21,7 @@ use Rattle.judge.specs.Judged.{judged}
 use Rattle.judge.proofs.Judged.{judged-yes}
 use Rattle.search.specs.declared.Searched.{Searched}
 use Rattle.search.specs.declared.Searched.the-variants as outcome
-use Rattle.search.specs.Search.{noPlan, searchAnswer, searchable, Found, Answered, found, SearchOf}
+use Rattle.search.specs.Search.{noPlan, searchAnswer, searchable, Found, Answered, none, found, SearchOf}
 use Rattle.search.proofs.Written.{answered-plan}
 use Rattle.search.proofs.Searchable.{searchable-yes}
 
@@ -38,6 +39,12 @@ found-lengths {p = p} {q} {plan′ = plan′} f =
 -- the plan of an answer with one
 pub answered-found : {g : Automaton} {b c p q : ℕ} {plan plan′ : List ℕ} → Answered g b c plan plan′ (outcome.Plan p q) → Found g b c p q plan plan′
 answered-found (found f) = f
+
+-- an answer without a plan leaves the plan buffer as it was
+answered-kept : {g : Automaton} {b c : ℕ} {plan plan′ : List ℕ} {r : Searched} → Answered g b c plan plan′ r
+    → (searchAnswer r .answer .number ≡ 0 → ⊥) → plan′ ≡ plan
+answered-kept (none e) refused = e
+answered-kept (found f) refused = absurd (refused refl)
 
 -- judging says yes to a plan that is found where none of 1 to 9 applies
 found-judged : (n s k : ℕ) (l : Lists) (b c words bytes : ℕ) {p q : ℕ} {plan plan′ : List ℕ} → searchable n s k l b c words bytes ≡ Yes
@@ -78,6 +85,26 @@ module _ (n s k : ℕ) (l : Lists) (b c : ℕ) {work plan work′ plan′ : List
       go (Refused x) e =
           let number = ap {B = ℕ} (λ (a : Answer). a .number) (h .by-number .refused x e .0) in
           absurd (omega (arith, zero, number, refusal-number x))
+
+  -- what is left in the buffers: a refusal, 10 among them, leaves the plan buffer as it was ..
+  pub search-plan-kept : {r : Searched} → SearchOf n s k l b c work plan work′ plan′ r → (searchAnswer r .answer .number ≡ 0 → ⊥) → plan′ ≡ plan
+  search-plan-kept {r} h refused = go (searchable n s k l b c (length work) (length plan)) refl
+    where
+      go : (v : Verdict) → searchable n s k l b c (length work) (length plan) ≡ v → plan′ ≡ plan
+      go Yes e = answered-kept (h .decided e .answered) refused
+      go (Refused x) e = h .refused x e .2
+
+  -- .. and the working space is as it was, where one of 1 to 9 applies, or zero
+  pub search-work : {r : Searched} → SearchOf n s k l b c work plan work′ plan′ r
+      → (((x : Refusal) × (searchable n s k l b c (length work) (length plan) ≡ Refused x)) × (work′ ≡ work))
+      ⊎ ((searchable n s k l b c (length work) (length plan) ≡ Yes) × (work′ ≡ replicate (length work) 0))
+  search-work {r} h = go (searchable n s k l b c (length work) (length plan)) refl
+    where
+      go : (v : Verdict) → searchable n s k l b c (length work) (length plan) ≡ v
+          → (((x : Refusal) × (searchable n s k l b c (length work) (length plan) ≡ Refused x)) × (work′ ≡ work))
+          ⊎ ((searchable n s k l b c (length work) (length plan) ≡ Yes) × (work′ ≡ replicate (length work) 0))
+      go Yes e = inr (e, h .decided e .cleared)
+      go (Refused x) e = inl ((x, e), h .refused x e .1)
 
   module _ {r : Searched} (h : SearchOf n s k l b c work plan work′ plan′ r)
       (through : searchable n s k l b c (length work) (length plan) ≡ Yes) where
