@@ -4,7 +4,7 @@ use mathlib.Core.Bool.{Bool, _||_, or-assoc, or-false}
 use mathlib.Core.List.{List, [], _∷_}
 use mathlib.Core.Logic.{_⊎_, inl, inr, ⊎-elim, _≢_}
 use Prim.Native.Nat.{ℕ, zero, suc, _+_, _-_, _/_, _%_, _^_, _≤_, _<_, max}
-use native.Mathlib.Nat.{add-zero, zero-add, suc-add, add-suc, pow-suc, pow-succ', eq-zero-or-pos, div-one, div-div-eq-div-mul, div-eq-of-lt, add-sub-of-le, mod-eq-of-lt}
+use native.Mathlib.Nat.{add-zero, zero-add, suc-add, add-suc, pow-suc, eq-zero-or-pos, div-one, div-eq-of-lt, add-sub-of-le, mod-eq-of-lt}
 use native.Mathlib.Omega.{arith}
 use native.Mathlib.Decide.{ℕ-discrete}
 use borrow.Author.Tests.{eq-eqb, ne-eqb}
@@ -17,6 +17,7 @@ use Rattle.refusals.specs.declared.Refusal.the-variants.{MissingColour}
 use Rattle.refusals.specs.declared.Verdict.{Verdict}
 use Rattle.refusals.specs.declared.Verdict.the-variants.{Yes, Refused}
 use Rattle.model.specs.Automaton.{Automaton, arcAt, bit, meets}
+use Rattle.model.proofs.Bits.{half-bit}
 use Rattle.judge.specs.Colours.{someArc, missingFrom, coloursOf, metBy}
 
 -- the greater of two digits is 1 where one of them is
@@ -61,10 +62,6 @@ pub met-full : (g : Automaton) (k : ℕ) (w : List ℕ) → ((i : ℕ) → i < l
 unfolding metBy
 met-full g k [] h = refl
 met-full g k (a ∷ w) h = rw (or-full k (arcAt g a .colours) (h 0 (omega arith))) (met-full g k w (λ i p. h (suc i) (omega arith)))
-
--- bit j of the half of a number is its bit j + 1
-half-bit : (y j : ℕ) → bit (y / 2) j ≡ bit y (suc j)
-half-bit y j = ap {B = Bool} (λ (x : ℕ). eqb (x % 2) 1) (div-div-eq-div-mul y 2 (2 ^ j) ∙ ap {B = ℕ} (λ (x : ℕ). y / x) (sym (pow-succ' 2 j)))
 
 -- what 17 says of f colours from i on, by the mask x of those that are missing
 abbrev missingBy : ℕ → ℕ → ℕ → Verdict → Type 0

@@ -1,9 +1,9 @@
 -- Colour bytes: powers of two as the code makes them, and what it means that a byte has no bit at or above k. Assumes nothing.
 use mathlib.Core.Path.{_≡_, refl, sym, ap, _∙_}
-use mathlib.Core.Bool.{false}
+use mathlib.Core.Bool.{Bool, false}
 use mathlib.Core.Logic.{_↔_}
 use Prim.Native.Nat.{ℕ, zero, suc, _+_, _*_, _/_, _%_, _^_, _≤_, _<_}
-use native.Mathlib.Nat.{one-mul, add-zero, add-suc, two-pow-succ, pow-suc, pow-succ', div-one, div-eq-of-lt, mul-div-cancel, mul-mod-left, div-div-eq-div-mul, div-lt-iff-lt-mul}
+use native.Mathlib.Nat.{one-mul, add-zero, add-suc, two-pow-succ, pow-suc, pow-succ', div-one, div-eq-of-lt, mul-mod-left, div-div-eq-div-mul, div-lt-iff-lt-mul}
 use native.Mathlib.Omega.{arith}
 use lib.Dec.{eqb, eqb·zero-suc, eqb·suc-zero, eqb·suc-suc, lit<}
 use lib.Pow.{pow-pos, pow-mono, shl-exact}
@@ -41,9 +41,9 @@ colours-below x k = (to, from)
     from : ((j : ℕ) → k ≤ j → bit x j ≡ false) → x < 2 ^ k
     from f = cleared x k x (omega (arith, below-pow x, pow-mono {i = x} {j = k + x} (omega arith))) f
 
--- dividing by 2 ^ (j + 1) is halving first
-halved : (x j : ℕ) → x * 2 / 2 ^ suc j ≡ x / 2 ^ j
-halved x j = ap {B = ℕ} (λ y. x * 2 / y) (pow-succ' 2 j) ∙ sym (div-div-eq-div-mul (x * 2) 2 (2 ^ j)) ∙ ap {B = ℕ} (λ y. y / 2 ^ j) (mul-div-cancel x (omega arith))
+-- bit j of the half of a number is its bit j + 1
+pub half-bit : (y j : ℕ) → bit (y / 2) j ≡ bit y (suc j)
+half-bit y j = ap {B = Bool} (λ (x : ℕ). eqb (x % 2) 1) (div-div-eq-div-mul y 2 (2 ^ j) ∙ ap {B = ℕ} (λ (x : ℕ). y / x) (sym (pow-succ' 2 j)))
 
 -- of a power of two, 2 ^ i, bit i alone is set: the bits of a colour byte are counted from the lowest
 pub power-bit : (i j : ℕ) → bit (2 ^ i) j ≡ eqb i j
@@ -52,7 +52,9 @@ power-bit zero (suc j) =
     let none : 1 / 2 ^ suc j ≡ 0 = div-eq-of-lt (omega (arith, pow-pos j, two-pow-succ j)) in
     rw (none, eqb·zero-suc j) refl
 power-bit (suc i) zero = rw (div-one (2 ^ suc i), pow-suc 2 i, mul-mod-left (2 ^ i) 2, eqb·suc-zero i) refl
-power-bit (suc i) (suc j) = rw (pow-suc 2 i, halved (2 ^ i) j, eqb·suc-suc i j) (power-bit i j)
+power-bit (suc i) (suc j) =
+    let half : 2 ^ suc i / 2 ≡ 2 ^ i = omega (arith, pow-suc 2 i) in
+    sym (half-bit (2 ^ suc i) j) ∙ rw (half, eqb·suc-suc i j) (power-bit i j)
 
 -- the bits of a number are its binary digits, from the lowest on: so any set of colours has a byte
 pub bit-digits : (x d : ℕ) → d < 2 → (bit (x * 2 + d) 0 ≡ eqb d 1) × ((j : ℕ) → bit (x * 2 + d) (suc j) ≡ bit x j)
@@ -60,7 +62,7 @@ bit-digits x d h =
     let digit : (x * 2 + d) % 2 ≡ d = omega arith in
     let rest : (x * 2 + d) / 2 ≡ x = omega arith in (
       rw (div-one (x * 2 + d), digit) refl,
-      λ j. rw (pow-succ' 2 j, ← div-div-eq-div-mul (x * 2 + d) 2 (2 ^ j), rest) refl,
+      λ j. sym (half-bit (x * 2 + d) j) ∙ ap {B = Bool} (λ (y : ℕ). bit y j) rest,
     )
 
 -- an arc whose colour byte is 2 ^ i meets colour i alone

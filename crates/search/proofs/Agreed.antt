@@ -1,8 +1,8 @@
 -- Document 02, Ask 7, from what search promises of every call: any two answers to a call agree, and plans carry the given arc numbers. Assumes
 -- nothing.
-use mathlib.Core.Logic.{_⊎_, inl, inr}
+use mathlib.Core.Logic.{_↔_, _⊎_, inl, inr}
 use mathlib.Core.Path.{_≡_, refl, sym, ap, subst₂, _∙_}
-use mathlib.Core.List.{List, [], _∷_}
+use mathlib.Core.List.{List}
 use Prim.Native.Nat.{ℕ, zero, suc, _+_, _<_}
 use native.Mathlib.Omega.{arith}
 use native.Mathlib.Decide.{ℕ-discrete}
@@ -14,12 +14,11 @@ use Rattle.refusals.specs.declared.Verdict.the-variants.{Yes, Refused}
 use Rattle.refusals.proofs.Verdicts.{clash}
 use Rattle.model.specs.Automaton.{Automaton, arcAt}
 use Rattle.model.specs.declared.Arc.{Arc}
-use Rattle.model.specs.Lists.{Lists, automatonOf}
+use Rattle.model.specs.Lists.{Lists, arcOf, automatonOf}
 use Rattle.model.specs.Plans.{Leads}
 use Rattle.model.proofs.Arcs.{arcs-length, arcs-here}
 use Rattle.model.proofs.Leads.{leads-cut}
-use Rattle.judge.proofs.Leads.{leads-chain}
-use Rattle.judge.proofs.Shapes.{numbers-yes}
+use Rattle.model.proofs.Places.{modeAt, Joins, leads-places}
 use Rattle.search.specs.declared.SearchAnswer.{SearchAnswer}
 use Rattle.search.specs.declared.Searched.{Searched}
 use Rattle.search.specs.declared.Searched.the-variants as outcome
@@ -27,39 +26,43 @@ use Rattle.search.specs.Search.{noPlan, IsFound, searchAnswer, searchabl
 use Rattle.search.specs.Agreed.{Agreed, refusals, tens, plans, GivenNumbers}
 use Rattle.search.proofs.Demand3.{answered-found, plan-searchable, search-none}
 
-module _ (g : Automaton) where
-  leads-first : (w : List ℕ) (s t : ℕ) → Leads g s w t → 0 < length w → arcAt g (getD w 0 0) .source ≡ s
-  leads-first [] s t h some = absurd (omega arith)
-  leads-first (a ∷ w) s t h some = h .1
-
-  leads-next : (w : List ℕ) (s t : ℕ) → Leads g s w t → (i : ℕ) → suc i < length w
-      → arcAt g (getD w (suc i) 0) .source ≡ arcAt g (getD w i 0) .target
-  leads-next [] s t h i low = absurd (omega arith)
-  leads-next (a ∷ w) s t h zero low = leads-first w (arcAt g a .target) t (h .2) (omega arith)
-  leads-next (a ∷ w) s t h (suc i) low = leads-next w (arcAt g a .target) t (h .2) i (omega arith)
-
--- arcs that lead somewhere in the model of the lists are arcs of the lists
-leads-given : (n s k : ℕ) (l : Lists) (w : List ℕ) (t : ℕ) → Leads (automatonOf n s k l) s w t → GivenNumbers l s w
-leads-given n s k l w t h =
-    record {
-      known = known;
-      first = λ some. sym (source 0 some) ∙ leads-first g w s t h some;
-      chain = λ i low. sym (source (suc i) low) ∙ leads-next g w s t h i low ∙ target i (omega arith);
-    }
+-- the given numbers are those of arcs that lead on from s in the model of the lists, and the other way round
+pub given-leads : (n s k : ℕ) (l : Lists) (w : List ℕ) → GivenNumbers l s w ↔ ((t : ℕ) × Leads (automatonOf n s k l) s w t)
+given-leads n s k l w = (λ given. (last, leads-places g w s last .1 (joins given, refl)), λ (t, h). given (leads-places g w s t .0 h .0))
   where
     g : Automaton
     g = automatonOf n s k l
 
-    known : (i : ℕ) → i < length w → getD w i 0 < length (l .sources)
-    known i low =
-        let few = numbers-yes (length (g .arcs)) w .0 (leads-chain g w s t 0 .0 h .0) i low in
-        omega (arith, few, arcs-length l (length (l .sources)) 0)
+    last : ℕ
+    last = modeAt g s w (length w)
 
-    source : (i : ℕ) → i < length w → arcAt g (getD w i 0) .source ≡ getD (l .sources) (getD w i 0) 0
-    source i low = ap {B = ℕ} (λ (x : Arc). x .source) (arcs-here l (length (l .sources)) (getD w i 0) (known i low))
+    arc : (i : ℕ) → getD w i 0 < length (l .sources) → arcAt g (getD w i 0) ≡ arcOf l (getD w i 0)
+    arc i known = arcs-here l (length (l .sources)) (getD w i 0) known
 
-    target : (i : ℕ) → i < length w → arcAt g (getD w i 0) .target ≡ getD (l .targets) (getD w i 0) 0
-    target i low = ap {B = ℕ} (λ (x : Arc). x .target) (arcs-here l (length (l .sources)) (getD w i 0) (known i low))
+    source : (i : ℕ) → getD w i 0 < length (l .sources) → arcAt g (getD w i 0) .source ≡ getD (l .sources) (getD w i 0) 0
+    source i known = ap {B = ℕ} (λ (x : Arc). x .source) (arc i known)
+
+    target : (i : ℕ) → getD w i 0 < length (l .sources) → arcAt g (getD w i 0) .target ≡ getD (l .targets) (getD w i 0) 0
+    target i known = ap {B = ℕ} (λ (x : Arc). x .target) (arc i known)
+
+    joins : GivenNumbers l s w → (i : ℕ) → i < length w → Joins g s w i
+    joins given i low = (omega (arith, given .known i low, arcs-length l (length (l .sources)) 0), leaves i low)
+      where
+        leaves : (i : ℕ) → i < length w → arcAt g (getD w i 0) .source ≡ modeAt g s w i
+        leaves zero low = source 0 (given .known 0 low) ∙ given .first low
+        leaves (suc i) low =
+            source (suc i) (given .known (suc i) low) ∙ given .chain i low ∙ sym (target i (given .known i (omega arith)))
+
+    given : ((i : ℕ) → i < length w → Joins g s w i) → GivenNumbers l s w
+    given f =
+        record {
+          known = known;
+          first = λ some. sym (source 0 (known 0 some)) ∙ f 0 some .1;
+          chain = λ i low. sym (source (suc i) (known (suc i) low)) ∙ f (suc i) low .1 ∙ target i (known i (omega arith));
+        }
+      where
+        known : (i : ℕ) → i < length w → getD w i 0 < length (l .sources)
+        known i low = omega (arith, f i low .0, arcs-length l (length (l .sources)) 0)
 
 -- two answers where none of 1 to 9 applies: both 10 or both a plan, where each is 10 just where the other is
 answered-agree : {v : Verdict} {g g′ : Automaton} {b c b′ c′ : ℕ} {plan plan′ plan₂ plan₂′ : List ℕ} {r r₂ : Searched} → v ≡ Yes
@@ -93,8 +96,8 @@ module _ (n s k : ℕ) (l : Lists) (b c : ℕ) {work plan work′ plan′ : List
   search-numbers {p} {q} h =
       let f = answered-found (h .decided (plan-searchable n s k l b c h) .answered) in
       let path = f .serves .plan in
-      leads-given n s k l (take (p + q) plan′) (path .mode)
-      (leads-cut (automatonOf n s k l) p (take (p + q) plan′) s (path .mode) .1 (path .mode, path .leads-in, path .leads-cycle))
+      given-leads n s k l (take (p + q) plan′) .1
+      (path .mode, leads-cut (automatonOf n s k l) p (take (p + q) plan′) s (path .mode) .1 (path .mode, path .leads-in, path .leads-cycle))
 
 -- where one of 1 to 9 applies, both answers are that refusal
 pub agreed-refused : {x : Refusal} {r r₂ : Searched} → Agreed (Refused x) r r₂ → (r ≡ outcome.Refused x) × (r₂ ≡ outcome.Refused x)
