@@ -2,13 +2,12 @@
 -- exactly when there is no plan, and else a plan, to which judging says yes. Assumes nothing.
 use mathlib.Core.Path.{_≡_, refl, ap}
 use mathlib.Core.List.{List}
-use mathlib.Core.Logic.{_↔_, _⊎_, inl, inr}
+use mathlib.Core.Logic.{_↔_}
 use Prim.Native.Nat.{ℕ, _+_}
 use native.Mathlib.Omega.{arith}
 use lib.ListN.{length, take, length-drop, replicate}
 use lib.Seq.{length-take-le}
 use Rattle.refusals.specs.declared.Answer.{Answer}
-use Rattle.refusals.specs.declared.Refusal.{Refusal}
 use Rattle.refusals.specs.declared.Verdict.{Verdict}
 use Rattle.refusals.specs.declared.Verdict.the-variants.{Yes, Refused}
 use Rattle.refusals.proofs.Verdicts.{clash}
@@ -46,6 +45,11 @@ answered-kept : {g : Automaton} {b c : ℕ} {plan plan′ : List ℕ} {r : Searc
 answered-kept (none e) refused = e
 answered-kept (found f) refused = absurd (refused refl)
 
+-- the working space after a call, by what 1 to 9 say: "After 10 or a plan, the whole lent working space is zero", else it is as it was
+abbrev pub WorkLeft : Verdict → List ℕ → List ℕ → Type 0
+WorkLeft Yes work work′ = work′ ≡ replicate (length work) 0
+WorkLeft (Refused x) work work′ = work′ ≡ work
+
 -- judging says yes to a plan that is found where none of 1 to 9 applies
 found-judged : (n s k : ℕ) (l : Lists) (b c words bytes : ℕ) {p q : ℕ} {plan plan′ : List ℕ} → searchable n s k l b c words bytes ≡ Yes
     → Found (automatonOf n s k l) b c p q plan plan′ → judged n s k l b c p q (take (p + q) plan′) ≡ Yes
@@ -70,7 +74,7 @@ module _ (n s k : ℕ) (l : Lists) (b c : ℕ) {work plan work′ plan′ : List
       go Yes e = e
       go (Refused x) e = let stopped = h .refused x e .0 in clash (cc)
 
-  -- so it does to the plan that is handed back ..
+  -- judging says yes to the plan that is handed back ..
   pub search-judged : {p q : ℕ} → SearchOf n s k l b c work plan work′ plan′ (outcome.Plan p q) → judged n s k l b c p q (take (p + q) plan′) ≡ Yes
   search-judged h = let through = plan-searchable h in found-judged n s k l b c (length work) (length plan) through (answered-found (h .decided through .answered))
 
@@ -94,17 +98,14 @@ module _ (n s k : ℕ) (l : Lists) (b c : ℕ) {work plan work′ plan′ : List
       go Yes e = answered-kept (h .decided e .answered) refused
       go (Refused x) e = h .refused x e .2
 
-  -- .. and the working space is as it was, where one of 1 to 9 applies, or zero
+  -- .. and the working space is zero, or as it was
   pub search-work : {r : Searched} → SearchOf n s k l b c work plan work′ plan′ r
-      → (((x : Refusal) × (searchable n s k l b c (length work) (length plan) ≡ Refused x)) × (work′ ≡ work))
-      ⊎ ((searchable n s k l b c (length work) (length plan) ≡ Yes) × (work′ ≡ replicate (length work) 0))
-  search-work {r} h = go (searchable n s k l b c (length work) (length plan)) refl
+      → WorkLeft (searchable n s k l b c (length work) (length plan)) work work′
+  search-work h = go (searchable n s k l b c (length work) (length plan)) refl
     where
-      go : (v : Verdict) → searchable n s k l b c (length work) (length plan) ≡ v
-          → (((x : Refusal) × (searchable n s k l b c (length work) (length plan) ≡ Refused x)) × (work′ ≡ work))
-          ⊎ ((searchable n s k l b c (length work) (length plan) ≡ Yes) × (work′ ≡ replicate (length work) 0))
-      go Yes e = inr (e, h .decided e .cleared)
-      go (Refused x) e = inl ((x, e), h .refused x e .1)
+      go : (v : Verdict) → searchable n s k l b c (length work) (length plan) ≡ v → WorkLeft v work work′
+      go Yes e = h .decided e .cleared
+      go (Refused x) e = h .refused x e .1
 
   module _ {r : Searched} (h : SearchOf n s k l b c work plan work′ plan′ r)
       (through : searchable n s k l b c (length work) (length plan) ≡ Yes) where
