@@ -102,7 +102,7 @@ module _ {n s k : ℕ} {l : Lists} {b c : ℕ} {work plan work′ plan′ : List
 
     -- after 10 the plan buffer is untouched
     pub desk-none : numberIn r ≡ 10 → plan′ ≡ plan
-    desk-none ten = search-plan-kept n s k l b c (h .claim) (λ zero. absurd (omega (arith, desk-search-parts .number, ten, zero)))
+    desk-none ten = search-plan-kept (searchable n s k l b c (length work) (length plan)) (h .claim) (λ zero. absurd (omega (arith, desk-search-parts .number, ten, zero)))
 
 -- two words for one call have the same number and detail, whatever stands in the buffers
 pub desk-agrees : {n s k : ℕ} {l : Lists} {b c : ℕ} {work plan work′ plan′ work₂ plan₂ work₂′ plan₂′ : List ℕ} {r r₂ : ℕ}

@@ -16,7 +16,8 @@ use Rattle.refusals.specs.declared.Refusal.{Refusal}
 use Rattle.refusals.specs.declared.Refusal.the-variants.{ArcNumber, OtherMode, ImpossibleStep, MixedGauge}
 use Rattle.refusals.specs.declared.Verdict.{Verdict}
 use Rattle.refusals.specs.declared.Verdict.the-variants.{Yes, Refused}
-use Rattle.refusals.specs.Refusals.{refuse}
+use Rattle.refusals.specs.Refusals.{answerOf, refuse}
+use Rattle.refusals.proofs.Numbers.{in-number}
 use Rattle.refusals.proofs.Verdicts.{refuse-yes}
 use Rattle.refusals.proofs.Tests.{or-no, differ-no}
 use Rattle.model.specs.declared.Model.{Model}
@@ -28,6 +29,10 @@ use Rattle.model.proofs.Held.{arcIn, held-arc, told-verdict, told-holds, told-h
 use Rattle.gauge.specs.declared.Gauge.{Gauge}
 use Rattle.gauge.specs.declared.Gauged.{Gauged}
 use Rattle.gauge.specs.Gauge.{gauge, movedTo, gauged, noGauge, stopAt, landed, startedOf, movedOf, Matches, mixedUp, movedMatched, movedLevelled, steppedOf}
+
+-- what is handed back, and with it the number of its verdict
+pub gauged-number : {x y : Gauged} → x ≡ y → (x ≡ y) × (answerOf (x .verdict) ≡ answerOf (y .verdict))
+gauged-number = in-number (λ (y : Gauged). answerOf (y .verdict))
 
 -- a step that is not possible
 pub landed-off : (x : Gauge) (t : ℕ) → landed x t Impossible ≡ gauged (Refused (ImpossibleStep 0)) x

@@ -6,12 +6,12 @@ use mathlib.Core.List.{List, [], _∷_}
 use lib.IntN.{pos, negsuc}
 use Rattle.refusals.specs.declared.Answer.{Answer}
 use Rattle.refusals.specs.declared.Verdict.the-variants.{Yes}
-use Rattle.refusals.specs.Refusals.{answer, answerOf, andThen}
+use Rattle.refusals.specs.Refusals.{answer, andThen}
 use Rattle.model.specs.Automaton.{Automaton}
 use Rattle.model.specs.Lists.{Lists, weighted, automatonOf}
 use Rattle.model.specs.Fitness.{fitness, levelsOf}
 use Rattle.model.specs.Plans.{SomePlan}
-use Rattle.judge.specs.Judged.{judged}
+use Rattle.judge.specs.Judged.{judgedAnswer}
 
 -- what a row says. Found: the model and the levels are right, and some plan is feasible and accepted; None: they are right, and no plan of
 -- any length is; Judged: of p, q and these bytes, judging's number and detail
@@ -41,7 +41,7 @@ Admitted x = andThen (fitness (x .modes) 0 (x .colours) (x .arcs)) (levelsOf (x 
 abbrev pub Says : Example → Claim → Type 0
 Says x Found = Admitted x × SomePlan (modelIn x) (x .bound) (x .credit)
 Says x None = Admitted x × (SomePlan (modelIn x) (x .bound) (x .credit) → ⊥)
-Says x (Judged p q w r) = answerOf (judged (x .modes) 0 (x .colours) (x .arcs) (x .bound) (x .credit) p q w) ≡ r
+Says x (Judged p q w r) = judgedAnswer (x .modes) 0 (x .colours) (x .arcs) (x .bound) (x .credit) p q w ≡ r
 
 -- what a row says is so
 abbrev pub Stands : Example → Type 0

@@ -1,9 +1,9 @@
 -- What the definitions of feasible and accepted come to: document 001's feasibility and acceptance of the infinite run; and two rounds decide the
 -- first. Assumes nothing.
 use mathlib.Core.Path.{_≡_, refl, sym, ap, _∙_, subst}
-use mathlib.Core.List.{List, _++_, map-append, append-nil, append-assoc}
+use mathlib.Core.List.{List, _++_, map-append, append-assoc}
 use mathlib.Core.Logic.{_↔_}
-use Prim.Native.Nat.{ℕ, zero, suc, _≤_, _<_}
+use Prim.Native.Nat.{ℕ, zero, suc, _+_, _≤_, _<_}
 use native.Mathlib.Omega.{arith}
 use Rattle.walks.specs.BoundedStep.{Move}
 use lib.ListN.{length, take, drop, length-append, take-append-drop}
@@ -11,7 +11,7 @@ use lib.Seq.{drop-append-le, drop-append-seam}
 use Rattle.walks.specs.Walk.{End, Ends, Blocked, afterWalk, walked, IsPossible, RoundsHold, times}
 use Rattle.walks.specs.Accumulated.{FeasibleRun, runWeights}
 use Rattle.walks.proofs.Accumulated.{possible-accumulated}
-use Rattle.walks.proofs.Walks.{walked-append, map-times}
+use Rattle.walks.proofs.Walks.{walked-append, map-times, times-add}
 use Rattle.walks.proofs.Charges.{walked-bound}
 use Rattle.walks.proofs.Rounds.{rounds-hold}
 use Rattle.model.specs.Automaton.{Automaton, arcAt, meets, moveOf, movesOf}
@@ -82,8 +82,10 @@ times-length w h (suc r) = omega (arith, times-length w h r, length-append w (ti
 
 -- one more repetition stands at the end too
 times-last : (r : ℕ) (w : List ℕ) → times (suc r) w ≡ times r w ++ w
-times-last zero w = append-nil w
-times-last (suc r) w = ap {B = List ℕ} (λ l. w ++ l) (times-last r w) ∙ sym (append-assoc w (times r w) w)
+times-last r w =
+    let (once, more) = times-add r 1 w in
+    let next : suc r ≡ r + 1 = omega arith in
+    ap {B = List ℕ} (λ (x : ℕ). times x w) next ∙ more ∙ ap {B = List ℕ} (λ l. times r w ++ l) once
 
 -- Accepted is document 001's acceptance: "all colors in M are seen infinitely often along" the run. After any n steps of the run, every
 -- colour is met again.

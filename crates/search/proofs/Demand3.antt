@@ -20,7 +20,7 @@ use Rattle.judge.specs.Judged.{judged}
 use Rattle.judge.proofs.Judged.{judged-yes}
 use Rattle.search.specs.declared.Searched.{Searched}
 use Rattle.search.specs.declared.Searched.the-variants as outcome
-use Rattle.search.specs.Search.{noPlan, searchAnswer, searchable, Found, Answered, none, found, SearchOf}
+use Rattle.search.specs.Search.{noPlan, searchAnswer, searchable, Found, Answered, none, found, Search, SearchOf}
 use Rattle.search.proofs.Written.{answered-plan}
 use Rattle.search.proofs.Searchable.{searchable-yes}
 
@@ -49,6 +49,17 @@ answered-kept (found f) refused = absurd (refused refl)
 abbrev pub WorkLeft : Verdict → List ℕ → List ℕ → Type 0
 WorkLeft Yes work work′ = work′ ≡ replicate (length work) 0
 WorkLeft (Refused x) work work′ = work′ ≡ work
+
+module _ {g : Automaton} {b c : ℕ} {work plan work′ plan′ : List ℕ} {r : Searched} where
+  -- what is left in the buffers: a refusal, 10 among them, leaves the plan buffer as it was ..
+  pub search-plan-kept : (v : Verdict) → Search v g b c work plan work′ plan′ r → (searchAnswer r .answer .number ≡ 0 → ⊥) → plan′ ≡ plan
+  search-plan-kept Yes h refused = answered-kept (h .decided refl .answered) refused
+  search-plan-kept (Refused x) h refused = h .refused x refl .2
+
+  -- .. and the working space is zero, or as it was
+  pub search-work : (v : Verdict) → Search v g b c work plan work′ plan′ r → WorkLeft v work work′
+  search-work Yes h = h .decided refl .cleared
+  search-work (Refused x) h = h .refused x refl .1
 
 -- judging says yes to a plan that is found where none of 1 to 9 applies
 found-judged : (n s k : ℕ) (l : Lists) (b c words bytes : ℕ) {p q : ℕ} {plan plan′ : List ℕ} → searchable n s k l b c words bytes ≡ Yes
@@ -89,23 +100,6 @@ module _ (n s k : ℕ) (l : Lists) (b c : ℕ) {work plan work′ plan′ : List
       go (Refused x) e =
           let number = ap {B = ℕ} (λ (a : Answer). a .number) (h .by-number .refused x e .0) in
           absurd (omega (arith, zero, number, refusal-number x))
-
-  -- what is left in the buffers: a refusal, 10 among them, leaves the plan buffer as it was ..
-  pub search-plan-kept : {r : Searched} → SearchOf n s k l b c work plan work′ plan′ r → (searchAnswer r .answer .number ≡ 0 → ⊥) → plan′ ≡ plan
-  search-plan-kept {r} h refused = go (searchable n s k l b c (length work) (length plan)) refl
-    where
-      go : (v : Verdict) → searchable n s k l b c (length work) (length plan) ≡ v → plan′ ≡ plan
-      go Yes e = answered-kept (h .decided e .answered) refused
-      go (Refused x) e = h .refused x e .2
-
-  -- .. and the working space is zero, or as it was
-  pub search-work : {r : Searched} → SearchOf n s k l b c work plan work′ plan′ r
-      → WorkLeft (searchable n s k l b c (length work) (length plan)) work work′
-  search-work h = go (searchable n s k l b c (length work) (length plan)) refl
-    where
-      go : (v : Verdict) → searchable n s k l b c (length work) (length plan) ≡ v → WorkLeft v work work′
-      go Yes e = h .decided e .cleared
-      go (Refused x) e = h .refused x e .1
 
   module _ {r : Searched} (h : SearchOf n s k l b c work plan work′ plan′ r)
       (through : searchable n s k l b c (length work) (length plan) ≡ Yes) where

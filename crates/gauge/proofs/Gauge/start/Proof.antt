@@ -1,11 +1,8 @@
 -- `Gauge::start` meets its contract: the refusal of fitness, else what 6 says. Assumes nothing.
 use mathlib.Core.Path.{_∙_}
 use borrow.Author.Needs.{needs}
-use Rattle.refusals.specs.Refusals.{answerOf}
-use Rattle.refusals.proofs.Numbers.{in-number}
 use Rattle.model.specs.Lists.{Lists, lists}
-use Rattle.gauge.specs.declared.Gauged.{Gauged}
-use Rattle.gauge.proofs.Gauges.{start-fit, start-unfit}
+use Rattle.gauge.proofs.Gauges.{gauged-number, start-fit, start-unfit}
 use Rattle.gauge.proofs.Gauge.start.Statement.{statement}
 use Rattle.gauge.proofs.Gauge.start.Tie as tie
 
@@ -36,7 +33,7 @@ returns c =
     let d = c .before .before .before in
     let a = start d .args in
     let l = lists-of (start d) in
-    in-number (λ (y : Gauged). answerOf (y .verdict))
+    gauged-number
     (c .start-levelled .ensures
     ∙ start-fit (a .n) (a .start) (a .k) l _ (d .check-model .ensures) (a .b) (a .c) (c .before .enum-told .given .1))
 
@@ -45,7 +42,7 @@ returns-2 c =
     let d = c .before .before .before .before in
     let a = start d .args in
     let l = lists-of (start d) in
-    in-number (λ (y : Gauged). answerOf (y .verdict))
+    gauged-number
     (c .refused .ensures
     ∙ start-unfit (a .n) (a .start) (a .k) l _ (d .check-model .ensures) (a .b) (a .c) _ (c .before .before .verdict .given .1))
 

@@ -1,12 +1,9 @@
 -- `Gauge::step` meets its contract: the refusal of fitness, else what 6 and the step say. Assumes nothing.
 use mathlib.Core.Path.{_∙_}
 use borrow.Author.Needs.{needs}
-use Rattle.refusals.specs.Refusals.{answerOf}
-use Rattle.refusals.proofs.Numbers.{in-number}
 use Rattle.model.specs.Lists.{Lists, lists}
 use Rattle.model.proofs.Held.{told-holds}
-use Rattle.gauge.specs.declared.Gauged.{Gauged}
-use Rattle.gauge.proofs.Gauges.{step-fit, step-unfit}
+use Rattle.gauge.proofs.Gauges.{gauged-number, step-fit, step-unfit}
 use Rattle.gauge.proofs.Gauge.step.Statement.{statement}
 use Rattle.gauge.proofs.Gauge.step.Tie as tie
 
@@ -41,7 +38,7 @@ returns c =
     let d = c .before .before .before in
     let a = start d .args in
     let l = lists-of (start d) in
-    in-number (λ (y : Gauged). answerOf (y .verdict))
+    gauged-number
     (c .step-levelled .ensures
     ∙ step-fit (a .n) (a .start) (a .k) l _ (d .check-model .ensures) (a .b) (a .arc) (a .self) (c .before .enum-told .given .1))
 
@@ -50,7 +47,7 @@ returns-2 c =
     let d = c .before .before .before .before in
     let a = start d .args in
     let l = lists-of (start d) in
-    in-number (λ (y : Gauged). answerOf (y .verdict))
+    gauged-number
     (c .refused .ensures
     ∙ step-unfit (a .n) (a .start) (a .k) l _ (d .check-model .ensures) (a .b) (a .arc) (a .self) _ (c .before .before .verdict .given .1))
 
