@@ -13,7 +13,7 @@ fn print_case(letter: u8, verdict: Verdict) {
     io::write_all(STDOUT_FILENO, &blank);
     io::print_decimal(STDOUT_FILENO, answer.number as u64);
     io::write_all(STDOUT_FILENO, &blank);
-    io::print_decimal(STDOUT_FILENO, answer.detail as u64);
+    io::print_decimal(STDOUT_FILENO, answer.detail);
     io::write_all(STDOUT_FILENO, &line_end);
 }
 

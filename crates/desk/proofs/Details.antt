@@ -22,7 +22,7 @@ use Rattle.refusals.proofs.Scan.{Scan}
 use Rattle.model.specs.declared.Arc.{Arc}
 use Rattle.model.specs.Automaton.{Automaton, arcAt, meets, moveOf}
 use Rattle.model.specs.Lists.{Lists, arcsOf, automatonOf}
-use Rattle.model.specs.Fitness.{unfitLists, header, headerOf, arcsVerdict, fitness, levelsOf}
+use Rattle.model.specs.Fitness.{header, headerOf, arcsVerdict, fitness, levelsOf}
 use Rattle.model.specs.Plans.{Plan}
 use Rattle.model.proofs.Arcs.{arcs-length}
 use Rattle.model.proofs.Fitness.{arcs-scan, header-yes, fitness-yes}
@@ -69,12 +69,12 @@ module _ {d : ℕ} where
     scan-within = from-within n 0 (omega arith)
 
   -- 1 to 4
-  header-within : (n s k sources targets draws gains colours : ℕ) → Within d (header n s k sources targets draws gains colours)
+  header-within : (n s k : ℕ) (unfit : Bool) → Within d (header n s k unfit)
   unfolding header
-  header-within n s k sources targets draws gains colours =
+  header-within n s k unfit =
       refuse-within (eqb n 0 || ltb modesMost n) ModeCount (omega arith)
       (refuse-within (leb n s) StartMode (omega arith)
-      (refuse-within (unfitLists sources targets draws gains colours) ArcLists (omega arith)
+      (refuse-within unfit ArcLists (omega arith)
       (refuse-within (ltb coloursMost k) ColourCount (omega arith)
       yes-within)))
 
@@ -86,7 +86,7 @@ module _ {d : ℕ} where
   fitness-within : (n s k : ℕ) (l : Lists) → arcsMost ≤ d → Within d (fitness n s k l)
   unfolding fitness
   fitness-within n s k l h =
-      then-within (headerOf n s k l) (header-within n s k _ _ _ _ _) λ e.
+      then-within (headerOf n s k l) (header-within n s k _) λ e.
       arcs-within n (2 ^ k) (arcsOf l) (omega (arith, header-yes n s k l .0 e .few-arcs, arcs-length l (length (l .sources)) 0))
 
   -- 6

@@ -31,7 +31,7 @@ fn pack(answer: Answer, first: u32, second: u32) -> u64
     ensures { λ r. ⌜ r ≡ packed answer first second ⌝ }
 {
     (answer.number as u64)
-        + (answer.detail as u64) * DETAIL
+        + answer.detail * DETAIL
         + (first as u64) * FIRST
         + (second as u64) * SECOND
 }

@@ -33,6 +33,10 @@ drawMost = 10000
 abbrev pub gainMost : ℕ
 gainMost = 10000
 
+-- document 02, Ask 1: "plain numbers have one to nine digits"
+abbrev pub digitsMost : ℕ
+digitsMost = 9
+
 -- document 02, Ask 2: "a spill total, kept as a 64-bit number"
 abbrev pub spillMost : ℕ
 spillMost = 18446744073709551615

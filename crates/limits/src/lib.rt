@@ -11,6 +11,7 @@ ghost use Rattle.limits.specs.Ceilings.{
   planMost,
   drawMost,
   gainMost,
+  digitsMost,
   spillMost,
   workWords,
   workLevels,
@@ -45,6 +46,9 @@ impl Limits {
     // The greatest gain of an arc.
     pub const GAIN: u16 = 10000;
 
+    // The most digits of a plain number in a text.
+    pub const DIGITS: usize = 9;
+
     // The greatest total of charge that spilled over, the last number of 64 bits.
     pub const SPILL: u64 = 18446744073709551615;
 
@@ -71,6 +75,7 @@ impl Limits {
         ensures plan { λ _. do ⌜ (← ⟦Limits::PLAN⟧ .entry) ≡ planMost ⌝ }
         ensures draw { λ _. do ⌜ (← ⟦Limits::DRAW⟧ .entry) ≡ drawMost ⌝ }
         ensures gain { λ _. do ⌜ (← ⟦Limits::GAIN⟧ .entry) ≡ gainMost ⌝ }
+        ensures digits { λ _. do ⌜ (← ⟦Limits::DIGITS⟧ .entry) ≡ digitsMost ⌝ }
         ensures spill { λ _. do ⌜ (← ⟦Limits::SPILL⟧ .entry) ≡ spillMost ⌝ }
         ensures work_words { λ _. do ⌜ (← ⟦Limits::WORK_WORDS⟧ .entry) ≡ workWords ⌝ }
         ensures work_levels { λ _. do ⌜ (← ⟦Limits::WORK_LEVELS⟧ .entry) ≡ workLevels ⌝ }

@@ -62,26 +62,50 @@ unfit-no n k a =
           ),
     )
 
--- none of 1 to 4 applies
+-- none of 1 to 4 applies: by the numbers and whether 3 does
+pub numbers-yes : (n s k : ℕ) (unfit : Bool)
+    → (header n s k unfit ≡ Yes) ↔ ((0 < n) × (n ≤ modesMost) × (s < n) × (unfit ≡ false) × (k ≤ coloursMost))
+unfolding header
+numbers-yes n s k unfit = (
+  λ e.
+      let r1 = refuse-yes (eqb n 0 || ltb modesMost n) ModeCount _ .0 e in
+      let o1 = or-no (eqb n 0) (ltb modesMost n) .0 (r1 .0) in
+      let r2 = refuse-yes (leb n s) StartMode _ .0 (r1 .1) in
+      let r3 = refuse-yes unfit ArcLists _ .0 (r2 .1) in
+      let r4 = refuse-yes (ltb coloursMost k) ColourCount _ .0 (r3 .1) in (
+        omega (arith, eqb-false n 0 (o1 .0)),
+        lt-no modesMost n .0 (o1 .1),
+        le-no n s .0 (r2 .0),
+        r3 .0,
+        lt-no coloursMost k .0 (r4 .0),
+      ),
+  λ (some, few, starts, fits, colours).
+      refuse-yes (eqb n 0 || ltb modesMost n) ModeCount _ .1 (
+        or-no (eqb n 0) (ltb modesMost n) .1 (ne-eqb n 0 (λ z. omega (arith, some)), lt-no modesMost n .1 few),
+        refuse-yes (leb n s) StartMode _ .1 (
+          le-no n s .1 starts,
+          refuse-yes unfit ArcLists _ .1 (fits, refuse-yes (ltb coloursMost k) ColourCount Yes .1 (lt-no coloursMost k .1 colours, refl)),
+        ),
+      ),
+)
+
+-- of the lists
 pub header-yes : (n s k : ℕ) (l : Lists) → (headerOf n s k l ≡ Yes) ↔ Header n s k l
-unfolding header unfitLists
+unfolding unfitLists
 header-yes n s k l =
     let m = length (l .sources) in
     let five =
     or5-no (not (eqb (length (l .targets)) m)) (not (eqb (length (l .draws)) m)) (not (eqb (length (l .gains)) m)) (not (eqb (length (l .colours)) m))
     (ltb arcsMost m)
-    in (
+    in
+    let numbers = numbers-yes n s k (unfitLists m (length (l .targets)) (length (l .draws)) (length (l .gains)) (length (l .colours))) in (
       λ e.
-          let r1 = refuse-yes (eqb n 0 || ltb modesMost n) ModeCount _ .0 e in
-          let o1 = or-no (eqb n 0) (ltb modesMost n) .0 (r1 .0) in
-          let r2 = refuse-yes (leb n s) StartMode _ .0 (r1 .1) in
-          let r3 = refuse-yes _ ArcLists _ .0 (r2 .1) in
-          let o3 = five .0 (r3 .0) in
-          let r4 = refuse-yes (ltb coloursMost k) ColourCount _ .0 (r3 .1) in
+          let (some, few, starts, fits, colours) = numbers .0 e in
+          let o3 = five .0 fits in
           record {
-            some-mode = omega (arith, eqb-false n 0 (o1 .0));
-            few-modes = lt-no modesMost n .0 (o1 .1);
-            starts = le-no n s .0 (r2 .0);
+            some-mode = some;
+            few-modes = few;
+            starts = starts;
             equal =
                 record {
                   targets = differ-no (length (l .targets)) m .0 (o3 .0);
@@ -90,24 +114,21 @@ header-yes n s k l =
                   colours = differ-no (length (l .colours)) m .0 (o3 .3);
                 };
             few-arcs = lt-no arcsMost m .0 (o3 .4);
-            few-colours = lt-no coloursMost k .0 (r4 .0);
+            few-colours = colours;
           },
       λ h.
-          refuse-yes (eqb n 0 || ltb modesMost n) ModeCount _ .1 (
-            or-no (eqb n 0) (ltb modesMost n) .1 (ne-eqb n 0 (λ z. omega (arith, h .some-mode)), lt-no modesMost n .1 (h .few-modes)),
-            refuse-yes (leb n s) StartMode _ .1 (
-              le-no n s .1 (h .starts),
-              refuse-yes _ ArcLists _ .1 (
-                five .1 (
-                  differ-no (length (l .targets)) m .1 (h .equal .targets),
-                  differ-no (length (l .draws)) m .1 (h .equal .draws),
-                  differ-no (length (l .gains)) m .1 (h .equal .gains),
-                  differ-no (length (l .colours)) m .1 (h .equal .colours),
-                  lt-no arcsMost m .1 (h .few-arcs),
-                ),
-                refuse-yes (ltb coloursMost k) ColourCount Yes .1 (lt-no coloursMost k .1 (h .few-colours), refl),
-              ),
+          numbers .1 (
+            h .some-mode,
+            h .few-modes,
+            h .starts,
+            five .1 (
+              differ-no (length (l .targets)) m .1 (h .equal .targets),
+              differ-no (length (l .draws)) m .1 (h .equal .draws),
+              differ-no (length (l .gains)) m .1 (h .equal .gains),
+              differ-no (length (l .colours)) m .1 (h .equal .colours),
+              lt-no arcsMost m .1 (h .few-arcs),
             ),
+            h .few-colours,
           ),
     )
 

@@ -21,12 +21,12 @@ unfoldable pub unfitLists : ℕ → ℕ → ℕ → ℕ → ℕ → Bool
 unfitLists sources targets draws gains colours =
     not (eqb targets sources) || not (eqb draws sources) || not (eqb gains sources) || not (eqb colours sources) || ltb arcsMost sources
 
--- 1 to 4, by the numbers and the lengths of the five lists
-unfoldable pub header : ℕ → ℕ → ℕ → ℕ → ℕ → ℕ → ℕ → ℕ → Verdict
-header n s k sources targets draws gains colours =
+-- 1 to 4, by the numbers and whether 3 applies, whose condition is another one where lists are lent to be filled
+unfoldable pub header : ℕ → ℕ → ℕ → Bool → Verdict
+header n s k unfit =
     refuse (eqb n 0 || ltb modesMost n) ModeCount
     (refuse (leb n s) StartMode
-    (refuse (unfitLists sources targets draws gains colours) ArcLists
+    (refuse unfit ArcLists
     (refuse (ltb coloursMost k) ColourCount
     Yes)))
 
@@ -43,7 +43,8 @@ arcsVerdict n power (a ∷ l) i = refuse (unfitArc n power a) (UnfitArc i) (arcs
 
 -- 1 to 4, of the lists
 abbrev pub headerOf : ℕ → ℕ → ℕ → Lists → Verdict
-headerOf n s k l = header n s k (length (l .sources)) (length (l .targets)) (length (l .draws)) (length (l .gains)) (length (l .colours))
+headerOf n s k l =
+    header n s k (unfitLists (length (l .sources)) (length (l .targets)) (length (l .draws)) (length (l .gains)) (length (l .colours)))
 
 -- 5, of the lists
 abbrev pub arcsFitness : ℕ → ℕ → Lists → Verdict

@@ -60,18 +60,9 @@ fn unfit_lists(sources: usize, targets: usize, draws: usize, gains: usize, colou
     sources > Limits::ARCS
 }
 
-// Refusals 1 to 4, from the numbers and the lengths of the five lists.
-fn check_header(
-    n: u32,
-    start: u32,
-    k: u32,
-    sources: usize,
-    targets: usize,
-    draws: usize,
-    gains: usize,
-    colours: usize,
-) -> Verdict
-    ensures { λ r. ⌜ r ≡ header n start k sources targets draws gains colours ⌝ }
+// Refusals 1 to 4, from the numbers and whether 3 applies to the lists.
+pub fn check_header(n: u32, start: u32, k: u32, unfit: bool) -> Verdict
+    ensures { λ r. ⌜ r ≡ header n start k unfit ⌝ }
 {
     if n == 0 {
         return Verdict::Refused(Refusal::ModeCount);
@@ -82,7 +73,7 @@ fn check_header(
     if start >= n {
         return Verdict::Refused(Refusal::StartMode);
     }
-    if unfit_lists(sources, targets, draws, gains, colours) {
+    if unfit {
         return Verdict::Refused(Refusal::ArcLists);
     }
     if k > Limits::COLOURS {
@@ -205,16 +196,14 @@ pub fn check_model(
 ) -> Fitted
     ensures { λ r. ⌜ r ≡ fittedOf n start k (lists (now (sources .entry)) (now (targets .entry)) (now (draws .entry)) (now (gains .entry)) (now (colours .entry))) ⌝ }
 {
-    let header = check_header(
-        n,
-        start,
-        k,
+    let unfit = unfit_lists(
         sources.len(),
         targets.len(),
         draws.len(),
         gains.len(),
         colours.len(),
     );
+    let header = check_header(n, start, k, unfit);
     match header {
         Verdict::Yes => check_arcs(n, start, k, sources, targets, draws, gains, colours),
         Verdict::Refused(refusal) => refused(refusal),

@@ -7,7 +7,7 @@ use native.Mathlib.Omega.{arith}
 use lib.Dec.{eqb}
 use Rattle.refusals.specs.declared.Answer.{Answer}
 use Rattle.refusals.specs.declared.Refusal.{Refusal}
-use Rattle.refusals.specs.declared.Refusal.the-variants.{ModeCount, StartMode, ArcLists, ColourCount, UnfitArc, Levels, Product, WorkingSpace, PlanBuffer, NoPlan, PlanLength, ArcNumber, OtherMode, OpenCycle, ImpossibleStep, FallingCycle, MissingColour, NoSuchColour, MixedGauge}
+use Rattle.refusals.specs.declared.Refusal.the-variants.{ModeCount, StartMode, ArcLists, ColourCount, UnfitArc, Levels, Product, WorkingSpace, PlanBuffer, NoPlan, PlanLength, ArcNumber, OtherMode, OpenCycle, ImpossibleStep, FallingCycle, MissingColour, NoSuchColour, HoaLine, DimacsLine, TextsDisagree, MixedGauge}
 use Rattle.refusals.specs.declared.Verdict.{Verdict}
 use Rattle.refusals.specs.declared.Verdict.the-variants.{Yes, Refused}
 use Rattle.refusals.specs.Refusals.{numbered, answerOf}
@@ -32,6 +32,9 @@ refusal-number (ImpossibleStep d) = omega arith
 refusal-number FallingCycle = omega arith
 refusal-number (MissingColour d) = omega arith
 refusal-number NoSuchColour = omega arith
+refusal-number (HoaLine d) = omega arith
+refusal-number (DimacsLine d) = omega arith
+refusal-number TextsDisagree = omega arith
 refusal-number MixedGauge = omega arith
 
 -- the refusal that a number and a detail stand for
@@ -55,7 +58,10 @@ refusalOf x =
     (cond (eqb (x .number) 16) FallingCycle
     (cond (eqb (x .number) 17) (MissingColour (x .detail))
     (cond (eqb (x .number) 18) NoSuchColour
-    MixedGauge)))))))))))))))))
+    (cond (eqb (x .number) 19) (HoaLine (x .detail))
+    (cond (eqb (x .number) 20) (DimacsLine (x .detail))
+    (cond (eqb (x .number) 21) TextsDisagree
+    MixedGauge))))))))))))))))))))
 
 refusal-back : (r : Refusal) → refusalOf (numbered r) ≡ r
 refusal-back ModeCount = refl
@@ -76,6 +82,9 @@ refusal-back (ImpossibleStep d) = refl
 refusal-back FallingCycle = refl
 refusal-back (MissingColour d) = refl
 refusal-back NoSuchColour = refl
+refusal-back (HoaLine d) = refl
+refusal-back (DimacsLine d) = refl
+refusal-back TextsDisagree = refl
 refusal-back MixedGauge = refl
 
 -- a number and a detail are those of one refusal alone

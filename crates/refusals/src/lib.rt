@@ -22,17 +22,20 @@ pub enum Refusal {
     FallingCycle,
     MissingColour(u32),
     NoSuchColour,
+    HoaLine(u64),
+    DimacsLine(u64),
+    TextsDisagree,
     MixedGauge,
 }
 
-// A number and its detail, 0 where none is named.
+// A number and its detail, 0 where none is named. A detail may be the line of a text, which no ceiling bounds.
 pub struct Answer {
     pub number: u8,
-    pub detail: u32,
+    pub detail: u64,
 }
 
 // A number and its detail.
-fn row(number: u8, detail: u32) -> Answer
+fn row(number: u8, detail: u64) -> Answer
     ensures { λ r. ⌜ r ≡ answer number detail ⌝ }
 {
     Answer { number, detail }
@@ -48,20 +51,23 @@ impl Refusal {
             Refusal::StartMode => row(2, 0),
             Refusal::ArcLists => row(3, 0),
             Refusal::ColourCount => row(4, 0),
-            Refusal::UnfitArc(arc) => row(5, arc),
+            Refusal::UnfitArc(arc) => row(5, arc as u64),
             Refusal::Levels => row(6, 0),
             Refusal::Product => row(7, 0),
             Refusal::WorkingSpace => row(8, 0),
             Refusal::PlanBuffer => row(9, 0),
             Refusal::NoPlan => row(10, 0),
             Refusal::PlanLength => row(11, 0),
-            Refusal::ArcNumber(position) => row(12, position),
-            Refusal::OtherMode(position) => row(13, position),
+            Refusal::ArcNumber(position) => row(12, position as u64),
+            Refusal::OtherMode(position) => row(13, position as u64),
             Refusal::OpenCycle => row(14, 0),
-            Refusal::ImpossibleStep(step) => row(15, step),
+            Refusal::ImpossibleStep(step) => row(15, step as u64),
             Refusal::FallingCycle => row(16, 0),
-            Refusal::MissingColour(colour) => row(17, colour),
+            Refusal::MissingColour(colour) => row(17, colour as u64),
             Refusal::NoSuchColour => row(18, 0),
+            Refusal::HoaLine(line) => row(19, line),
+            Refusal::DimacsLine(line) => row(20, line),
+            Refusal::TextsDisagree => row(21, 0),
             Refusal::MixedGauge => row(22, 0),
         }
     }

@@ -32,6 +32,9 @@ row-requires-4 c κs = search needs
 enum-known-self : tie.Need-enum-known-self
 enum-known-self c = search needs
 
+cast-row : tie.Need-cast-row
+cast-row c = search needs
+
 row-requires-5 : tie.Need-row-requires-5
 row-requires-5 c κs = search needs
 
@@ -74,11 +77,17 @@ row-requires-11 c κs = search needs
 enum-known-self-2 : tie.Need-enum-known-self-2
 enum-known-self-2 c = search needs
 
+cast-row-2 : tie.Need-cast-row-2
+cast-row-2 c = search needs
+
 row-requires-12 : tie.Need-row-requires-12
 row-requires-12 c κs = search needs
 
 enum-known-self-3 : tie.Need-enum-known-self-3
 enum-known-self-3 c = search needs
+
+cast-row-3 : tie.Need-cast-row-3
+cast-row-3 c = search needs
 
 row-requires-13 : tie.Need-row-requires-13
 row-requires-13 c κs = search needs
@@ -92,6 +101,9 @@ row-requires-14 c κs = search needs
 enum-known-self-4 : tie.Need-enum-known-self-4
 enum-known-self-4 c = search needs
 
+cast-row-4 : tie.Need-cast-row-4
+cast-row-4 c = search needs
+
 row-requires-15 : tie.Need-row-requires-15
 row-requires-15 c κs = search needs
 
@@ -104,6 +116,9 @@ row-requires-16 c κs = search needs
 enum-known-self-5 : tie.Need-enum-known-self-5
 enum-known-self-5 c = search needs
 
+cast-row-5 : tie.Need-cast-row-5
+cast-row-5 c = search needs
+
 row-requires-17 : tie.Need-row-requires-17
 row-requires-17 c κs = search needs
 
@@ -113,11 +128,29 @@ enum-told-13 c = search needs
 row-requires-18 : tie.Need-row-requires-18
 row-requires-18 c κs = search needs
 
-enum-told-14 : tie.Need-enum-told-14
-enum-told-14 c = search needs
+enum-known-self-6 : tie.Need-enum-known-self-6
+enum-known-self-6 c = search needs
 
 row-requires-19 : tie.Need-row-requires-19
 row-requires-19 c κs = search needs
+
+enum-known-self-7 : tie.Need-enum-known-self-7
+enum-known-self-7 c = search needs
+
+row-requires-20 : tie.Need-row-requires-20
+row-requires-20 c κs = search needs
+
+enum-told-14 : tie.Need-enum-told-14
+enum-told-14 c = search needs
+
+row-requires-21 : tie.Need-row-requires-21
+row-requires-21 c κs = search needs
+
+enum-told-15 : tie.Need-enum-told-15
+enum-told-15 c = search needs
+
+row-requires-22 : tie.Need-row-requires-22
+row-requires-22 c κs = search needs
 
 returns : tie.Need-returns
 returns c = c .row .ensures ∙ sym (ap numbered (c .before .enum-told .given .1))
@@ -174,7 +207,16 @@ returns-18 : tie.Need-returns-18
 returns-18 c = c .row18 .ensures ∙ sym (ap numbered (c .before .enum-told13 .given .1))
 
 returns-19 : tie.Need-returns-19
-returns-19 c = c .row19 .ensures ∙ sym (ap numbered (c .before .enum-told14 .given .1))
+returns-19 c = c .row19 .ensures ∙ sym (ap numbered (c .before .before .self6 .given .1))
+
+returns-20 : tie.Need-returns-20
+returns-20 c = c .row20 .ensures ∙ sym (ap numbered (c .before .before .self7 .given .1))
+
+returns-21 : tie.Need-returns-21
+returns-21 c = c .row21 .ensures ∙ sym (ap numbered (c .before .enum-told14 .given .1))
+
+returns-22 : tie.Need-returns-22
+returns-22 c = c .row22 .ensures ∙ sym (ap numbered (c .before .enum-told15 .given .1))
 
 pub answer-spec : {M : Type 1} → statement M
 answer-spec =
@@ -189,6 +231,7 @@ answer-spec =
     enum-told-4
     row-requires-4
     enum-known-self
+    cast-row
     row-requires-5
     enum-told-5
     row-requires-6
@@ -203,21 +246,31 @@ answer-spec =
     enum-told-10
     row-requires-11
     enum-known-self-2
+    cast-row-2
     row-requires-12
     enum-known-self-3
+    cast-row-3
     row-requires-13
     enum-told-11
     row-requires-14
     enum-known-self-4
+    cast-row-4
     row-requires-15
     enum-told-12
     row-requires-16
     enum-known-self-5
+    cast-row-5
     row-requires-17
     enum-told-13
     row-requires-18
-    enum-told-14
+    enum-known-self-6
     row-requires-19
+    enum-known-self-7
+    row-requires-20
+    enum-told-14
+    row-requires-21
+    enum-told-15
+    row-requires-22
     returns
     returns-2
     returns-3
@@ -236,4 +289,7 @@ answer-spec =
     returns-16
     returns-17
     returns-18
-    returns-19)
+    returns-19
+    returns-20
+    returns-21
+    returns-22)

@@ -1,0 +1,195 @@
+-- A DIMACS text that is printed reads back. Assumes nothing.
+use mathlib.Core.Path.{_≡_, refl, ap}
+use mathlib.Core.Bool.{true, false}
+use mathlib.Core.List.{List, [], _∷_, _++_, append-assoc, map}
+use Prim.Native.Nat.{ℕ, suc, _+_, _≤_, _<_}
+use native.Mathlib.Omega.{arith}
+use lib.Dec.{eqb}
+use lib.IntN.{ℤ, pos, negsuc}
+use lib.ListN.{length}
+use borrow.Author.Tests.{lt-ltb, le-leb, eq-eqb, ne-eqb}
+use Rattle.fields.specs.Fields.{isOnly, afterNumber, split}
+use Rattle.fields.proofs.Pieces.{Free, FreeAll, ended, textOf, lines-of}
+use Rattle.fields.proofs.Printed.{Digits, printed-digits, after-word, free-append}
+use Rattle.fields.proofs.Num.{num, Small, number-num, after-num, number-back, tail-back, feed-ends, blank-ends, num-long, num-line, freeb, free-word}
+use Rattle.dimacs.specs.Words.{problemWord, arcWord, blank}
+use Rattle.dimacs.specs.Lines.{isComment, isProblem, countField, modesOn, countOn, fromOn, toField, toOn, weightField, isNegative, unsigned, signedOf, isArc}
+use Rattle.dimacs.specs.Text.{TextArc, textArcOn, textArcsOf, comments, modesOf, arcsWrong, dimacsWrong}
+
+-- a `p` line, without its line feed
+abbrev pub problemText : ℕ → ℕ → List ℕ
+problemText n m = problemWord ++ (num n ++ (blank ++ num m))
+
+problem-ended : (n m : ℕ) → ended (problemText n m) ≡ problemWord ++ (num n ++ (blank ++ (num m ++ 10 ∷ [])))
+problem-ended n m = simp append-assoc
+
+module _ (n m : ℕ) (many : Small n) (some : Small m) where
+  pub problem-modes : modesOn (ended (problemText n m)) ≡ n
+  problem-modes = rw (problem-ended n m) (number-back problemWord n (blank ++ (num m ++ 10 ∷ [])) many (blank-ends _))
+
+  problem-field : countField (ended (problemText n m)) ≡ num m ++ 10 ∷ []
+  problem-field =
+      rw (problem-ended n m, tail-back problemWord n (blank ++ (num m ++ 10 ∷ [])) many (blank-ends _)) (after-word blank (num m ++ 10 ∷ []))
+
+  pub problem-count : countOn (ended (problemText n m)) ≡ m
+  problem-count = rw problem-field (number-num m (10 ∷ []) some feed-ends)
+
+  pub problem-is : isProblem (ended (problemText n m)) ≡ true
+  unfolding isOnly
+  problem-is = rw (problem-field, after-num m (10 ∷ []) some feed-ends)
+
+-- a weight, with a minus where it is negative
+abbrev pub weightText : ℤ → List ℕ
+weightText (pos n) = num n
+weightText (negsuc n) = 45 ∷ num (suc n)
+
+abbrev pub SmallZ : ℤ → Type 0
+SmallZ (pos n) = Small n
+SmallZ (negsuc n) = Small (suc n)
+
+-- digits do not begin with a minus
+digits-plain : (l r : List ℕ) → Digits l → 0 < length l → (isNegative (l ++ r) ≡ false) × (unsigned (l ++ r) ≡ l ++ r)
+unfolding isNegative unsigned
+digits-plain [] r f h = absurd (omega arith)
+digits-plain (x ∷ l) r f h =
+    let no : eqb x 45 ≡ false = ne-eqb x 45 (λ e. absurd (omega (arith, e, f .0))) in
+    (no, rw no)
+
+-- what is read of a weight and its line feed
+record ReadsWeight (f : List ℕ) (w : ℤ) : Type 0 where
+  weighs : signedOf f ≡ w
+  ends : isOnly 10 (afterNumber (unsigned f)) ≡ true
+
+weight-back : (w : ℤ) → SmallZ w → ReadsWeight (weightText w ++ 10 ∷ []) w
+unfolding isOnly isNegative unsigned
+weight-back (pos n) low =
+    let (a, b) = digits-plain (num n) (10 ∷ []) (printed-digits 5 n) (num-long n) in
+    record {
+      weighs = rw (a, b, number-num n (10 ∷ []) low feed-ends);
+      ends = rw (b, after-num n (10 ∷ []) low feed-ends);
+    }
+weight-back (negsuc n) low =
+    record {
+      weighs = rw (number-num (suc n) (10 ∷ []) low feed-ends);
+      ends = rw (after-num (suc n) (10 ∷ []) low feed-ends);
+    }
+
+-- an `a` line, without its line feed
+abbrev pub arcText : TextArc → List ℕ
+arcText a = arcWord ++ (num (a .from) ++ (blank ++ (num (a .to) ++ (blank ++ weightText (a .weight)))))
+
+-- what a text can say of an arc
+pub record TextArcFits (n : ℕ) (a : TextArc) : Type 0 where
+  pub from-some : 0 < a .from
+  pub from-most : a .from ≤ n
+  pub to-some : 0 < a .to
+  pub to-most : a .to ≤ n
+  pub weight : SmallZ (a .weight)
+
+module _ (n : ℕ) (many : n < 100000) (a : TextArc) (f : TextArcFits n a) where
+  arc-ended : ended (arcText a) ≡ arcWord ++ (num (a .from) ++ (blank ++ (num (a .to) ++ (blank ++ (weightText (a .weight) ++ 10 ∷ [])))))
+  arc-ended = simp append-assoc
+
+  arc-from : fromOn (ended (arcText a)) ≡ a .from
+  arc-from = rw arc-ended (number-back arcWord (a .from) _ (omega (arith, f .from-most)) (blank-ends _))
+
+  arc-field : toField (ended (arcText a)) ≡ num (a .to) ++ (blank ++ (weightText (a .weight) ++ 10 ∷ []))
+  arc-field =
+      rw (
+        arc-ended,
+        tail-back arcWord (a .from) (blank ++ (num (a .to) ++ (blank ++ (weightText (a .weight) ++ 10 ∷ [])))) (omega (arith, f .from-most)) (blank-ends _),
+      )
+      (after-word blank _)
+
+  arc-to : toOn (ended (arcText a)) ≡ a .to
+  arc-to = rw arc-field (number-num (a .to) (blank ++ (weightText (a .weight) ++ 10 ∷ [])) (omega (arith, f .to-most)) (blank-ends _))
+
+  arc-rest : weightField (ended (arcText a)) ≡ weightText (a .weight) ++ 10 ∷ []
+  arc-rest =
+      rw (arc-field, after-num (a .to) (blank ++ (weightText (a .weight) ++ 10 ∷ [])) (omega (arith, f .to-most)) (blank-ends _)) (after-word blank _)
+
+  pub arc-is : isArc n (ended (arcText a)) ≡ true
+  unfolding isArc
+  arc-is =
+      rw (
+        arc-from,
+        arc-to,
+        arc-rest,
+        lt-ltb 0 (a .from) (f .from-some),
+        le-leb (a .from) n (f .from-most),
+        lt-ltb 0 (a .to) (f .to-some),
+        le-leb (a .to) n (f .to-most),
+      )
+      (weight-back (a .weight) (f .weight) .ends)
+
+  pub arc-back : textArcOn (ended (arcText a)) ≡ a
+  arc-back = rw (arc-from, arc-to, arc-rest, weight-back (a .weight) (f .weight) .weighs)
+
+abbrev pub TextArcsFit : ℕ → List TextArc → Type 0
+TextArcsFit n [] = Unit
+TextArcsFit n (a ∷ l) = TextArcFits n a × TextArcsFit n l
+
+module _ (n : ℕ) (many : n < 100000) where
+  arcs-right : (m line i : ℕ) (l : List TextArc) → i + length l ≡ m → TextArcsFit n l
+      → arcsWrong n m line i (map ended (map arcText l)) ≡ 0
+  unfolding arcsWrong
+  arcs-right m line i [] e f = rw (eq-eqb i m (omega arith))
+  arcs-right m line i (a ∷ l) e f =
+      rw (lt-ltb i m (omega arith), arc-is n many a (f .0)) (arcs-right m (suc line) (suc i) l (omega arith) (f .1))
+
+  arcs-read : (l : List TextArc) → TextArcsFit n l → map textArcOn (map ended (map arcText l)) ≡ l
+  arcs-read [] f = refl
+  arcs-read (a ∷ l) f = rw (arc-back n many a (f .0)) (ap (λ (t : List TextArc). a ∷ t) (arcs-read l (f .1)))
+
+-- no line holds a line feed before its end
+words-free : (freeb 10 problemWord ≡ true) × (freeb 10 arcWord ≡ true)
+unfolding freeb
+words-free = (refl, refl)
+
+problem-line : (n m : ℕ) → Free 10 (problemText n m)
+problem-line n m =
+    free-append 10 problemWord (num n ++ (blank ++ num m)) (free-word 10 problemWord (words-free .0))
+    (free-append 10 (num n) (blank ++ num m) (num-line n) (refl, num-line m))
+
+weight-line : (w : ℤ) → Free 10 (weightText w)
+weight-line (pos n) = num-line n
+weight-line (negsuc n) = (refl, num-line (suc n))
+
+arc-line : (a : TextArc) → Free 10 (arcText a)
+arc-line a =
+    free-append 10 arcWord (num (a .from) ++ (blank ++ (num (a .to) ++ (blank ++ weightText (a .weight))))) (free-word 10 arcWord (words-free .1))
+    (free-append 10 (num (a .from)) (blank ++ (num (a .to) ++ (blank ++ weightText (a .weight)))) (num-line (a .from))
+    (refl, free-append 10 (num (a .to)) (blank ++ weightText (a .weight)) (num-line (a .to)) (refl, weight-line (a .weight))))
+
+arc-lines : (l : List TextArc) → FreeAll (map arcText l)
+arc-lines [] = tt
+arc-lines (a ∷ l) = (arc-line a, arc-lines l)
+
+-- the lines of a text, each without its line feed
+abbrev pub dimacsLines : ℕ → List TextArc → List (List ℕ)
+dimacsLines n l = problemText n (length l) ∷ map arcText l
+
+abbrev pub dimacsText : ℕ → List TextArc → List ℕ
+dimacsText n l = textOf (dimacsLines n l)
+
+-- what the text that is printed says
+pub record SaysDimacs (ls : List (List ℕ)) (n : ℕ) (l : List TextArc) : Type 0 where
+  pub right : dimacsWrong ls ≡ 0
+  pub modes : modesOf ls ≡ n
+  pub arrows : textArcsOf ls ≡ l
+
+no-comments : (n m : ℕ) (t : List (List ℕ)) → comments (ended (problemText n m) ∷ t) ≡ 0
+unfolding comments isComment
+no-comments n m t = refl
+
+pub dimacs-back : (n : ℕ) (l : List TextArc) → Small n → Small (length l) → TextArcsFit n l → SaysDimacs (split 10 (dimacsText n l)) n l
+unfolding dimacsWrong
+dimacs-back n l many some f =
+    let none = no-comments n (length l) (map ended (map arcText l)) in
+    rw (lines-of (dimacsLines n l) (problem-line n (length l), arc-lines l))
+    (record {
+      right = rw (none, problem-is n (length l) many some, problem-modes n (length l) many some, problem-count n (length l) many some)
+          (arcs-right n many (length l) 1 0 l (omega arith) f);
+      modes = rw none (problem-modes n (length l) many some);
+      arrows = rw none (arcs-read n many l f);
+    })

@@ -1,0 +1,55 @@
+-- The first byte of a field, and whether a line is a comment. Assumes nothing.
+use mathlib.Core.Path.{_≡_, refl}
+use mathlib.Core.Bool.{true, false}
+use mathlib.Core.List.{List, [], _∷_}
+use Prim.Native.Nat.{ℕ, zero, suc, _-_, _≤_}
+use native.Mathlib.Omega.{arith}
+use lib.Dec.{eqb}
+use lib.IntN.{pos, negsuc, _-ℤ_, +ℤ-idl}
+use lib.ListN.{length, getD, drop}
+use mir.Syntax.{w16}
+use mir.Val.{SFits}
+use borrow.Author.Tests.{eq-eqb, ne-eqb}
+use Rattle.dimacs.specs.Lines.{isComment, isNegative, unsigned, signed}
+
+pub comment-none : (l : List ℕ) → length l ≡ 0 → isComment l ≡ false
+unfolding isComment
+comment-none [] e = refl
+comment-none (x ∷ l) e = absurd (omega (arith, e))
+
+pub negative-none : (l : List ℕ) → length l ≡ 0 → isNegative l ≡ false
+unfolding isNegative
+negative-none [] e = refl
+negative-none (x ∷ l) e = absurd (omega (arith, e))
+
+pub unsigned-none : (l : List ℕ) → length l ≡ 0 → unsigned l ≡ l
+unfolding unsigned
+unsigned-none [] e = refl
+unsigned-none (x ∷ l) e = absurd (omega (arith, e))
+
+pub unsigned-minus : (l : List ℕ) → (length l ≡ 0 → ⊥) → getD l 0 0 ≡ 45 → unsigned l ≡ drop 1 l
+unfolding unsigned
+unsigned-minus [] h e = absurd (h refl)
+unsigned-minus (x ∷ l) h e = rw (eq-eqb x 45 e)
+
+pub unsigned-other : (l : List ℕ) → (length l ≡ 0 → ⊥) → (getD l 0 0 ≡ 45 → ⊥) → unsigned l ≡ l
+unfolding unsigned
+unsigned-other [] h e = refl
+unsigned-other (x ∷ l) h e = rw (ne-eqb x 45 e)
+
+pub comment-other : (l : List ℕ) → (getD l 0 0 ≡ 99 → ⊥) → isComment l ≡ false
+unfolding isComment
+comment-other l e = rw (ne-eqb (getD l 0 0) 99 e)
+
+pub comment-first : (l : List ℕ) → getD l 0 0 ≡ 99 → isComment l ≡ eqb (getD l (length l - 1) 0) 10
+unfolding isComment
+comment-first l e = rw (eq-eqb (getD l 0 0) 99 e)
+
+-- numbers with a sign
+pub neg-is : (n : ℕ) → pos 0 -ℤ pos n ≡ signed true n
+neg-is zero = refl
+neg-is (suc n) = +ℤ-idl (negsuc n)
+
+pub neg-fits : (n : ℕ) → n ≤ 10000 → SFits w16 (pos 0 -ℤ pos n)
+neg-fits zero h = record { sfits = omega arith }
+neg-fits (suc n) h = rw (neg-is (suc n)) (record { sfits = omega arith })

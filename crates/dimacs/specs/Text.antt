@@ -1,0 +1,51 @@
+-- DIMACS text: the first line outside the forms, and the numbers and arcs of a text that has none. Document 02, Ask 1.
+use mathlib.Core.Bool.{_&&_, cond}
+use mathlib.Core.List.{List, [], _∷_, map}
+use Prim.Native.Nat.{ℕ, suc}
+use lib.Dec.{ltb, eqb}
+use lib.IntN.{ℤ}
+use lib.ListN.{getD, drop}
+use Rattle.dimacs.specs.Lines.{isComment, isProblem, isArc, modesOn, countOn, fromOn, toOn, weightOn}
+
+-- how many comments the text begins with
+unfoldable pub comments : List (List ℕ) → ℕ
+comments [] = 0
+comments (l ∷ ls) = cond (isComment l) (suc (comments ls)) 0
+
+-- the line after them; nothing where there is none
+abbrev pub problemOf : List (List ℕ) → List ℕ
+problemOf ls = getD ls (comments ls) []
+
+abbrev pub modesOf : List (List ℕ) → ℕ
+modesOf ls = modesOn (problemOf ls)
+
+abbrev pub countOf : List (List ℕ) → ℕ
+countOf ls = countOn (problemOf ls)
+
+-- the lines after it
+abbrev pub arcLines : List (List ℕ) → List (List ℕ)
+arcLines ls = drop (suc (comments ls)) ls
+
+-- the first of these lines that is no arc's line or past the m-th, or is missing, counted from 1 over the whole text; 0 where there is none.
+-- line: how many lines stand before; i: how many arcs
+unfoldable pub arcsWrong : ℕ → ℕ → ℕ → ℕ → List (List ℕ) → ℕ
+arcsWrong n m line i [] = cond (eqb i m) 0 (suc line)
+arcsWrong n m line i (l ∷ ls) = cond (ltb i m && isArc n l) (arcsWrong n m (suc line) (suc i) ls) (suc line)
+
+-- "a DIMACS line 20 .. with the first such line counted from 1 as detail (one past the last line where the text ends early)"; 0 where there is none
+unfoldable pub dimacsWrong : List (List ℕ) → ℕ
+dimacsWrong ls =
+    cond (isProblem (problemOf ls)) (arcsWrong (modesOf ls) (countOf ls) (suc (comments ls)) 0 (arcLines ls)) (suc (comments ls))
+
+-- an arc of the text, its modes counted from 1
+pub record TextArc : Type 0 where
+  pub from : ℕ
+  pub to : ℕ
+  pub weight : ℤ
+
+abbrev pub textArcOn : List ℕ → TextArc
+textArcOn l = record { from = fromOn l; to = toOn l; weight = weightOn l }
+
+-- the arcs of a text, in its order
+abbrev pub textArcsOf : List (List ℕ) → List TextArc
+textArcsOf ls = map textArcOn (arcLines ls)

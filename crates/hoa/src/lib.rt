@@ -1,0 +1,367 @@
+// HOA text: its lines, and the first that is outside the forms.
+ghost use mathlib.Core.Path.{_≡_};
+ghost use mathlib.Core.List.{[]};
+ghost use Prim.Native.Nat.{_≤_};
+ghost use lib.ListN.{length, take};
+ghost use Rattle.fields.specs.Fields.{split, isOnly, afterWord, isWord};
+ghost use Rattle.hoa.specs.Words.{closeBrace};
+ghost use Rattle.hoa.specs.Lines.{isState, stateOf, targetOf, targetTail, inside, areColours, isBraces, isEdge, colourCount, condition, infTail, infNumber, areInfs, isAcceptance};
+ghost use Rattle.hoa.specs.Text.{modesOf, startOf, coloursOf, headWrong, opensBlock, hasBlock, isNewBlock, mayStand, isEnd, bodyWrong, hoaWrong, coloursSaid, contains, colourByte};
+ghost use mathlib.Core.List.{map};
+ghost use mathlib.Core.Bool.{cond};
+ghost use Rattle.fields.specs.Fields.{numberOf};
+
+const FEED: u8 = 10;
+
+const BLANK: u8 = 32;
+
+const AND: u8 = 38;
+
+// Whether a line is a `State:` line.
+pub fn is_state(line: &[u8]) -> bool
+    ensures { λ r. ⌜ r ≡ isState (now (line .entry)) ⌝ }
+{
+    fields::is_numbered(line, b"State: ")
+}
+
+// The mode of a `State:` line.
+pub fn state_of(line: &[u8]) -> u32
+    ensures { λ r. ⌜ r ≡ stateOf (now (line .entry)) ⌝ }
+{
+    fields::number_after(line, b"State: ")
+}
+
+// The target of an edge's line.
+pub fn target_of(line: &[u8]) -> u32
+    ensures { λ r. ⌜ r ≡ targetOf (now (line .entry)) ⌝ }
+{
+    fields::number_after(line, b"[t] ")
+}
+
+// What follows the target of an edge's line.
+fn target_tail(line: &[u8]) -> &[u8]
+    ensures { λ r. ⌜ now r ≡ targetTail (now (line .entry)) ⌝ }
+{
+    fields::tail_after(line, b"[t] ")
+}
+
+// What follows the opening brace of an edge's line.
+pub fn inside_of(line: &[u8]) -> &[u8]
+    ensures { λ r. ⌜ now r ≡ inside (now (line .entry)) ⌝ }
+{
+    fields::after_word(target_tail(line), b" {")
+}
+
+// Whether a list ends a pair of braces.
+fn closes(s: &[u8]) -> bool
+    ensures { λ r. ⌜ r ≡ isWord closeBrace (now (s .entry)) ⌝ }
+{
+    fields::is_word(s, b"}")
+}
+
+// Whether colours below k stand in a list, with what closes them.
+fn are_colours(s: &[u8], k: u32) -> bool
+    ensures { λ r. ⌜ r ≡ areColours k (split 32 (now (s .entry))) ⌝ }
+{
+    let mut at = 0;
+    while at < s.len() {
+        let e = fields::piece_end(s, at, BLANK);
+        let piece = &s[at..e];
+        if fields::number_of(piece) >= k {
+            return false;
+        }
+        let tail = fields::after_number(piece);
+        if closes(tail) {
+            return true;
+        }
+        if !fields::is_only(tail, BLANK) {
+            return false;
+        }
+        at = e;
+    }
+    false
+}
+
+// Whether braces that are open are closed rightly.
+fn is_braces(s: &[u8], k: u32) -> bool
+    ensures { λ r. ⌜ r ≡ isBraces k (now (s .entry)) ⌝ }
+{
+    if closes(s) {
+        return true;
+    }
+    are_colours(s, k)
+}
+
+// Whether a line is an edge's line.
+pub fn is_edge(line: &[u8], n: u32, k: u32) -> bool
+    ensures { λ r. ⌜ r ≡ isEdge n k (now (line .entry)) ⌝ }
+{
+    if target_of(line) >= n {
+        return false;
+    }
+    if fields::is_only(target_tail(line), FEED) {
+        return true;
+    }
+    is_braces(inside_of(line), k)
+}
+
+// The number of colours on an `Acceptance:` line.
+fn colour_count(line: &[u8]) -> u32
+    ensures { λ r. ⌜ r ≡ colourCount (now (line .entry)) ⌝ }
+{
+    fields::number_after(line, b"Acceptance: ")
+}
+
+// The condition on an `Acceptance:` line.
+fn condition_of(line: &[u8]) -> &[u8]
+    ensures { λ r. ⌜ now r ≡ condition (now (line .entry)) ⌝ }
+{
+    fields::after_word(fields::tail_after(line, b"Acceptance: "), b" ")
+}
+
+// What follows `Inf(`, a number and the closing bracket.
+fn inf_tail(piece: &[u8]) -> &[u8]
+    ensures { λ r. ⌜ now r ≡ infTail (now (piece .entry)) ⌝ }
+{
+    fields::after_word(fields::tail_after(piece, b"Inf("), b")")
+}
+
+// The number after `Inf(`.
+fn inf_number(piece: &[u8]) -> u32
+    ensures { λ r. ⌜ r ≡ infNumber (now (piece .entry)) ⌝ }
+{
+    fields::number_after(piece, b"Inf(")
+}
+
+// Whether a condition is `Inf(0)` to `Inf(k-1)`.
+fn are_infs(s: &[u8], k: u32) -> bool
+    ensures { λ r. ⌜ r ≡ areInfs k 0 (split 38 (now (s .entry))) ⌝ }
+{
+    let mut at = 0;
+    let mut j: usize = 0;
+    while at < s.len() {
+        let e = fields::piece_end(s, at, AND);
+        let piece = &s[at..e];
+        if (inf_number(piece) as usize) != j {
+            return false;
+        }
+        let tail = inf_tail(piece);
+        if fields::is_only(tail, FEED) {
+            return j + 1 == (k as usize);
+        }
+        if !fields::is_only(tail, AND) {
+            return false;
+        }
+        at = e;
+        j += 1;
+    }
+    false
+}
+
+// Whether a line is an `Acceptance:` line.
+fn is_acceptance(line: &[u8]) -> bool
+    ensures { λ r. ⌜ r ≡ isAcceptance (now (line .entry)) ⌝ }
+{
+    let k = colour_count(line);
+    let rest = condition_of(line);
+    if k == 0 {
+        return fields::is_word(rest, b"t");
+    }
+    are_infs(rest, k)
+}
+
+// The number of modes of a text.
+pub fn modes_of(text: &[u8]) -> u32
+    ensures { λ r. ⌜ r ≡ modesOf (split 10 (now (text .entry))) ⌝ }
+{
+    fields::line_number(text, 1, b"States: ")
+}
+
+// The start mode of a text.
+pub fn start_of(text: &[u8]) -> u32
+    ensures { λ r. ⌜ r ≡ startOf (split 10 (now (text .entry))) ⌝ }
+{
+    fields::line_number(text, 2, b"Start: ")
+}
+
+// The number of colours of a text.
+pub fn colours_of(text: &[u8]) -> u32
+    ensures { λ r. ⌜ r ≡ coloursOf (split 10 (now (text .entry))) ⌝ }
+{
+    fields::line_number(text, 4, b"Acceptance: ")
+}
+
+// The first of the lines before the body that is outside the forms, from 1; 0 where there is none.
+fn head_wrong(text: &[u8]) -> usize
+    ensures { λ r. ⌜ r ≡ headWrong (split 10 (now (text .entry))) ⌝ }
+{
+    if !fields::is_word_line(text, 0, b"HOA: v1") {
+        return 1;
+    }
+    if !fields::is_numbered_line(text, 1, b"States: ") {
+        return 2;
+    }
+    if !fields::is_numbered_line(text, 2, b"Start: ") {
+        return 3;
+    }
+    if !fields::is_word_line(text, 3, b"AP: 0") {
+        return 4;
+    }
+    if !is_acceptance(fields::line_of(text, 4)) {
+        return 5;
+    }
+    if !fields::is_word_line(text, 5, b"--BODY--") {
+        return 6;
+    }
+    0
+}
+
+// Whether a line opens the block of a mode.
+fn opens(line: &[u8], mode: u32) -> bool
+    ensures { λ r. ⌜ r ≡ opensBlock mode (now (line .entry)) ⌝ }
+{
+    if !is_state(line) {
+        return false;
+    }
+    mode == state_of(line)
+}
+
+// Whether a mode has a block in the first lines of a body.
+fn has_block(body: &[u8], count: usize, mode: u32) -> bool
+    ensures { λ r. ⌜ r ≡ hasBlock mode (take count (split 10 (now (body .entry)))) ⌝ }
+{
+    let mut at = 0;
+    let mut j = 0;
+    while j < count {
+        if at >= body.len() {
+            return false;
+        }
+        let e = fields::piece_end(body, at, FEED);
+        if opens(&body[at..e], mode) {
+            return true;
+        }
+        at = e;
+        j += 1;
+    }
+    false
+}
+
+// Whether a line opens the block of a mode that has none in the first lines of a body.
+fn is_new_block(body: &[u8], count: usize, line: &[u8], n: u32) -> bool
+    ensures { λ r. ⌜ r ≡ isNewBlock n (take count (split 10 (now (body .entry)))) (now (line .entry)) ⌝ }
+{
+    if !is_state(line) {
+        return false;
+    }
+    let mode = state_of(line);
+    if mode >= n {
+        return false;
+    }
+    !has_block(body, count, mode)
+}
+
+// Whether a line may stand after the first lines of a body.
+fn may_stand(body: &[u8], count: usize, line: &[u8], n: u32, k: u32) -> bool
+    requires { ⌜ count ≤ length (split 10 (now body)) ⌝ }
+    ensures { λ r. ⌜ r ≡ mayStand n k (take count (split 10 (now (body .entry)))) (now (line .entry)) ⌝ }
+{
+    if is_new_block(body, count, line, n) {
+        return true;
+    }
+    if count == 0 {
+        return false;
+    }
+    is_edge(line, n, k)
+}
+
+// Whether a line is the last.
+pub fn is_end(line: &[u8]) -> bool
+    ensures { λ r. ⌜ r ≡ isEnd (now (line .entry)) ⌝ }
+{
+    fields::is_word(line, b"--END--")
+}
+
+// The first line of a body that is outside the forms, from 1 over the whole text; 0 where there is none.
+fn body_wrong(body: &[u8], n: u32, k: u32) -> usize
+    ensures { λ r. ⌜ r ≡ bodyWrong n k [] (split 10 (now (body .entry))) ⌝ }
+{
+    let mut at = 0;
+    let mut j = 0;
+    while at < body.len() {
+        let e = fields::piece_end(body, at, FEED);
+        let line = &body[at..e];
+        if is_end(line) {
+            if e < body.len() {
+                return j + 8;
+            }
+            return 0;
+        }
+        if !may_stand(body, j, line, n, k) {
+            return j + 7;
+        }
+        at = e;
+        j += 1;
+    }
+    j + 7
+}
+
+// The first line of a text that is outside the forms, from 1; 0 where there is none.
+pub fn hoa_wrong(text: &[u8]) -> usize
+    ensures { λ r. ⌜ r ≡ hoaWrong (split 10 (now (text .entry))) ⌝ }
+{
+    let head = head_wrong(text);
+    if head != 0 {
+        return head;
+    }
+    let n = modes_of(text);
+    let k = colours_of(text);
+    let at = fields::line_at(text, 6);
+    body_wrong(&text[at..], n, k)
+}
+
+// Whether a colour stands among the pieces of a list.
+fn in_pieces(s: &[u8], colour: u32) -> bool
+    ensures { λ r. ⌜ r ≡ contains colour (map numberOf (split 32 (now (s .entry)))) ⌝ }
+{
+    let mut at = 0;
+    while at < s.len() {
+        let e = fields::piece_end(s, at, BLANK);
+        if colour == fields::number_of(&s[at..e]) {
+            return true;
+        }
+        at = e;
+    }
+    false
+}
+
+// Whether an edge's line has a colour.
+fn has_colour(line: &[u8], colour: u32) -> bool
+    ensures { λ r. ⌜ r ≡ contains colour (coloursSaid (now (line .entry))) ⌝ }
+{
+    let rest = inside_of(line);
+    if closes(rest) {
+        return false;
+    }
+    in_pieces(rest, colour)
+}
+
+// A bit where an edge's line has a colour, else 0.
+fn colour_bit(line: &[u8], colour: u32, bit: u8) -> u8
+    ensures { λ r. ⌜ (r ≡ cond (contains colour (coloursSaid (now (line .entry)))) bit 0) × (r ≤ bit) ⌝ }
+{
+    if has_colour(line, colour) {
+        return bit;
+    }
+    0
+}
+
+// The colour byte of an edge's line.
+pub fn colour_byte(line: &[u8]) -> u8
+    ensures { λ r. ⌜ r ≡ colourByte (coloursSaid (now (line .entry))) ⌝ }
+{
+    let a = colour_bit(line, 0, 1);
+    let b = colour_bit(line, 1, 2);
+    let c = colour_bit(line, 2, 4);
+    let d = colour_bit(line, 3, 8);
+    a + b + c + d
+}
