@@ -1,70 +1,87 @@
--- Reading a model from two texts: the answer, and what is left in the lent lists. Document 02, Ask 1.
-use mathlib.Core.Path.{_≡_}
-use mathlib.Core.Bool.{Bool, not, _||_, cond}
-use mathlib.Core.List.{List, [], _∷_}
-use Prim.Native.Nat.{ℕ, suc, min}
-use lib.Dec.{ltb, leb, eqb}
-use lib.IntN.{ℤ}
+-- Reading a model from two texts: the answer, and what is left in the lent lists. Document 02, Ask 1: 19, 20 and 21 "are looked at in that order,
+-- before 1".
+use Prim.Native.Nat.{ℕ, min, _^_}
+use mathlib.Core.Bool.{Bool, not, _||_}
+use mathlib.Core.List.{List, map}
+use lib.Dec.{ltb, eqb}
 use lib.ListN.{length}
-use Rattle.hoa.specs.Text.{hoaWrong, edgesOf}
-use Rattle.hoa.specs.Text as hoa
-use Rattle.dimacs.specs.Lines.{sizeOn}
-use Rattle.dimacs.specs.Text.{dimacsWrong, arcLines, countOf}
-use Rattle.reading.specs.declared.Answer.{Answer}
+use lib.Seq.{sets}
+use Rattle.limits.specs.Ceilings.{arcsMost}
+use Rattle.refusals.specs.declared.Answer.{Answer}
+use Rattle.refusals.specs.declared.Refusal.{Refusal}
+use Rattle.refusals.specs.declared.Refusal.the-variants.{HoaLine, DimacsLine, TextsDisagree}
+use Rattle.refusals.specs.declared.Verdict.{Verdict}
+use Rattle.refusals.specs.declared.Verdict.the-variants.{Yes, Refused}
+use Rattle.refusals.specs.Refusals.{refuse, andThen, answerOf}
+use Rattle.model.specs.declared.Arc.{Arc}
+use Rattle.model.specs.Automaton.{Automaton}
+use Rattle.model.specs.Lists.{Lists, lists}
+use Rattle.model.specs.Fitness.{header, arcsVerdict}
+use Rattle.fields.specs.Fields.{linesOf}
+use Rattle.hoa.specs.Text.{hoaWrong}
+use Rattle.dimacs.specs.Text.{dimacsWrong}
 use Rattle.reading.specs.declared.Reading.{Reading}
-use Rattle.reading.specs.Both.{agree}
-use Rattle.reading.specs.Filling.{withSources, withTargets, withWeights, withColours}
+use Rattle.reading.specs.Agreement.{agree}
+use Rattle.reading.specs.ModelRead.{modelIn, modelRead}
 
--- number and detail
-abbrev pub answer : ℕ → ℕ → Answer
-answer n d = record { numberOf = n; detail = d }
+-- "More edges than the shortest of them takes is 3; lists lent to be filled may have any length": m arcs, and room for so many. More than 255 are
+-- 3 in every call.
+unfoldable pub noRoom : ℕ → ℕ → Bool
+noRoom room m = ltb room m || ltb arcsMost m
 
--- 5, with the lowest such arc: a weight outside its range. The list's first line is arc i
-unfoldable pub heavy : ℕ → List (List ℕ) → Answer
-heavy i [] = answer 0 0
-heavy i (l ∷ ls) = cond (ltb 10000 (sizeOn l)) (answer 5 i) (heavy (suc i) ls)
+-- 1 to 5 are those of a model; only 3 has another condition
+unfoldable pub fitnessRead : Automaton → ℕ → Verdict
+fitnessRead g room =
+    andThen (header (g .modes) (g .start) (g .colours) (noRoom room (length (g .arcs)))) (arcsVerdict (g .modes) (2 ^ g .colours) (g .arcs) 0)
 
--- 1 to 5. 3: "More edges than the shortest of them takes"
-unfoldable pub unfit : ℕ → ℕ → ℕ → ℕ → ℕ → List (List ℕ) → Answer
-unfit n s k m room ls =
-    cond (eqb n 0 || ltb 64 n) (answer 1 0)
-    (cond (leb n s) (answer 2 0)
-    (cond (ltb room m || ltb 255 m) (answer 3 0)
-    (cond (ltb 4 k) (answer 4 0)
-    (heavy 0 ls))))
+-- 19, 20, 21, then 1 to 5, of the lines of the two texts; "A HOA line outside these forms or missing is 19, a DIMACS line 20, both with the first
+-- such line counted from 1 as detail"
+unfoldable pub readable : List (List ℕ) → List (List ℕ) → ℕ → Verdict
+readable h d room =
+    refuse (not (eqb (hoaWrong h) 0)) (HoaLine (hoaWrong h))
+    (refuse (not (eqb (dimacsWrong d) 0)) (DimacsLine (dimacsWrong d))
+    (refuse (not (agree h d)) TextsDisagree
+    (fitnessRead (modelIn h d) room)))
 
--- of the lines of both texts
-unfoldable pub verdict : List (List ℕ) → List (List ℕ) → ℕ → Answer
-verdict h d room =
-    cond (not (eqb (hoaWrong h) 0)) (answer 19 (hoaWrong h))
-    (cond (not (eqb (dimacsWrong d) 0)) (answer 20 (dimacsWrong d))
-    (cond (not (agree h d)) (answer 21 0)
-    (unfit (hoa.modesOf h) (hoa.startOf h) (hoa.coloursOf h) (countOf d) room (arcLines d))))
+-- how many arcs the shortest of the lists takes
+abbrev pub roomIn : Lists → ℕ
+roomIn l = min (min (length (l .sources)) (length (l .targets))) (min (min (length (l .draws)) (length (l .gains))) (length (l .colours)))
 
--- a model is read
-abbrev pub isRead : Answer → Bool
-isRead v = eqb (v .number) 0
+-- the verdict on a reading into these lists
+abbrev pub readVerdict : List ℕ → List ℕ → Lists → Verdict
+readVerdict hoa dimacs l = readable (linesOf hoa) (linesOf dimacs) (roomIn l)
 
 -- "A refused reading .. gives 0 for n, start mode, k and m."
-abbrev pub refusedBy : Answer → Reading
-refusedBy v = record { numberOf = v .number; detail = v .detail; modes = 0; start = 0; colours = 0; count = 0 }
+abbrev pub refusedBy : Refusal → Reading
+refusedBy r = record { verdict = Refused r; modes = 0; start = 0; colours = 0; count = 0 }
 
--- the numbers of the model that two texts define
-abbrev pub readBy : List (List ℕ) → List (List ℕ) → Reading
-readBy h d = record { numberOf = 0; detail = 0; modes = hoa.modesOf h; start = hoa.startOf h; colours = hoa.coloursOf h; count = countOf d }
+abbrev pub readingIf : Verdict → Automaton → Reading
+readingIf Yes g = record { verdict = Yes; modes = g .modes; start = g .start; colours = g .colours; count = length (g .arcs) }
+readingIf (Refused r) g = refusedBy r
 
--- how many arcs the shortest of four lists takes
-abbrev pub roomOf : ℕ → ℕ → ℕ → ℕ → ℕ
-roomOf a b c d = min (min a b) (min c d)
+-- document 01: "a call that fills arc lists writes one place per arc, from place 0": `sets l i vs` is the list l with vs written from place i on
+abbrev pub writtenFrom : ℕ → List Arc → Lists → Lists
+writtenFrom i arcs l =
+    lists
+    (sets (l .sources) i (map (λ a. a .source) arcs))
+    (sets (l .targets) i (map (λ a. a .target) arcs))
+    (sets (l .draws) i (map (λ a. a .draw) arcs))
+    (sets (l .gains) i (map (λ a. a .gain) arcs))
+    (sets (l .colours) i (map (λ a. a .colours) arcs))
 
--- the verdict on a reading into lists of these lengths
-abbrev pub verdictFor : List (List ℕ) → List (List ℕ) → List ℕ → List ℕ → List ℤ → List ℕ → Answer
-verdictFor h d ss ts ws cs = verdict h d (roomOf (length ss) (length ts) (length ws) (length cs))
+-- "A refused reading leaves the lent arc lists untouched"
+abbrev pub writtenIf : Verdict → List Arc → Lists → Lists
+writtenIf Yes arcs l = writtenFrom 0 arcs l
+writtenIf (Refused r) arcs l = l
 
--- the answer and the four lists, as they are left; "A refused reading leaves the lent arc lists untouched"
-pub record Reads (h d : List (List ℕ)) (r : Reading) (ss ts : List ℕ) (ws : List ℤ) (cs ss′ ts′ : List ℕ) (ws′ : List ℤ) (cs′ : List ℕ) : Type 0 where
-  pub answers : r ≡ cond (isRead (verdictFor h d ss ts ws cs)) (readBy h d) (refusedBy (verdictFor h d ss ts ws cs))
-  pub sources : ss′ ≡ cond (isRead (verdictFor h d ss ts ws cs)) (withSources (edgesOf h) ss) ss
-  pub targets : ts′ ≡ cond (isRead (verdictFor h d ss ts ws cs)) (withTargets (edgesOf h) ts) ts
-  pub weights : ws′ ≡ cond (isRead (verdictFor h d ss ts ws cs)) (withWeights (arcLines d) ws) ws
-  pub colours : cs′ ≡ cond (isRead (verdictFor h d ss ts ws cs)) (withColours (edgesOf h) cs) cs
+-- what reading answers
+abbrev pub readOf : List ℕ → List ℕ → Lists → Reading
+readOf hoa dimacs l = readingIf (readVerdict hoa dimacs l) (modelRead hoa dimacs)
+
+-- the number and the detail
+abbrev pub readAnswer : List ℕ → List ℕ → Lists → Answer
+readAnswer hoa dimacs l = answerOf (readVerdict hoa dimacs l)
+
+-- the lent lists as the call leaves them
+abbrev pub listsRead : List ℕ → List ℕ → Lists → Lists
+listsRead hoa dimacs l = writtenIf (readVerdict hoa dimacs l) (modelRead hoa dimacs .arcs) l

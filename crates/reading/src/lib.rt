@@ -1,16 +1,26 @@
-// The two texts together.
+// A model read from HOA text and DIMACS text into lent lists. Both texts are walked side by side, and nothing is kept of them: there is no ceiling on
+// their length, and an edge past the 255th still has to agree.
 ghost use mathlib.Core.Path.{_≡_};
+ghost use mathlib.Core.Bool.{_&&_};
 ghost use mathlib.Core.List.{map};
 ghost use Prim.Native.Nat.{_≤_, min};
+ghost use lib.Dec.{eqb};
 ghost use lib.ListN.{length, drop};
-ghost use Rattle.fields.specs.Fields.{split};
-ghost use Rattle.hoa.specs.Text.{edgesFrom};
-ghost use Rattle.dimacs.specs.Text.{textArcOn, TextArc};
-ghost use Rattle.reading.specs.Filling.{Fills, Filled};
-ghost use Rattle.reading.specs.Reading.{answer, heavy, unfit, verdict, refusedBy, readBy, Reads};
-ghost use Rattle.reading.specs.Both.{sameEnds, allSame, agree, edgeOn, IsNext};
-
-const FEED: u8 = 10;
+ghost use Rattle.limits.specs.Ceilings.{arcsMost};
+ghost use Rattle.refusals.specs.Refusals.{andThen, answerOf};
+ghost use Rattle.model.specs.Lists.{lists};
+ghost use Rattle.model.specs.Fitness.{header};
+ghost use Rattle.fields.specs.Fields.{linesOf};
+ghost use Rattle.hoa.specs.Text.{edgesFrom, edgesOf, modesOf, startOf, coloursOf};
+ghost use Rattle.dimacs.specs.Text.{textArcOn};
+ghost use Rattle.reading.specs.Agreement.{sameEnds, allSame};
+ghost use Rattle.reading.specs.ModelRead.{arcsRead};
+ghost use Rattle.reading.specs.Reading.{noRoom, readable, refusedBy, writtenFrom, readOf, readAnswer, listsRead};
+ghost use Rattle.reading.specs.Within.{edgeOn, IsNext, weightsVerdict, Fillable, readBy};
+use fields::Bytes;
+use limits::Limits;
+use refusals::Refusal;
+use refusals::Verdict;
 
 // The next edge of a body: its source, and where its line begins and ends.
 pub struct Next {
@@ -18,6 +28,15 @@ pub struct Next {
     pub source: u32,
     pub from: usize,
     pub to: usize,
+}
+
+// What a reading answers: the verdict, and the numbers of the model read, each 0 where it is refused.
+pub struct Reading {
+    pub verdict: Verdict,
+    pub modes: u32,
+    pub start: u32,
+    pub colours: u32,
+    pub count: u32,
 }
 
 // The next edge from a place on, in the block of a mode.
@@ -28,7 +47,7 @@ fn next_edge(text: &[u8], start: usize, mode: u32) -> Next
     let mut at = start;
     let mut source = mode;
     while at < text.len() {
-        let e = fields::piece_end(text, at, FEED);
+        let e = fields::piece_end(text, at, Bytes::FEED);
         let line = &text[at..e];
         if !hoa::is_state(line) {
             let found = !hoa::is_end(line);
@@ -50,7 +69,7 @@ fn next_edge(text: &[u8], start: usize, mode: u32) -> Next
     }
 }
 
-// Whether an edge and an arc have the same ends.
+// Whether an edge and an `a` line have the same ends.
 fn same_ends(source: u32, edge: &[u8], arc: &[u8]) -> bool
     ensures { λ r. ⌜ r ≡ sameEnds (edgeOn source (now (edge .entry))) (textArcOn (now (arc .entry))) ⌝ }
 {
@@ -63,31 +82,118 @@ fn same_ends(source: u32, edge: &[u8], arc: &[u8]) -> bool
     target + 1 == to
 }
 
-// Whether the edges from a place on and the arcs from a place on are as many and have the same ends.
-fn all_same(hoa: &[u8], body: usize, dimacs: &[u8], arcs: usize) -> bool
-    requires { ⌜ (body ≤ length (now hoa)) × (arcs ≤ length (now dimacs)) ⌝ }
-    ensures { λ r. ⌜ r ≡ allSame (edgesFrom 0 (split 10 (drop body (now (hoa .entry))))) (map textArcOn (split 10 (drop arcs (now (dimacs .entry))))) ⌝ }
+// Whether the edges of a body and the `a` lines are as many and have the same ends.
+fn all_same(body: &[u8], arcs: &[u8]) -> bool
+    ensures { λ r. ⌜ r ≡ allSame (edgesFrom 0 (linesOf (now (body .entry)))) (map textArcOn (linesOf (now (arcs .entry)))) ⌝ }
 {
-    let mut h = body;
-    let mut d = arcs;
+    let mut h = 0;
+    let mut d = 0;
     let mut source = 0;
-    while d < dimacs.len() {
-        let next = next_edge(hoa, h, source);
+    while d < arcs.len() {
+        let next = next_edge(body, h, source);
         if !next.found {
             return false;
         }
-        let e = fields::piece_end(dimacs, d, FEED);
+        let e = fields::piece_end(arcs, d, Bytes::FEED);
         let from = next.from;
         let to = next.to;
         source = next.source;
-        if !same_ends(source, &hoa[from..to], &dimacs[d..e]) {
+        if !same_ends(source, &body[from..to], &arcs[d..e]) {
             return false;
         }
         h = to;
         d = e;
     }
-    let next = next_edge(hoa, h, source);
+    let next = next_edge(body, h, source);
     !next.found
+}
+
+// The lines of HOA text behind the six before the body.
+fn body_of(hoa: &[u8]) -> &[u8]
+    ensures { λ r. ⌜ linesOf (now r) ≡ drop 6 (linesOf (now (hoa .entry))) ⌝ }
+{
+    let at = fields::line_at(hoa, 6);
+    &hoa[at..]
+}
+
+// Whether HOA text agrees with the number of modes and the `a` lines of DIMACS text.
+fn texts_agree(hoa: &[u8], modes: u32, arcs: &[u8]) -> bool
+    ensures { λ r. ⌜ r ≡ (eqb (modesOf (linesOf (now (hoa .entry)))) modes && allSame (edgesOf (linesOf (now (hoa .entry)))) (map textArcOn (linesOf (now (arcs .entry))))) ⌝ }
+{
+    if hoa::modes_of(hoa) != modes {
+        return false;
+    }
+    all_same(body_of(hoa), arcs)
+}
+
+// Refusal 3: more arcs than there is room for, or than a model may have.
+fn no_room(room: usize, count: u32) -> bool
+    ensures { λ r. ⌜ r ≡ noRoom room count ⌝ }
+{
+    let m = count as usize;
+    if m > room {
+        return true;
+    }
+    m > Limits::ARCS
+}
+
+// Refusal 5: of an arc that is read, only the weight can be outside its range.
+fn check_weights(arcs: &[u8]) -> Verdict
+    requires { ⌜ length (linesOf (now arcs)) ≤ arcsMost ⌝ }
+    ensures { λ r. ⌜ r ≡ weightsVerdict (linesOf (now (arcs .entry))) 0 ⌝ }
+{
+    let mut at = 0;
+    let mut i: u32 = 0;
+    while at < arcs.len() {
+        let e = fields::piece_end(arcs, at, Bytes::FEED);
+        let parts = dimacs::parts_on(&arcs[at..e]);
+        if parts.draw > (Limits::DRAW as u32) {
+            return Verdict::Refused(Refusal::UnfitArc(i));
+        }
+        if parts.gain > (Limits::GAIN as u32) {
+            return Verdict::Refused(Refusal::UnfitArc(i));
+        }
+        at = e;
+        i += 1;
+    }
+    Verdict::Yes
+}
+
+// Refusals 1 to 5 of texts that agree.
+fn check_fitness(hoa: &[u8], count: u32, arcs: &[u8], room: usize) -> Verdict
+    requires { ⌜ length (linesOf (now arcs)) ≡ count ⌝ }
+    ensures { λ r. ⌜ r ≡ andThen (header (modesOf (linesOf (now (hoa .entry)))) (startOf (linesOf (now (hoa .entry)))) (coloursOf (linesOf (now (hoa .entry)))) (noRoom room count)) (weightsVerdict (linesOf (now (arcs .entry))) 0) ⌝ }
+{
+    let modes = hoa::modes_of(hoa);
+    let start = hoa::start_of(hoa);
+    let colours = hoa::colours_of(hoa);
+    let unfit = no_room(room, count);
+    let header = model::check_header(modes, start, colours, unfit);
+    match header {
+        Verdict::Yes => check_weights(arcs),
+        Verdict::Refused(refusal) => Verdict::Refused(refusal),
+    }
+}
+
+// All refusals of a reading into lists of which the shortest takes so many arcs.
+fn check_texts(hoa: &[u8], dimacs: &[u8], room: usize) -> Verdict
+    ensures { λ r. ⌜ r ≡ readable (linesOf (now (hoa .entry))) (linesOf (now (dimacs .entry))) room ⌝ }
+{
+    let h = hoa::hoa_wrong(hoa);
+    if h != 0 {
+        return Verdict::Refused(Refusal::HoaLine(h as u64));
+    }
+    let d = dimacs::dimacs_wrong(dimacs);
+    if d != 0 {
+        return Verdict::Refused(Refusal::DimacsLine(d as u64));
+    }
+    let problem = dimacs::problem_of(dimacs);
+    let at = problem.arcs;
+    let arcs = &dimacs[at..];
+    if !texts_agree(hoa, problem.modes, arcs) {
+        return Verdict::Refused(Refusal::TextsDisagree);
+    }
+    check_fitness(hoa, problem.count, arcs, room)
 }
 
 // A small number as a byte.
@@ -98,146 +204,52 @@ fn byte(x: u32) -> u8
     x as u8
 }
 
-// The edges and arcs from a place on, written into the lent lists.
+// A small number in 16 bits.
+fn short(x: u32) -> u16
+    requires { ⌜ x ≤ 65535 ⌝ }
+    ensures { λ r. ⌜ r ≡ x ⌝ }
+{
+    x as u16
+}
+
+// The arcs of a body and the `a` lines, written into the lent lists.
 fn fill(
-    hoa: &[u8],
-    body: usize,
-    dimacs: &[u8],
-    arcs: usize,
+    body: &[u8],
+    lines: &[u8],
     sources: &mut [u8],
     targets: &mut [u8],
-    weights: &mut [i16],
+    draws: &mut [u16],
+    gains: &mut [u16],
     colours: &mut [u8],
-) -> usize
-    requires { ⌜ (body ≤ length (now hoa)) × (arcs ≤ length (now dimacs)) × Fills (edgesFrom 0 (split 10 (drop body (now hoa)))) (split 10 (drop arcs (now dimacs))) (length (now sources)) (length (now targets)) (length (now weights)) (length (now colours)) ⌝ }
-    ensures { λ r. ⌜ Filled (edgesFrom 0 (split 10 (drop body (now (hoa .entry))))) (split 10 (drop arcs (now (dimacs .entry)))) (now (sources .entry)) (now (targets .entry)) (now (weights .entry)) (now (colours .entry)) (now (sources .exit)) (now (targets .exit)) (now (weights .exit)) (now (colours .exit)) ⌝ }
+)
+    requires { ⌜ Fillable (edgesFrom 0 (linesOf (now body))) (map textArcOn (linesOf (now lines))) (lists (now sources) (now targets) (now draws) (now gains) (now colours)) ⌝ }
+    ensures { λ _. ⌜ lists (now (sources .exit)) (now (targets .exit)) (now (draws .exit)) (now (gains .exit)) (now (colours .exit)) ≡ writtenFrom 0 (arcsRead (edgesFrom 0 (linesOf (now (body .entry)))) (map textArcOn (linesOf (now (lines .entry))))) (lists (now (sources .entry)) (now (targets .entry)) (now (draws .entry)) (now (gains .entry)) (now (colours .entry))) ⌝ }
 {
-    let mut h = body;
-    let mut d = arcs;
+    let mut h = 0;
+    let mut d = 0;
     let mut source = 0;
     let mut i = 0;
-    while d < dimacs.len() {
-        let next = next_edge(hoa, h, source);
+    while d < lines.len() {
+        let next = next_edge(body, h, source);
         let from = next.from;
         let to = next.to;
         source = next.source;
-        let e = fields::piece_end(dimacs, d, FEED);
-        let edge = &hoa[from..to];
+        let e = fields::piece_end(lines, d, Bytes::FEED);
+        let edge = &body[from..to];
+        let parts = dimacs::parts_on(&lines[d..e]);
         sources[i] = byte(source);
         targets[i] = byte(hoa::target_of(edge));
+        draws[i] = short(parts.draw);
+        gains[i] = short(parts.gain);
         colours[i] = hoa::colour_byte(edge);
-        weights[i] = dimacs::weight_on(&dimacs[d..e]);
         h = to;
         d = e;
         i += 1;
     }
-    i
-}
-
-// A number of the table and its detail. The detail is a line, and a text may have more lines than 32 bits count.
-pub struct Answer {
-    pub number: u8,
-    pub detail: usize,
-}
-
-// What a reading answers.
-pub struct Reading {
-    pub number: u8,
-    pub detail: usize,
-    pub modes: u32,
-    pub start: u32,
-    pub colours: u32,
-    pub count: u32,
-}
-
-// A number and its detail.
-fn row(number: u8, detail: usize) -> Answer
-    ensures { λ r. ⌜ r ≡ answer numberOf detail ⌝ }
-{
-    Answer { number, detail }
-}
-
-// Refusal 5.
-fn heavy_arc(dimacs: &[u8], arcs: usize) -> Answer
-    requires { ⌜ arcs ≤ length (now dimacs) ⌝ }
-    ensures { λ r. ⌜ r ≡ heavy 0 (split 10 (drop arcs (now (dimacs .entry)))) ⌝ }
-{
-    let mut at = arcs;
-    let mut i = 0;
-    while at < dimacs.len() {
-        let e = fields::piece_end(dimacs, at, FEED);
-        if dimacs::size_on(&dimacs[at..e]) > 10000 {
-            return row(5, i);
-        }
-        at = e;
-        i += 1;
-    }
-    row(0, 0)
-}
-
-// Refusals 1 to 5.
-fn unfit_model(n: u32, s: u32, k: u32, m: u32, room: usize, dimacs: &[u8], arcs: usize) -> Answer
-    requires { ⌜ arcs ≤ length (now dimacs) ⌝ }
-    ensures { λ r. ⌜ r ≡ unfit n s k m room (split 10 (drop arcs (now (dimacs .entry)))) ⌝ }
-{
-    if n == 0 {
-        return row(1, 0);
-    }
-    if n > 64 {
-        return row(1, 0);
-    }
-    if s >= n {
-        return row(2, 0);
-    }
-    if (m as usize) > room {
-        return row(3, 0);
-    }
-    if m > 255 {
-        return row(3, 0);
-    }
-    if k > 4 {
-        return row(4, 0);
-    }
-    heavy_arc(dimacs, arcs)
-}
-
-// Refusal 21, or none.
-fn texts_agree(hoa: &[u8], dimacs: &[u8]) -> bool
-    ensures { λ r. ⌜ r ≡ agree (split 10 (now (hoa .entry))) (split 10 (now (dimacs .entry))) ⌝ }
-{
-    if hoa::modes_of(hoa) != dimacs::modes_of(dimacs) {
-        return false;
-    }
-    let body = fields::line_at(hoa, 6);
-    let arcs = dimacs::arcs_at(dimacs);
-    all_same(hoa, body, dimacs, arcs)
-}
-
-// All refusals of a reading into lists of which the shortest has this room.
-fn check_texts(hoa: &[u8], dimacs: &[u8], room: usize) -> Answer
-    ensures { λ r. ⌜ r ≡ verdict (split 10 (now (hoa .entry))) (split 10 (now (dimacs .entry))) room ⌝ }
-{
-    let h = hoa::hoa_wrong(hoa);
-    if h != 0 {
-        return row(19, h);
-    }
-    let d = dimacs::dimacs_wrong(dimacs);
-    if d != 0 {
-        return row(20, d);
-    }
-    if !texts_agree(hoa, dimacs) {
-        return row(21, 0);
-    }
-    let n = hoa::modes_of(hoa);
-    let s = hoa::start_of(hoa);
-    let k = hoa::colours_of(hoa);
-    let m = dimacs::count_of(dimacs);
-    let arcs = dimacs::arcs_at(dimacs);
-    unfit_model(n, s, k, m, room, dimacs, arcs)
 }
 
 // The smaller of two numbers.
-fn least(a: usize, b: usize) -> usize
+fn smaller(a: usize, b: usize) -> usize
     ensures { λ r. ⌜ r ≡ min a b ⌝ }
 {
     if a <= b {
@@ -246,13 +258,21 @@ fn least(a: usize, b: usize) -> usize
     b
 }
 
+// The least of the lengths of the five lists.
+fn shortest(sources: usize, targets: usize, draws: usize, gains: usize, colours: usize) -> usize
+    ensures { λ r. ⌜ r ≡ min (min sources targets) (min (min draws gains) colours) ⌝ }
+{
+    let ends = smaller(sources, targets);
+    let parts = smaller(draws, gains);
+    smaller(ends, smaller(parts, colours))
+}
+
 // A refused reading.
-fn refused(v: Answer) -> Reading
-    ensures { λ r. ⌜ r ≡ refusedBy v ⌝ }
+fn refused(refusal: Refusal) -> Reading
+    ensures { λ r. ⌜ r ≡ refusedBy refusal ⌝ }
 {
     Reading {
-        number: v.number,
-        detail: v.detail,
+        verdict: Verdict::Refused(refusal),
         modes: 0,
         start: 0,
         colours: 0,
@@ -260,17 +280,15 @@ fn refused(v: Answer) -> Reading
     }
 }
 
-// The numbers of a reading that is not refused.
-fn numbers(hoa: &[u8], dimacs: &[u8]) -> Reading
-    ensures { λ r. ⌜ r ≡ readBy (split 10 (now (hoa .entry))) (split 10 (now (dimacs .entry))) ⌝ }
+// A reading of a model with so many arcs.
+fn accepted(hoa: &[u8], count: u32) -> Reading
+    ensures { λ r. ⌜ r ≡ readBy (linesOf (now (hoa .entry))) count ⌝ }
 {
     let modes = hoa::modes_of(hoa);
     let start = hoa::start_of(hoa);
     let colours = hoa::colours_of(hoa);
-    let count = dimacs::count_of(dimacs);
     Reading {
-        number: 0,
-        detail: 0,
+        verdict: Verdict::Yes,
         modes,
         start,
         colours,
@@ -278,26 +296,44 @@ fn numbers(hoa: &[u8], dimacs: &[u8]) -> Reading
     }
 }
 
-// A model read from two texts into four lent lists.
+// A model read from HOA text and DIMACS text into five lent lists, from place 0 of each on: the first of 19, 20, 21 and 1 to 5 that applies, and the
+// lists as they were, or the numbers of the model. For all texts and lists.
 pub fn read(
     hoa: &[u8],
     dimacs: &[u8],
     sources: &mut [u8],
     targets: &mut [u8],
-    weights: &mut [i16],
+    draws: &mut [u16],
+    gains: &mut [u16],
     colours: &mut [u8],
 ) -> Reading
-    ensures { λ r. ⌜ Reads (split 10 (now (hoa .entry))) (split 10 (now (dimacs .entry))) r (now (sources .entry)) (now (targets .entry)) (now (weights .entry)) (now (colours .entry)) (now (sources .exit)) (now (targets .exit)) (now (weights .exit)) (now (colours .exit)) ⌝ }
+    ensures reading { λ r. ⌜ r ≡ readOf (now (hoa .entry)) (now (dimacs .entry)) (lists (now (sources .entry)) (now (targets .entry)) (now (draws .entry)) (now (gains .entry)) (now (colours .entry))) ⌝ }
+    ensures answer { λ r. ⌜ answerOf (r .verdict) ≡ readAnswer (now (hoa .entry)) (now (dimacs .entry)) (lists (now (sources .entry)) (now (targets .entry)) (now (draws .entry)) (now (gains .entry)) (now (colours .entry))) ⌝ }
+    ensures lists { λ _. ⌜ lists (now (sources .exit)) (now (targets .exit)) (now (draws .exit)) (now (gains .exit)) (now (colours .exit)) ≡ listsRead (now (hoa .entry)) (now (dimacs .entry)) (lists (now (sources .entry)) (now (targets .entry)) (now (draws .entry)) (now (gains .entry)) (now (colours .entry))) ⌝ }
 {
-    let a = least(sources.len(), targets.len());
-    let b = least(weights.len(), colours.len());
-    let room = least(a, b);
-    let v = check_texts(hoa, dimacs, room);
-    if v.number != 0 {
-        return refused(v);
+    let room = shortest(
+        sources.len(),
+        targets.len(),
+        draws.len(),
+        gains.len(),
+        colours.len(),
+    );
+    let verdict = check_texts(hoa, dimacs, room);
+    match verdict {
+        Verdict::Yes => {
+            let problem = dimacs::problem_of(dimacs);
+            let at = problem.arcs;
+            fill(
+                body_of(hoa),
+                &dimacs[at..],
+                sources,
+                targets,
+                draws,
+                gains,
+                colours,
+            );
+            accepted(hoa, problem.count)
+        }
+        Verdict::Refused(refusal) => refused(refusal),
     }
-    let body = fields::line_at(hoa, 6);
-    let arcs = dimacs::arcs_at(dimacs);
-    fill(hoa, body, dimacs, arcs, sources, targets, weights, colours);
-    numbers(hoa, dimacs)
 }
