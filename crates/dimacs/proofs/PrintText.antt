@@ -8,28 +8,28 @@ use lib.Dec.{eqb}
 use lib.IntN.{ℤ, pos, negsuc}
 use lib.ListN.{length}
 use borrow.Author.Tests.{lt-ltb, le-leb, eq-eqb, ne-eqb}
-use Rattle.fields.specs.Fields.{isOnly, afterNumber, split}
+use Rattle.fields.specs.Fields.{isOnly, afterNumber, linesOf}
 use Rattle.fields.proofs.Pieces.{Free, FreeAll, ended, textOf, lines-of}
 use Rattle.fields.proofs.Printed.{Digits, printed-digits, after-word, free-append}
 use Rattle.fields.proofs.Num.{num, Small, number-num, after-num, number-back, tail-back, feed-ends, blank-ends, num-long, num-line, freeb, free-word}
-use Rattle.dimacs.specs.Words.{problemWord, arcWord, blank}
+use Rattle.dimacs.specs.Words.{problemWord, arcWord, blankWord}
 use Rattle.dimacs.specs.Lines.{isComment, isProblem, countField, modesOn, countOn, fromOn, toField, toOn, weightField, isNegative, unsigned, signedOf, isArc}
 use Rattle.dimacs.specs.Text.{TextArc, textArcOn, textArcsOf, comments, modesOf, arcsWrong, dimacsWrong}
 
 -- a `p` line, without its line feed
 abbrev pub problemText : ℕ → ℕ → List ℕ
-problemText n m = problemWord ++ (num n ++ (blank ++ num m))
+problemText n m = problemWord ++ (num n ++ (blankWord ++ num m))
 
-problem-ended : (n m : ℕ) → ended (problemText n m) ≡ problemWord ++ (num n ++ (blank ++ (num m ++ 10 ∷ [])))
+problem-ended : (n m : ℕ) → ended (problemText n m) ≡ problemWord ++ (num n ++ (blankWord ++ (num m ++ 10 ∷ [])))
 problem-ended n m = simp append-assoc
 
 module _ (n m : ℕ) (many : Small n) (some : Small m) where
   pub problem-modes : modesOn (ended (problemText n m)) ≡ n
-  problem-modes = rw (problem-ended n m) (number-back problemWord n (blank ++ (num m ++ 10 ∷ [])) many (blank-ends _))
+  problem-modes = rw (problem-ended n m) (number-back problemWord n (blankWord ++ (num m ++ 10 ∷ [])) many (blank-ends _))
 
   problem-field : countField (ended (problemText n m)) ≡ num m ++ 10 ∷ []
   problem-field =
-      rw (problem-ended n m, tail-back problemWord n (blank ++ (num m ++ 10 ∷ [])) many (blank-ends _)) (after-word blank (num m ++ 10 ∷ []))
+      rw (problem-ended n m, tail-back problemWord n (blankWord ++ (num m ++ 10 ∷ [])) many (blank-ends _)) (after-word blankWord (num m ++ 10 ∷ []))
 
   pub problem-count : countOn (ended (problemText n m)) ≡ m
   problem-count = rw problem-field (number-num m (10 ∷ []) some feed-ends)
@@ -76,7 +76,7 @@ weight-back (negsuc n) low =
 
 -- an `a` line, without its line feed
 abbrev pub arcText : TextArc → List ℕ
-arcText a = arcWord ++ (num (a .from) ++ (blank ++ (num (a .to) ++ (blank ++ weightText (a .weight)))))
+arcText a = arcWord ++ (num (a .from) ++ (blankWord ++ (num (a .to) ++ (blankWord ++ weightText (a .weight)))))
 
 -- what a text can say of an arc
 pub record TextArcFits (n : ℕ) (a : TextArc) : Type 0 where
@@ -87,26 +87,26 @@ pub record TextArcFits (n : ℕ) (a : TextArc) : Type 0 where
   pub weight : SmallZ (a .weight)
 
 module _ (n : ℕ) (many : n < 100000) (a : TextArc) (f : TextArcFits n a) where
-  arc-ended : ended (arcText a) ≡ arcWord ++ (num (a .from) ++ (blank ++ (num (a .to) ++ (blank ++ (weightText (a .weight) ++ 10 ∷ [])))))
+  arc-ended : ended (arcText a) ≡ arcWord ++ (num (a .from) ++ (blankWord ++ (num (a .to) ++ (blankWord ++ (weightText (a .weight) ++ 10 ∷ [])))))
   arc-ended = simp append-assoc
 
   arc-from : fromOn (ended (arcText a)) ≡ a .from
   arc-from = rw arc-ended (number-back arcWord (a .from) _ (omega (arith, f .from-most)) (blank-ends _))
 
-  arc-field : toField (ended (arcText a)) ≡ num (a .to) ++ (blank ++ (weightText (a .weight) ++ 10 ∷ []))
+  arc-field : toField (ended (arcText a)) ≡ num (a .to) ++ (blankWord ++ (weightText (a .weight) ++ 10 ∷ []))
   arc-field =
       rw (
         arc-ended,
-        tail-back arcWord (a .from) (blank ++ (num (a .to) ++ (blank ++ (weightText (a .weight) ++ 10 ∷ [])))) (omega (arith, f .from-most)) (blank-ends _),
+        tail-back arcWord (a .from) (blankWord ++ (num (a .to) ++ (blankWord ++ (weightText (a .weight) ++ 10 ∷ [])))) (omega (arith, f .from-most)) (blank-ends _),
       )
-      (after-word blank _)
+      (after-word blankWord _)
 
   arc-to : toOn (ended (arcText a)) ≡ a .to
-  arc-to = rw arc-field (number-num (a .to) (blank ++ (weightText (a .weight) ++ 10 ∷ [])) (omega (arith, f .to-most)) (blank-ends _))
+  arc-to = rw arc-field (number-num (a .to) (blankWord ++ (weightText (a .weight) ++ 10 ∷ [])) (omega (arith, f .to-most)) (blank-ends _))
 
   arc-rest : weightField (ended (arcText a)) ≡ weightText (a .weight) ++ 10 ∷ []
   arc-rest =
-      rw (arc-field, after-num (a .to) (blank ++ (weightText (a .weight) ++ 10 ∷ [])) (omega (arith, f .to-most)) (blank-ends _)) (after-word blank _)
+      rw (arc-field, after-num (a .to) (blankWord ++ (weightText (a .weight) ++ 10 ∷ [])) (omega (arith, f .to-most)) (blank-ends _)) (after-word blankWord _)
 
   pub arc-is : isArc n (ended (arcText a)) ≡ true
   unfolding isArc
@@ -148,8 +148,8 @@ words-free = (refl, refl)
 
 problem-line : (n m : ℕ) → Free 10 (problemText n m)
 problem-line n m =
-    free-append 10 problemWord (num n ++ (blank ++ num m)) (free-word 10 problemWord (words-free .0))
-    (free-append 10 (num n) (blank ++ num m) (num-line n) (refl, num-line m))
+    free-append 10 problemWord (num n ++ (blankWord ++ num m)) (free-word 10 problemWord (words-free .0))
+    (free-append 10 (num n) (blankWord ++ num m) (num-line n) (refl, num-line m))
 
 weight-line : (w : ℤ) → Free 10 (weightText w)
 weight-line (pos n) = num-line n
@@ -157,9 +157,9 @@ weight-line (negsuc n) = (refl, num-line (suc n))
 
 arc-line : (a : TextArc) → Free 10 (arcText a)
 arc-line a =
-    free-append 10 arcWord (num (a .from) ++ (blank ++ (num (a .to) ++ (blank ++ weightText (a .weight))))) (free-word 10 arcWord (words-free .1))
-    (free-append 10 (num (a .from)) (blank ++ (num (a .to) ++ (blank ++ weightText (a .weight)))) (num-line (a .from))
-    (refl, free-append 10 (num (a .to)) (blank ++ weightText (a .weight)) (num-line (a .to)) (refl, weight-line (a .weight))))
+    free-append 10 arcWord (num (a .from) ++ (blankWord ++ (num (a .to) ++ (blankWord ++ weightText (a .weight))))) (free-word 10 arcWord (words-free .1))
+    (free-append 10 (num (a .from)) (blankWord ++ (num (a .to) ++ (blankWord ++ weightText (a .weight)))) (num-line (a .from))
+    (refl, free-append 10 (num (a .to)) (blankWord ++ weightText (a .weight)) (num-line (a .to)) (refl, weight-line (a .weight))))
 
 arc-lines : (l : List TextArc) → FreeAll (map arcText l)
 arc-lines [] = tt
@@ -182,7 +182,7 @@ no-comments : (n m : ℕ) (t : List (List ℕ)) → comments (ended (problemText
 unfolding comments isComment
 no-comments n m t = refl
 
-pub dimacs-back : (n : ℕ) (l : List TextArc) → Small n → Small (length l) → TextArcsFit n l → SaysDimacs (split 10 (dimacsText n l)) n l
+pub dimacs-back : (n : ℕ) (l : List TextArc) → Small n → Small (length l) → TextArcsFit n l → SaysDimacs (linesOf (dimacsText n l)) n l
 unfolding dimacsWrong
 dimacs-back n l many some f =
     let none = no-comments n (length l) (map ended (map arcText l)) in

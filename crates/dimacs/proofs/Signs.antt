@@ -2,15 +2,13 @@
 use mathlib.Core.Path.{_≡_, refl}
 use mathlib.Core.Bool.{true, false}
 use mathlib.Core.List.{List, [], _∷_}
-use Prim.Native.Nat.{ℕ, zero, suc, _-_, _≤_}
+use Prim.Native.Nat.{ℕ, zero, suc, _-_}
 use native.Mathlib.Omega.{arith}
 use lib.Dec.{eqb}
-use lib.IntN.{pos, negsuc, _-ℤ_, +ℤ-idl}
 use lib.ListN.{length, getD, drop}
-use mir.Syntax.{w16}
-use mir.Val.{SFits}
 use borrow.Author.Tests.{eq-eqb, ne-eqb}
-use Rattle.dimacs.specs.Lines.{isComment, isNegative, unsigned, signed}
+use Rattle.fields.specs.Fields.{numberOf}
+use Rattle.dimacs.specs.Lines.{isComment, isNegative, unsigned, signed, signedOf, partsOf}
 
 pub comment-none : (l : List ℕ) → length l ≡ 0 → isComment l ≡ false
 unfolding isComment
@@ -45,11 +43,14 @@ pub comment-first : (l : List ℕ) → getD l 0 0 ≡ 99 → isComment l ≡ eqb
 unfolding isComment
 comment-first l e = rw (eq-eqb (getD l 0 0) 99 e)
 
--- numbers with a sign
-pub neg-is : (n : ℕ) → pos 0 -ℤ pos n ≡ signed true n
-neg-is zero = refl
-neg-is (suc n) = +ℤ-idl (negsuc n)
+-- what a weight with a minus means, and one without
+minus-parts : (x : ℕ) → record { draw = x; gain = 0 } ≡ partsOf (signed true x)
+minus-parts zero = refl
+minus-parts (suc x) = refl
 
-pub neg-fits : (n : ℕ) → n ≤ 10000 → SFits w16 (pos 0 -ℤ pos n)
-neg-fits zero h = record { sfits = omega arith }
-neg-fits (suc n) h = rw (neg-is (suc n)) (record { sfits = omega arith })
+module _ (f : List ℕ) (x : ℕ) (size : x ≡ numberOf (unsigned f)) where
+  pub parts-negative : isNegative f ≡ true → record { draw = x; gain = 0 } ≡ partsOf (signedOf f)
+  parts-negative e = rw (e, ← size) (minus-parts x)
+
+  pub parts-other : isNegative f ≡ false → record { draw = 0; gain = x } ≡ partsOf (signedOf f)
+  parts-other e = rw (e, ← size)

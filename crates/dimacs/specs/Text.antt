@@ -1,11 +1,14 @@
 -- DIMACS text: the first line outside the forms, and the numbers and arcs of a text that has none. Document 02, Ask 1.
+use mathlib.Core.Path.{_≡_}
 use mathlib.Core.Bool.{_&&_, cond}
 use mathlib.Core.List.{List, [], _∷_, map}
-use Prim.Native.Nat.{ℕ, suc}
+use Prim.Native.Nat.{ℕ, suc, _≤_}
 use lib.Dec.{ltb, eqb}
 use lib.IntN.{ℤ}
-use lib.ListN.{getD, drop}
+use lib.ListN.{length, drop}
+use Rattle.fields.specs.Fields.{linesOf, lineOf}
 use Rattle.dimacs.specs.Lines.{isComment, isProblem, isArc, modesOn, countOn, fromOn, toOn, weightOn}
+use Rattle.dimacs.specs.declared.Problem.{Problem}
 
 -- how many comments the text begins with
 unfoldable pub comments : List (List ℕ) → ℕ
@@ -13,18 +16,25 @@ comments [] = 0
 comments (l ∷ ls) = cond (isComment l) (suc (comments ls)) 0
 
 -- the line after them; nothing where there is none
-abbrev pub problemOf : List (List ℕ) → List ℕ
-problemOf ls = getD ls (comments ls) []
+abbrev pub problemLine : List (List ℕ) → List ℕ
+problemLine ls = lineOf ls (comments ls)
 
 abbrev pub modesOf : List (List ℕ) → ℕ
-modesOf ls = modesOn (problemOf ls)
+modesOf ls = modesOn (problemLine ls)
 
 abbrev pub countOf : List (List ℕ) → ℕ
-countOf ls = countOn (problemOf ls)
+countOf ls = countOn (problemLine ls)
 
 -- the lines after it
 abbrev pub arcLines : List (List ℕ) → List (List ℕ)
 arcLines ls = drop (suc (comments ls)) ls
+
+-- the numbers of a text, and the place where the lines of its arcs begin
+pub record IsProblemOf (s : List ℕ) (r : Problem) : Type 0 where
+  pub modes : r .modes ≡ modesOf (linesOf s)
+  pub count : r .count ≡ countOf (linesOf s)
+  pub within : r .arcs ≤ length s
+  pub lines : linesOf (drop (r .arcs) s) ≡ arcLines (linesOf s)
 
 -- the first of these lines that is no arc's line or past the m-th, or is missing, counted from 1 over the whole text; 0 where there is none.
 -- line: how many lines stand before; i: how many arcs
@@ -35,7 +45,7 @@ arcsWrong n m line i (l ∷ ls) = cond (ltb i m && isArc n l) (arcsWrong n m (su
 -- "a DIMACS line 20 .. with the first such line counted from 1 as detail (one past the last line where the text ends early)"; 0 where there is none
 unfoldable pub dimacsWrong : List (List ℕ) → ℕ
 dimacsWrong ls =
-    cond (isProblem (problemOf ls)) (arcsWrong (modesOf ls) (countOf ls) (suc (comments ls)) 0 (arcLines ls)) (suc (comments ls))
+    cond (isProblem (problemLine ls)) (arcsWrong (modesOf ls) (countOf ls) (suc (comments ls)) 0 (arcLines ls)) (suc (comments ls))
 
 -- an arc of the text, its modes counted from 1
 pub record TextArc : Type 0 where

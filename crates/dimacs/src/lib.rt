@@ -1,13 +1,49 @@
-// DIMACS text: its lines, and the first that is outside the forms.
+// DIMACS text: its lines, the first that is outside the forms, and the numbers of a text.
 ghost use mathlib.Core.Path.{_≡_};
-ghost use mathlib.Core.List.{[]};
-ghost use Prim.Native.Nat.{_≤_, suc};
-ghost use lib.ListN.{length, drop};
-ghost use Rattle.fields.specs.Fields.{split, LineAt};
-ghost use Rattle.dimacs.specs.Lines.{isComment, modesOn, countField, countOn, isProblem, fromOn, toField, toOn, weightField, isNegative, unsigned, sizeOn, signed, weightOn, isMode, weightEnds, isArc};
-ghost use Rattle.dimacs.specs.Text.{comments, modesOf, countOf, arcLines, arcsWrong, dimacsWrong};
+ghost use Prim.Native.Nat.{_≤_};
+ghost use lib.ListN.{drop};
+ghost use Rattle.fields.specs.Fields.{linesOf, LineAt};
+ghost use Rattle.dimacs.specs.Lines.{
+  isComment,
+  modesOn,
+  countField,
+  countOn,
+  isProblem,
+  fromOn,
+  toField,
+  toOn,
+  weightField,
+  isNegative,
+  unsigned,
+  partsOn,
+  isMode,
+  weightEnds,
+  isArc,
+};
+ghost use Rattle.dimacs.specs.Text.{comments, IsProblemOf, arcsWrong, dimacsWrong};
+use fields::Bytes;
 
-const FEED: u8 = 10;
+// The letter `c`.
+const COMMENT_LETTER: u8 = 99;
+
+// The draw and the gain that a weight means.
+pub struct Parts {
+    pub draw: u32,
+    pub gain: u32,
+}
+
+// The numbers on the `p` line of a text, and the place where the lines of the arcs begin.
+pub struct Problem {
+    pub modes: u32,
+    pub count: u32,
+    pub arcs: usize,
+}
+
+// A place in a text where a line begins, and the number of lines before it.
+struct Place {
+    at: usize,
+    line: usize,
+}
 
 // Whether a line is a comment.
 fn is_comment(line: &[u8]) -> bool
@@ -16,14 +52,14 @@ fn is_comment(line: &[u8]) -> bool
     if line.len() == 0 {
         return false;
     }
-    if line[0] != 99 {
+    if line[0] != COMMENT_LETTER {
         return false;
     }
-    line[line.len() - 1] == FEED
+    line[line.len() - 1] == Bytes::FEED
 }
 
 // The number of modes on a `p` line.
-pub fn modes_on(line: &[u8]) -> u32
+fn modes_on(line: &[u8]) -> u32
     ensures { λ r. ⌜ r ≡ modesOn (now (line .entry)) ⌝ }
 {
     fields::number_after(line, b"p sp ")
@@ -37,7 +73,7 @@ fn count_field(line: &[u8]) -> &[u8]
 }
 
 // The number of arcs on a `p` line.
-pub fn count_on(line: &[u8]) -> u32
+fn count_on(line: &[u8]) -> u32
     ensures { λ r. ⌜ r ≡ countOn (now (line .entry)) ⌝ }
 {
     fields::number_of(count_field(line))
@@ -47,7 +83,7 @@ pub fn count_on(line: &[u8]) -> u32
 fn is_problem(line: &[u8]) -> bool
     ensures { λ r. ⌜ r ≡ isProblem (now (line .entry)) ⌝ }
 {
-    fields::is_only(fields::after_number(count_field(line)), FEED)
+    fields::is_only(fields::after_number(count_field(line)), Bytes::FEED)
 }
 
 // The source on an `a` line, from 1.
@@ -72,7 +108,7 @@ pub fn to_on(line: &[u8]) -> u32
 }
 
 // The field of the weight on an `a` line.
-pub fn weight_field(line: &[u8]) -> &[u8]
+fn weight_field(line: &[u8]) -> &[u8]
     ensures { λ r. ⌜ now r ≡ weightField (now (line .entry)) ⌝ }
 {
     let tail = fields::after_number(to_field(line));
@@ -80,13 +116,13 @@ pub fn weight_field(line: &[u8]) -> &[u8]
 }
 
 // Whether a field has a minus.
-pub fn is_negative(field: &[u8]) -> bool
+fn is_negative(field: &[u8]) -> bool
     ensures { λ r. ⌜ r ≡ isNegative (now (field .entry)) ⌝ }
 {
     if field.len() == 0 {
         return false;
     }
-    field[0] == 45
+    field[0] == Bytes::MINUS
 }
 
 // A field without its minus.
@@ -96,17 +132,28 @@ fn unsigned_of(field: &[u8]) -> &[u8]
     if field.len() == 0 {
         return field;
     }
-    if field[0] == 45 {
+    if field[0] == Bytes::MINUS {
         return &field[1..];
     }
     field
 }
 
-// The size of the weight on an `a` line.
-pub fn size_on(line: &[u8]) -> u32
-    ensures { λ r. ⌜ r ≡ sizeOn (now (line .entry)) ⌝ }
+// The draw and the gain on an `a` line.
+pub fn parts_on(line: &[u8]) -> Parts
+    ensures { λ r. ⌜ r ≡ partsOn (now (line .entry)) ⌝ }
 {
-    fields::number_of(unsigned_of(weight_field(line)))
+    let field = weight_field(line);
+    let size = fields::number_of(unsigned_of(field));
+    if is_negative(field) {
+        return Parts {
+            draw: size,
+            gain: 0,
+        };
+    }
+    Parts {
+        draw: 0,
+        gain: size,
+    }
 }
 
 // Whether a mode is one from 1 to n.
@@ -119,40 +166,37 @@ fn is_mode(n: u32, x: u32) -> bool
     x <= n
 }
 
-// Whether the weight ends an `a` line.
-fn weight_ends(line: &[u8]) -> bool
-    ensures { λ r. ⌜ r ≡ weightEnds (now (line .entry)) ⌝ }
+// Whether nothing but the line feed follows the weight of a field.
+fn weight_ends(field: &[u8]) -> bool
+    ensures { λ r. ⌜ r ≡ weightEnds (now (field .entry)) ⌝ }
 {
-    fields::is_only(fields::after_number(unsigned_of(weight_field(line))), FEED)
+    fields::is_only(fields::after_number(unsigned_of(field)), Bytes::FEED)
 }
 
 // Whether a line is an `a` line.
 fn is_arc(line: &[u8], n: u32) -> bool
     ensures { λ r. ⌜ r ≡ isArc n (now (line .entry)) ⌝ }
 {
-    if !is_mode(n, from_on(line)) {
+    let from = fields::after_word(line, b"a ");
+    if !is_mode(n, fields::number_of(from)) {
         return false;
     }
-    if !is_mode(n, to_on(line)) {
+    let to = fields::after_word(fields::after_number(from), b" ");
+    if !is_mode(n, fields::number_of(to)) {
         return false;
     }
-    weight_ends(line)
-}
-
-// A place in a text where a line begins, and the number of lines before it.
-pub struct Place {
-    pub at: usize,
-    pub line: usize,
+    let tail = fields::after_number(to);
+    weight_ends(fields::after_word(tail, b" "))
 }
 
 // The place after the comments that a text begins with.
 fn after_comments(text: &[u8]) -> Place
-    ensures { λ r. ⌜ (r .line ≡ comments (split 10 (now (text .entry)))) × (r .line ≤ r .at) × LineAt (now (text .entry)) (r .at) (r .line) ⌝ }
+    ensures { λ r. ⌜ (r .line ≡ comments (linesOf (now (text .entry)))) × (r .line ≤ r .at) × LineAt (now (text .entry)) (r .at) (r .line) ⌝ }
 {
     let mut at = 0;
     let mut line = 0;
     while at < text.len() {
-        let e = fields::piece_end(text, at, FEED);
+        let e = fields::piece_end(text, at, Bytes::FEED);
         if !is_comment(&text[at..e]) {
             return Place { at, line };
         }
@@ -165,13 +209,13 @@ fn after_comments(text: &[u8]) -> Place
 // The first line from a place on that is outside the forms, from 1 over the whole text; 0 where there is none.
 fn arcs_wrong(text: &[u8], start: usize, before: usize, n: u32, m: u32) -> usize
     requires { ⌜ (before ≤ start) × LineAt (now text) start before ⌝ }
-    ensures { λ r. ⌜ r ≡ arcsWrong n m before 0 (drop before (split 10 (now (text .entry)))) ⌝ }
+    ensures { λ r. ⌜ r ≡ arcsWrong n m before 0 (drop before (linesOf (now (text .entry)))) ⌝ }
 {
     let mut at = start;
     let mut line = before;
     let mut i: usize = 0;
     while at < text.len() {
-        let e = fields::piece_end(text, at, FEED);
+        let e = fields::piece_end(text, at, Bytes::FEED);
         if i >= (m as usize) {
             return line + 1;
         }
@@ -190,12 +234,12 @@ fn arcs_wrong(text: &[u8], start: usize, before: usize, n: u32, m: u32) -> usize
 
 // The first line of a text that is outside the forms, from 1; 0 where there is none.
 pub fn dimacs_wrong(text: &[u8]) -> usize
-    ensures { λ r. ⌜ r ≡ dimacsWrong (split 10 (now (text .entry))) ⌝ }
+    ensures { λ r. ⌜ r ≡ dimacsWrong (linesOf (now (text .entry))) ⌝ }
 {
     let place = after_comments(text);
     let at = place.at;
     let line = place.line;
-    let e = fields::piece_end(text, at, FEED);
+    let e = fields::piece_end(text, at, Bytes::FEED);
     let problem = &text[at..e];
     if !is_problem(problem) {
         return line + 1;
@@ -205,47 +249,19 @@ pub fn dimacs_wrong(text: &[u8]) -> usize
     arcs_wrong(text, e, line + 1, n, m)
 }
 
-// A number below 32,768 or its negative.
-fn signed_of(negative: bool, size: u32) -> i16
-    requires { ⌜ size ≤ 10000 ⌝ }
-    ensures { λ r. ⌜ r ≡ signed negative size ⌝ }
-{
-    let w = size as i16;
-    if negative {
-        return 0 - w;
-    }
-    w
-}
-
-// The weight on an `a` line whose weight is in range.
-pub fn weight_on(line: &[u8]) -> i16
-    requires { ⌜ sizeOn (now line) ≤ 10000 ⌝ }
-    ensures { λ r. ⌜ r ≡ weightOn (now (line .entry)) ⌝ }
-{
-    signed_of(is_negative(weight_field(line)), size_on(line))
-}
-
-// The number of modes of a text.
-pub fn modes_of(text: &[u8]) -> u32
-    ensures { λ r. ⌜ r ≡ modesOf (split 10 (now (text .entry))) ⌝ }
-{
-    let place = after_comments(text);
-    modes_on(fields::line_of(text, place.line))
-}
-
-// The number of arcs of a text.
-pub fn count_of(text: &[u8]) -> u32
-    ensures { λ r. ⌜ r ≡ countOf (split 10 (now (text .entry))) ⌝ }
-{
-    let place = after_comments(text);
-    count_on(fields::line_of(text, place.line))
-}
-
-// Where the lines of the arcs begin.
-pub fn arcs_at(text: &[u8]) -> usize
-    ensures { λ r. ⌜ (r ≤ length (now (text .entry))) × (split 10 (drop r (now (text .entry))) ≡ arcLines (split 10 (now (text .entry)))) ⌝ }
+// The numbers of a text, and where the lines of its arcs begin.
+pub fn problem_of(text: &[u8]) -> Problem
+    ensures { λ r. ⌜ IsProblemOf (now (text .entry)) r ⌝ }
 {
     let place = after_comments(text);
     let at = place.at;
-    fields::piece_end(text, at, FEED)
+    let e = fields::piece_end(text, at, Bytes::FEED);
+    let problem = &text[at..e];
+    let modes = modes_on(problem);
+    let count = count_on(problem);
+    Problem {
+        modes,
+        count,
+        arcs: e,
+    }
 }

@@ -8,14 +8,14 @@ use borrow.Author.Tests.{not-true, not-false}
 use borrow.Author.Needs.{needs}
 use Rattle.fields.proofs.Places.{at-first, line-here, line-next, line-none}
 use Rattle.fields.proofs.Pieces.{end-bounds, split-at}
-use Rattle.fields.specs.Fields.{split, LineAt}
+use Rattle.fields.specs.Fields.{linesOf, LineAt}
 use Rattle.dimacs.specs.Text.{comments}
 use Rattle.dimacs.proofs.Lists.{comments-none, comments-stop, comments-more}
 use Rattle.dimacs.proofs.after_comments.Statement.{statement}
 use Rattle.dimacs.proofs.after_comments.Tie as tie
 
 abbrev Inv-loop : tie.InvT-loop
-Inv-loop text at₀ line₀ at line = (line ≤ at) × LineAt text at line × (comments (split 10 text) ≡ line + comments (drop line (split 10 text)))
+Inv-loop text at₀ line₀ at line = (line ≤ at) × LineAt text at line × (comments (linesOf text) ≡ line + comments (drop line (linesOf text)))
 
 abbrev μ-loop : tie.MeasureT-loop
 μ-loop text at₀ line₀ at line = length text - at
@@ -47,7 +47,7 @@ returns c =
     let s = d .before .before .args .text .now in
     let inv = d .loop .inv in
     let here = sym (inv .1 .lines) ∙ split-at 10 s (d .loop .at) (f .piece-end .result) (omega arith) (f .piece-end .ensures) in
-    (omega (arith, comments-stop (d .loop .line) (split 10 s) _ _ here (sym (c .before .is-comment .ensures) ∙ not-true _ (c .if1 .taken))), inv .0, inv .1)
+    (omega (arith, comments-stop (d .loop .line) (linesOf s) _ _ here (sym (c .before .is-comment .ensures) ∙ not-true _ (c .if1 .taken))), inv .0, inv .1)
 
 add-line : tie.Need-add-line Inv-loop μ-loop
 add-line c = search needs
@@ -68,7 +68,7 @@ loop-again c =
     let e = f .piece-end .result in
     let here = sym (inv .1 .lines) ∙ split-at 10 s (d .loop .at) e (omega arith) (f .piece-end .ensures) in
     let b = line-here s (d .loop .at) j e (inv .1) (omega arith) (f .piece-end .ensures) in
-    let more = comments-more j (split 10 s) _ _ here (sym (c .before .is-comment .ensures) ∙ not-false _ (c .if1 .left)) (b .next) in (
+    let more = comments-more j (linesOf s) _ _ here (sym (c .before .is-comment .ensures) ∙ not-false _ (c .if1 .left)) (b .next) in (
       omega (arith, end-bounds 10 s (d .loop .at) e (omega arith) (f .piece-end .ensures)),
       rw (add-one j) (line-next s (d .loop .at) j e (inv .1) (omega arith) (f .piece-end .ensures)),
       rw (add-one j) (omega (arith, more)),
@@ -79,7 +79,7 @@ returns-2 c =
     let d = c .before in
     let s = d .before .before .args .text .now in
     let inv = d .loop .inv in
-    (omega (arith, comments-none (d .loop .line) (split 10 s) (line-none s (d .loop .at) (d .loop .line) (inv .1) (omega arith))), inv .0, inv .1)
+    (omega (arith, comments-none (d .loop .line) (linesOf s) (line-none s (d .loop .at) (d .loop .line) (inv .1) (omega arith))), inv .0, inv .1)
 
 pub after-comments-spec : {M : Type 1} → statement M
 after-comments-spec =

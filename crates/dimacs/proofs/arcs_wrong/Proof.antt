@@ -8,14 +8,14 @@ use borrow.Author.Tests.{not-true, not-false}
 use borrow.Author.Needs.{needs}
 use Rattle.fields.proofs.Places.{line-here, line-next, line-none}
 use Rattle.fields.proofs.Pieces.{end-bounds, split-at}
-use Rattle.fields.specs.Fields.{split, LineAt}
+use Rattle.fields.specs.Fields.{linesOf, LineAt}
 use Rattle.dimacs.specs.Text.{arcsWrong}
 use Rattle.dimacs.proofs.Lists.{arcs-goes, arcs-past, arcs-other, arcs-done, arcs-short}
 use Rattle.dimacs.proofs.arcs_wrong.Statement.{statement}
 use Rattle.dimacs.proofs.arcs_wrong.Tie as tie
 
 abbrev Inv-loop : tie.InvT-loop
-Inv-loop text start before n m at₀ line₀ i₀ at line i = (line ≤ at) × (i ≤ line) × LineAt text at line × (arcsWrong n m before 0 (drop before (split 10 text)) ≡ arcsWrong n m line i (drop line (split 10 text)))
+Inv-loop text start before n m at₀ line₀ i₀ at line i = (line ≤ at) × (i ≤ line) × LineAt text at line × (arcsWrong n m before 0 (drop before (linesOf text)) ≡ arcsWrong n m line i (drop line (linesOf text)))
 
 abbrev μ-loop : tie.MeasureT-loop
 μ-loop text start before n m at₀ line₀ i₀ at line i = length text - at
@@ -39,7 +39,7 @@ returns c =
     let s = a .text .now in
     let inv = d .loop .inv in
     let here = sym (inv .2 .lines) ∙ split-at 10 s (d .loop .at) (f .piece-end .result) (omega arith) (f .piece-end .ensures) in
-    rw (add-one (d .loop .line)) (sym (inv .3 ∙ arcs-past (d .loop .line) (split 10 s) _ _ here (a .n) (a .m) (d .loop .i) (c .if1 .taken)))
+    rw (add-one (d .loop .line)) (sym (inv .3 ∙ arcs-past (d .loop .line) (linesOf s) _ _ here (a .n) (a .m) (d .loop .i) (c .if1 .taken)))
 
 sub-is-arc : tie.Need-sub-is-arc Inv-loop μ-loop
 sub-is-arc c = search needs
@@ -68,7 +68,7 @@ returns-2 c =
     let s = a .text .now in
     let inv = d .loop .inv in
     let here = sym (inv .2 .lines) ∙ split-at 10 s (d .loop .at) (f .piece-end .result) (omega arith) (f .piece-end .ensures) in
-    rw (add-one (d .loop .line)) (sym (inv .3 ∙ arcs-other (d .loop .line) (split 10 s) _ _ here (a .n) (a .m) (d .loop .i) (g .if1 .left) (sym (c .before .is-arc .ensures) ∙ not-true _ (c .if2 .taken))))
+    rw (add-one (d .loop .line)) (sym (inv .3 ∙ arcs-other (d .loop .line) (linesOf s) _ _ here (a .n) (a .m) (d .loop .i) (g .if1 .left) (sym (c .before .is-arc .ensures) ∙ not-true _ (c .if2 .taken))))
 
 add-line : tie.Need-add-line Inv-loop μ-loop
 add-line c = search needs
@@ -97,7 +97,7 @@ loop-again c =
       omega (arith, end-bounds 10 s (d .loop .at) e (omega arith) (f .piece-end .ensures)),
       omega arith,
       rw (add-one j) (line-next s (d .loop .at) j e (inv .2) (omega arith) (f .piece-end .ensures)),
-      rw (add-one j, add-one (d .loop .i)) (inv .3 ∙ arcs-goes j (split 10 s) _ _ here (a .n) (a .m) (d .loop .i) (g .if1 .left) (sym (c .before .is-arc .ensures) ∙ not-false _ (c .if2 .left)) (b .next)),
+      rw (add-one j, add-one (d .loop .i)) (inv .3 ∙ arcs-goes j (linesOf s) _ _ here (a .n) (a .m) (d .loop .i) (g .if1 .left) (sym (c .before .is-arc .ensures) ∙ not-false _ (c .if2 .left)) (b .next)),
     )
 
 returns-3 : tie.Need-returns-3 Inv-loop μ-loop
@@ -106,7 +106,7 @@ returns-3 c =
     let a = d .before .before .args in
     let s = a .text .now in
     let inv = d .loop .inv in
-    sym (inv .3 ∙ arcs-done (d .loop .line) (split 10 s) (a .n) (a .m) (d .loop .i) (line-none s (d .loop .at) (d .loop .line) (inv .2) (omega arith)) (c .if3 .taken))
+    sym (inv .3 ∙ arcs-done (d .loop .line) (linesOf s) (a .n) (a .m) (d .loop .i) (line-none s (d .loop .at) (d .loop .line) (inv .2) (omega arith)) (c .if3 .taken))
 
 add-result-3 : tie.Need-add-result-3 Inv-loop μ-loop
 add-result-3 c = search needs
@@ -117,7 +117,7 @@ returns-4 c =
     let a = d .before .before .args in
     let s = a .text .now in
     let inv = d .loop .inv in
-    rw (add-one (d .loop .line)) (sym (inv .3 ∙ arcs-short (d .loop .line) (split 10 s) (a .n) (a .m) (d .loop .i) (line-none s (d .loop .at) (d .loop .line) (inv .2) (omega arith)) (c .if3 .left)))
+    rw (add-one (d .loop .line)) (sym (inv .3 ∙ arcs-short (d .loop .line) (linesOf s) (a .n) (a .m) (d .loop .i) (line-none s (d .loop .at) (d .loop .line) (inv .2) (omega arith)) (c .if3 .left)))
 
 pub arcs-wrong-spec : {M : Type 1} → statement M
 arcs-wrong-spec =

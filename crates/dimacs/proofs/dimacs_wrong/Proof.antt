@@ -8,7 +8,7 @@ use borrow.Author.Tests.{not-true, not-false}
 use borrow.Author.Needs.{needs}
 use Rattle.fields.proofs.Places.{line-is, line-next}
 use Rattle.fields.proofs.Pieces.{end-bounds, end-most}
-use Rattle.fields.specs.Fields.{split}
+use Rattle.fields.specs.Fields.{linesOf}
 use Rattle.dimacs.proofs.Lists.{text-wrong, text-arcs, problem-there}
 use Rattle.dimacs.proofs.dimacs_wrong.Statement.{statement}
 use Rattle.dimacs.proofs.dimacs_wrong.Tie as tie
@@ -46,7 +46,7 @@ returns c =
     let told = a .after-comments .ensures in
     let at = a .after-comments .result .at in
     let line = a .after-comments .result .line in
-    rw (add-one line) (text-wrong (split 10 s) line (take (f .piece-end .result - at) (drop at s)) (told .0) (line-is s at line (f .piece-end .result) (told .2) (f .piece-end .ensures))
+    rw (add-one line) (text-wrong (linesOf s) line (take (f .piece-end .result - at) (drop at s)) (told .0) (line-is s at line (f .piece-end .result) (told .2) (f .piece-end .ensures))
     (sym (c .before .is-problem .ensures) ∙ not-true _ (c .if1 .taken)))
 
 modes-on-requires : tie.Need-modes-on-requires
@@ -81,7 +81,7 @@ returns-2 c =
     let told = a .after-comments .ensures in
     let at = a .after-comments .result .at in
     let line = a .after-comments .result .line in
-    let all = text-arcs (split 10 s) line (take (f .piece-end .result - at) (drop at s)) (told .0) (line-is s at line (f .piece-end .result) (told .2) (f .piece-end .ensures))
+    let all = text-arcs (linesOf s) line (take (f .piece-end .result - at) (drop at s)) (told .0) (line-is s at line (f .piece-end .result) (told .2) (f .piece-end .ensures))
     (sym (g .before .is-problem .ensures) ∙ not-false _ (g .if1 .left)) in
     c .arcs-wrong .ensures ∙ rw (add-one line, c .before .before .modes-on .ensures, c .before .count-on .ensures) all
 
