@@ -7,19 +7,20 @@ use native.Mathlib.Omega.{arith}
 use lib.ListN.{length, take, drop, length-drop}
 use lib.Seq.{length-take-le, take-all}
 use borrow.Author.Tests.{lt-ltb, le-ltb, eq-eqb, ne-eqb}
-use Rattle.fields.specs.Fields.{split, LineAt}
+use Rattle.fields.specs.Bytes.{feed}
+use Rattle.fields.specs.Fields.{LineAt, linesOf}
 use Rattle.fields.proofs.Pieces.{split-first}
 use Rattle.fields.proofs.Places.{Begins, split-end}
 use Rattle.hoa.specs.Text.{mayStand, isEnd, bodyWrong, headWrong, hoaWrong, modesOf, coloursOf}
 
 -- lines are left where bytes are
-pub lines-left : (s : List ℕ) (e : ℕ) → e < length s → 0 < length (split 10 (drop e s))
+pub lines-left : (s : List ℕ) (e : ℕ) → e < length s → 0 < length (linesOf (drop e s))
 lines-left s e h =
     let some : 0 < length (drop e s) = rw (length-drop e s) (omega arith) in
-    rw (split-first 10 (drop e s) some) (omega arith)
+    rw (split-first feed (drop e s) some) (omega arith)
 
-pub lines-over : (s : List ℕ) (e : ℕ) → length s ≤ e → length (split 10 (drop e s)) ≡ 0
-lines-over s e h = rw (split-end 10 s e h)
+pub lines-over : (s : List ℕ) (e : ℕ) → length s ≤ e → length (linesOf (drop e s)) ≡ 0
+lines-over s e h = rw (split-end feed s e h)
 
 module _ (n k j : ℕ) (ls : List (List ℕ)) (within : j ≤ length ls) where
   -- the text ends early
@@ -53,8 +54,8 @@ pub text-head : (ls : List (List ℕ)) (h : ℕ) → h ≡ headWrong ls → (h �
 unfolding hoaWrong
 text-head ls h e z = rw (← e, ne-eqb h 0 z)
 
-pub text-body : (s : List ℕ) (at h r : ℕ) → h ≡ headWrong (split 10 s) → h ≡ 0 → LineAt s at 6
-    → r ≡ bodyWrong (modesOf (split 10 s)) (coloursOf (split 10 s)) [] (split 10 (take (length s - at) (drop at s))) → r ≡ hoaWrong (split 10 s)
+pub text-body : (s : List ℕ) (at h r : ℕ) → h ≡ headWrong (linesOf s) → h ≡ 0 → LineAt s at 6
+    → r ≡ bodyWrong (modesOf (linesOf s)) (coloursOf (linesOf s)) [] (linesOf (take (length s - at) (drop at s))) → r ≡ hoaWrong (linesOf s)
 unfolding hoaWrong
 text-body s at h r e z p q =
     let all : take (length s - at) (drop at s) ≡ drop at s = take-all (length s - at) (drop at s) (simp length-drop (omega arith)) in

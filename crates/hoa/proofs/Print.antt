@@ -6,58 +6,59 @@ use Prim.Native.Nat.{ℕ, zero, suc, _+_, _≤_, _<_}
 use native.Mathlib.Omega.{arith}
 use lib.ListN.{length, length-append}
 use borrow.Author.Tests.{ne-eqb, lt-ltb, eq-eqb}
+use Rattle.fields.specs.Bytes.{feed, blank, ampersand}
 use Rattle.fields.specs.Fields.{afterWord, isOnly, digitCount, isDigit, numberOf, split, isWord}
 use Rattle.fields.proofs.Pieces.{Free, split-piece, split-one, ended}
 use Rattle.fields.proofs.Num.{num, Small, number-num, after-num, number-back, tail-back, blank-ends, num-free, num-long}
 use Rattle.fields.proofs.Printed.{Digits, printed-digits, after-word, free-append}
-use Rattle.hoa.specs.Words.{edgeWord, openBrace, closeBrace, infWord, closeWord, acceptWord, blank, trueWord}
+use Rattle.hoa.specs.Words.{edgeWord, openBrace, closeBrace, infWord, closeWord, acceptWord, blankWord, trueWord}
 use Rattle.hoa.specs.Text.{coloursSaid}
 use Rattle.hoa.specs.Lines.{isAcceptance, colourCount, condition, targetOf, targetTail, inside, areColours, isBraces, isEdge, infNumber, infTail, areInfs}
 
 -- the colours c and cs, and the closing brace
 abbrev pub inner : ℕ → List ℕ → List ℕ
 inner c [] = num c ++ 125 ∷ []
-inner c (d ∷ cs) = num c ++ 32 ∷ inner d cs
+inner c (d ∷ cs) = num c ++ blank ∷ inner d cs
 
 -- every number of the list is below k
 abbrev pub Below : ℕ → List ℕ → Type 0
 Below k [] = Unit
 Below k (c ∷ cs) = (c < k) × Below k cs
 
-brace-ends : digitCount (125 ∷ 10 ∷ []) ≡ 0
+brace-ends : digitCount (125 ∷ feed ∷ []) ≡ 0
 unfolding digitCount isDigit
 brace-ends = refl
 
 -- the last colour, and one before others
-last-piece : (c : ℕ) → ended (num c ++ 125 ∷ []) ≡ num c ++ 125 ∷ 10 ∷ []
-last-piece c = append-assoc (num c) (125 ∷ []) (10 ∷ [])
+last-piece : (c : ℕ) → ended (num c ++ 125 ∷ []) ≡ num c ++ 125 ∷ feed ∷ []
+last-piece c = append-assoc (num c) (125 ∷ []) (feed ∷ [])
 
-more-piece : (c d : ℕ) (cs : List ℕ) → ended (num c ++ 32 ∷ inner d cs) ≡ num c ++ 32 ∷ ended (inner d cs)
-more-piece c d cs = append-assoc (num c) (32 ∷ inner d cs) (10 ∷ [])
+more-piece : (c d : ℕ) (cs : List ℕ) → ended (num c ++ blank ∷ inner d cs) ≡ num c ++ blank ∷ ended (inner d cs)
+more-piece c d cs = append-assoc (num c) (blank ∷ inner d cs) (feed ∷ [])
 
-split-lone : (c : ℕ) → split 32 (num c ++ 125 ∷ 10 ∷ []) ≡ (num c ++ 125 ∷ 10 ∷ []) ∷ []
+split-lone : (c : ℕ) → split blank (num c ++ 125 ∷ feed ∷ []) ≡ (num c ++ 125 ∷ feed ∷ []) ∷ []
 split-lone c =
-    split-one 32 (num c ++ 125 ∷ 10 ∷ []) (free-append 32 (num c) (125 ∷ 10 ∷ []) (num-free 32 c (omega arith)) (refl, (refl, tt)))
-    (rw (length-append (num c) (125 ∷ 10 ∷ [])) (omega arith))
+    split-one blank (num c ++ 125 ∷ feed ∷ []) (free-append blank (num c) (125 ∷ feed ∷ []) (num-free blank c (omega arith)) (refl, (refl, tt)))
+    (rw (length-append (num c) (125 ∷ feed ∷ [])) (omega arith))
 
-pub colours-back : (k c : ℕ) (cs : List ℕ) → k ≤ 100000 → c < k → Below k cs → areColours k (split 32 (ended (inner c cs))) ≡ true
+pub colours-back : (k c : ℕ) (cs : List ℕ) → k ≤ 100000 → c < k → Below k cs → areColours k (split blank (ended (inner c cs))) ≡ true
 unfolding areColours isOnly afterWord
 colours-back k c [] few h f =
-    rw (last-piece c, split-lone c, number-num c (125 ∷ 10 ∷ []) (omega arith) brace-ends, after-num c (125 ∷ 10 ∷ []) (omega arith) brace-ends, lt-ltb c k h)
+    rw (last-piece c, split-lone c, number-num c (125 ∷ feed ∷ []) (omega arith) brace-ends, after-num c (125 ∷ feed ∷ []) (omega arith) brace-ends, lt-ltb c k h)
 colours-back k c (d ∷ cs) few h f =
     rw (
       more-piece c d cs,
-      split-piece 32 (num c) (ended (inner d cs)) (num-free 32 c (omega arith)),
-      number-num c (32 ∷ []) (omega arith) (blank-ends []),
-      after-num c (32 ∷ []) (omega arith) (blank-ends []),
+      split-piece blank (num c) (ended (inner d cs)) (num-free blank c (omega arith)),
+      number-num c (blank ∷ []) (omega arith) (blank-ends []),
+      after-num c (blank ∷ []) (omega arith) (blank-ends []),
       lt-ltb c k h,
     )
     (colours-back k d cs few (f .0) (f .1))
 
-pub colours-said : (c : ℕ) (cs : List ℕ) → Small c → Below 100000 cs → map numberOf (split 32 (ended (inner c cs))) ≡ c ∷ cs
-colours-said c [] low f = rw (last-piece c, split-lone c) (ap (λ (x : ℕ). x ∷ []) (number-num c (125 ∷ 10 ∷ []) low brace-ends))
+pub colours-said : (c : ℕ) (cs : List ℕ) → Small c → Below 100000 cs → map numberOf (split blank (ended (inner c cs))) ≡ c ∷ cs
+colours-said c [] low f = rw (last-piece c, split-lone c) (ap (λ (x : ℕ). x ∷ []) (number-num c (125 ∷ feed ∷ []) low brace-ends))
 colours-said c (d ∷ cs) low f =
-    rw (more-piece c d cs, split-piece 32 (num c) (ended (inner d cs)) (num-free 32 c (omega arith)), number-num c (32 ∷ []) low (blank-ends []))
+    rw (more-piece c d cs, split-piece blank (num c) (ended (inner d cs)) (num-free blank c (omega arith)), number-num c (blank ∷ []) low (blank-ends []))
     (ap (λ (l : List ℕ). c ∷ l) (colours-said d cs (f .0) (f .1)))
 
 -- what stands in the braces, with the closing brace
@@ -108,8 +109,8 @@ no-brace (x ∷ l) r f h = rw (ne-eqb x 125 (λ e. absurd (omega (arith, e, f .1
 
 no-close : (c : ℕ) (cs : List ℕ) → isWord closeBrace (ended (inner c cs)) ≡ false
 unfolding isOnly
-no-close c [] = rw (last-piece c, no-brace (num c) (125 ∷ 10 ∷ []) (printed-digits 5 c) (num-long c))
-no-close c (d ∷ cs) = rw (more-piece c d cs, no-brace (num c) (32 ∷ ended (inner d cs)) (printed-digits 5 c) (num-long c))
+no-close c [] = rw (last-piece c, no-brace (num c) (125 ∷ feed ∷ []) (printed-digits 5 c) (num-long c))
+no-close c (d ∷ cs) = rw (more-piece c d cs, no-brace (num c) (blank ∷ ended (inner d cs)) (printed-digits 5 c) (num-long c))
 
 pub edge-colours : (t : ℕ) (cs : List ℕ) → Small t → Below 100000 cs → coloursSaid (ended (edged t cs)) ≡ cs
 unfolding coloursSaid afterWord isOnly
@@ -122,7 +123,7 @@ inf j = infWord ++ (num j ++ closeWord)
 
 abbrev pub infs : ℕ → ℕ → List ℕ
 infs j zero = inf j
-infs j (suc r) = inf j ++ 38 ∷ infs (suc j) r
+infs j (suc r) = inf j ++ ampersand ∷ infs (suc j) r
 
 close-ends : (l : List ℕ) → digitCount (closeWord ++ l) ≡ 0
 unfolding digitCount isDigit
@@ -143,22 +144,22 @@ inf-free b j h f =
     free-append b infWord (num j ++ closeWord) f
     (free-append b (num j) closeWord (num-free b j (omega arith)) (ne-eqb 41 b (λ e. absurd (omega (arith, e))), tt))
 
-pub infs-back : (k j r : ℕ) → k ≤ 100000 → j + suc r ≡ k → areInfs k j (split 38 (ended (infs j r))) ≡ true
+pub infs-back : (k j r : ℕ) → k ≤ 100000 → j + suc r ≡ k → areInfs k j (split ampersand (ended (infs j r))) ≡ true
 unfolding areInfs isOnly
 infs-back k j zero few e =
     rw (
-      split-one 38 (inf j ++ 10 ∷ []) (free-append 38 (inf j) (10 ∷ []) (inf-free 38 j (omega arith) (refl, (refl, (refl, (refl, tt))))) (refl, tt)) (omega arith),
-      inf-number j (10 ∷ []) (omega arith),
-      inf-tail j (10 ∷ []) (omega arith),
+      split-one ampersand (inf j ++ feed ∷ []) (free-append ampersand (inf j) (feed ∷ []) (inf-free ampersand j (omega arith) (refl, (refl, (refl, (refl, tt))))) (refl, tt)) (omega arith),
+      inf-number j (feed ∷ []) (omega arith),
+      inf-tail j (feed ∷ []) (omega arith),
       eq-eqb j j refl,
       eq-eqb (suc j) k (omega arith),
     )
 infs-back k j (suc r) few e =
     rw (
-      append-assoc (inf j) (38 ∷ infs (suc j) r) (10 ∷ []),
-      split-piece 38 (inf j) (ended (infs (suc j) r)) (inf-free 38 j (omega arith) (refl, (refl, (refl, (refl, tt))))),
-      inf-number j (38 ∷ []) (omega arith),
-      inf-tail j (38 ∷ []) (omega arith),
+      append-assoc (inf j) (ampersand ∷ infs (suc j) r) (feed ∷ []),
+      split-piece ampersand (inf j) (ended (infs (suc j) r)) (inf-free ampersand j (omega arith) (refl, (refl, (refl, (refl, tt))))),
+      inf-number j (ampersand ∷ []) (omega arith),
+      inf-tail j (ampersand ∷ []) (omega arith),
       eq-eqb j j refl,
     )
     (infs-back k (suc j) r few (omega arith))
@@ -169,16 +170,16 @@ goals zero = trueWord
 goals (suc r) = infs 0 r
 
 abbrev pub accepting : ℕ → List ℕ
-accepting k = acceptWord ++ (num k ++ (blank ++ goals k))
+accepting k = acceptWord ++ (num k ++ (blankWord ++ goals k))
 
-accepting-ended : (k : ℕ) → ended (accepting k) ≡ acceptWord ++ (num k ++ (blank ++ ended (goals k)))
+accepting-ended : (k : ℕ) → ended (accepting k) ≡ acceptWord ++ (num k ++ (blankWord ++ ended (goals k)))
 accepting-ended k = simp append-assoc
 
 pub accepting-count : (k : ℕ) → Small k → colourCount (ended (accepting k)) ≡ k
-accepting-count k low = rw (accepting-ended k) (number-back acceptWord k (blank ++ ended (goals k)) low (blank-ends _))
+accepting-count k low = rw (accepting-ended k) (number-back acceptWord k (blankWord ++ ended (goals k)) low (blank-ends _))
 
 accepting-rest : (k : ℕ) → Small k → condition (ended (accepting k)) ≡ ended (goals k)
-accepting-rest k low = rw (accepting-ended k, tail-back acceptWord k (blank ++ ended (goals k)) low (blank-ends _)) (after-word blank (ended (goals k)))
+accepting-rest k low = rw (accepting-ended k, tail-back acceptWord k (blankWord ++ ended (goals k)) low (blank-ends _)) (after-word blankWord (ended (goals k)))
 
 pub accepting-back : (k : ℕ) → Small k → isAcceptance (ended (accepting k)) ≡ true
 unfolding isAcceptance isOnly afterWord

@@ -12,7 +12,7 @@ use Rattle.fields.proofs.Pieces.{ended}
 use Rattle.fields.proofs.Num.{Small, numbered, numbered-is, numbered-says}
 use Rattle.hoa.specs.Words.{stateWord, endWord}
 use Rattle.hoa.specs.Lines.{isState}
-use Rattle.hoa.specs.Text.{Edge, edgesFrom, opensBlock, hasBlock, isNewBlock, mayStand, isEnd, bodyWrong}
+use Rattle.hoa.specs.Text.{Edge, contains, edgesFrom, opensBlock, hasBlock, isNewBlock, mayStand, isEnd, bodyWrong}
 use Rattle.hoa.proofs.Print.{Below, edged, edge-back, edge-target, edge-colours}
 
 abbrev pub stated : ℕ → List ℕ
@@ -29,11 +29,6 @@ bodyFrom s (e ∷ es) = cond (eqb (e .source) s) (edgeText e ∷ bodyFrom (e .so
 abbrev pub bodyText : List Edge → List (List ℕ)
 bodyText [] = endWord ∷ []
 bodyText (e ∷ es) = stated (e .source) ∷ edgeText e ∷ bodyFrom (e .source) es
-
--- the number is in the list
-abbrev pub contains : ℕ → List ℕ → Bool
-contains x [] = false
-contains x (y ∷ l) = eqb x y || contains x l
 
 -- a source other than the last is none of those before
 abbrev pub Together : List ℕ → ℕ → List Edge → Type 0
@@ -114,10 +109,12 @@ these-same : (v : List ℕ) (ls : List (List ℕ)) (t : ℕ) (cs : List ℕ) →
 these-same v ls t cs f m h = block-more m ls (ended (edged t cs)) ∙ rw (f m h) (opens-edge m t cs)
 
 these-edge : (v : List ℕ) (ls : List (List ℕ)) (s t : ℕ) (cs : List ℕ) → OnlyThese v ls → OnlyThese (s ∷ v) (ls ++ ended (edged t cs) ∷ [])
+unfolding contains
 these-edge v ls s t cs f m h =
     block-more m ls (ended (edged t cs)) ∙ rw (f m (neither (eqb m s) (contains m v) h .1)) (opens-edge m t cs)
 
 these-state : (v : List ℕ) (ls : List (List ℕ)) (s : ℕ) → Small s → OnlyThese v ls → OnlyThese (s ∷ v) (ls ++ ended (stated s) ∷ [])
+unfolding contains
 these-state v ls s low f m h =
     let (a, b) = neither (eqb m s) (contains m v) h in
     block-more m ls (ended (stated s)) ∙ rw (f m b) (opens-state m s low ∙ a)

@@ -5,53 +5,54 @@ use mathlib.Core.List.{List, [], _∷_, _++_, map}
 use Prim.Native.Nat.{ℕ, zero, suc}
 use native.Mathlib.Omega.{arith}
 use lib.Dec.{eqb}
-use Rattle.fields.specs.Fields.{afterWord, isOnly, split}
+use Rattle.fields.specs.Bytes.{feed, blank, ampersand}
+use Rattle.fields.specs.Fields.{afterWord, isOnly, linesOf}
 use Rattle.fields.proofs.Pieces.{Free, FreeAll, ended, textOf, lines-of}
 use Rattle.fields.proofs.Printed.{free-append}
 use Rattle.fields.proofs.Num.{Small, num, numbered, numbered-is, numbered-says, freeb, free-word, num-line, numbered-line}
-use Rattle.hoa.specs.Words.{hoaWord, statesWord, startWord, apWord, acceptWord, blank, bodyWord, endWord, stateWord, edgeWord, openBrace, infWord, closeWord}
+use Rattle.hoa.specs.Words.{hoaWord, statesWord, startWord, apWord, acceptWord, blankWord, bodyWord, endWord, stateWord, edgeWord, openBrace, infWord, closeWord}
 use Rattle.hoa.specs.Text.{Edge, edgesOf, headWrong, bodyWrong, hoaWrong, modesOf, startOf, coloursOf}
 use Rattle.hoa.proofs.Print.{inner, braces, edged, inf, infs, goals, accepting, accepting-count, accepting-back}
 use Rattle.hoa.proofs.PrintBody.{TogetherAll, EdgesFit, stated, edgeText, bodyFrom, bodyText, bodies-back, empty-back, all-edges-back}
 
-words-free : (freeb 10 hoaWord ≡ true) × (freeb 10 statesWord ≡ true) × (freeb 10 startWord ≡ true) × (freeb 10 apWord ≡ true)
-    × (freeb 10 acceptWord ≡ true) × (freeb 10 bodyWord ≡ true) × (freeb 10 endWord ≡ true) × (freeb 10 stateWord ≡ true)
-    × (freeb 10 edgeWord ≡ true) × (freeb 10 infWord ≡ true)
+words-free : (freeb feed hoaWord ≡ true) × (freeb feed statesWord ≡ true) × (freeb feed startWord ≡ true) × (freeb feed apWord ≡ true)
+    × (freeb feed acceptWord ≡ true) × (freeb feed bodyWord ≡ true) × (freeb feed endWord ≡ true) × (freeb feed stateWord ≡ true)
+    × (freeb feed edgeWord ≡ true) × (freeb feed infWord ≡ true)
 unfolding freeb
 words-free = (refl, refl, refl, refl, refl, refl, refl, refl, refl, refl)
 
-inner-line : (c : ℕ) (cs : List ℕ) → Free 10 (inner c cs)
-inner-line c [] = free-append 10 (num c) (125 ∷ []) (num-line c) (refl, tt)
-inner-line c (d ∷ cs) = free-append 10 (num c) (32 ∷ inner d cs) (num-line c) (refl, inner-line d cs)
+inner-line : (c : ℕ) (cs : List ℕ) → Free feed (inner c cs)
+inner-line c [] = free-append feed (num c) (125 ∷ []) (num-line c) (refl, tt)
+inner-line c (d ∷ cs) = free-append feed (num c) (blank ∷ inner d cs) (num-line c) (refl, inner-line d cs)
 
-braces-line : (cs : List ℕ) → Free 10 (braces cs)
+braces-line : (cs : List ℕ) → Free feed (braces cs)
 braces-line [] = (refl, tt)
 braces-line (c ∷ cs) = inner-line c cs
 
-edged-line : (t : ℕ) (cs : List ℕ) → Free 10 (edged t cs)
+edged-line : (t : ℕ) (cs : List ℕ) → Free feed (edged t cs)
 edged-line t cs =
-    free-append 10 edgeWord (num t ++ (openBrace ++ braces cs)) (free-word 10 edgeWord (words-free .8))
-    (free-append 10 (num t) (openBrace ++ braces cs) (num-line t) (refl, (refl, braces-line cs)))
+    free-append feed edgeWord (num t ++ (openBrace ++ braces cs)) (free-word feed edgeWord (words-free .8))
+    (free-append feed (num t) (openBrace ++ braces cs) (num-line t) (refl, (refl, braces-line cs)))
 
-inf-line : (j : ℕ) → Free 10 (inf j)
+inf-line : (j : ℕ) → Free feed (inf j)
 inf-line j =
-    free-append 10 infWord (num j ++ closeWord) (free-word 10 infWord (words-free .9)) (free-append 10 (num j) closeWord (num-line j) (refl, tt))
+    free-append feed infWord (num j ++ closeWord) (free-word feed infWord (words-free .9)) (free-append feed (num j) closeWord (num-line j) (refl, tt))
 
-infs-line : (j r : ℕ) → Free 10 (infs j r)
+infs-line : (j r : ℕ) → Free feed (infs j r)
 infs-line j zero = inf-line j
-infs-line j (suc r) = free-append 10 (inf j) (38 ∷ infs (suc j) r) (inf-line j) (refl, infs-line (suc j) r)
+infs-line j (suc r) = free-append feed (inf j) (ampersand ∷ infs (suc j) r) (inf-line j) (refl, infs-line (suc j) r)
 
-goals-line : (k : ℕ) → Free 10 (goals k)
+goals-line : (k : ℕ) → Free feed (goals k)
 goals-line zero = (refl, tt)
 goals-line (suc r) = infs-line 0 r
 
-accepting-line : (k : ℕ) → Free 10 (accepting k)
+accepting-line : (k : ℕ) → Free feed (accepting k)
 accepting-line k =
-    free-append 10 acceptWord (num k ++ (blank ++ goals k)) (free-word 10 acceptWord (words-free .4))
-    (free-append 10 (num k) (blank ++ goals k) (num-line k) (refl, goals-line k))
+    free-append feed acceptWord (num k ++ (blankWord ++ goals k)) (free-word feed acceptWord (words-free .4))
+    (free-append feed (num k) (blankWord ++ goals k) (num-line k) (refl, goals-line k))
 
 from-lines : (s : ℕ) (es : List Edge) → FreeAll (bodyFrom s es)
-from-lines s [] = (free-word 10 endWord (words-free .6), tt)
+from-lines s [] = (free-word feed endWord (words-free .6), tt)
 from-lines s (e ∷ es) = go (eqb (e .source) s) (from-lines (e .source) es)
   where
     go : (t : Bool) → FreeAll (bodyFrom (e .source) es)
@@ -60,7 +61,7 @@ from-lines s (e ∷ es) = go (eqb (e .source) s) (from-lines (e .source) es)
     go false f = (numbered-line stateWord (e .source) (words-free .7), (edged-line (e .target) (e .colours), f))
 
 body-lines : (es : List Edge) → FreeAll (bodyText es)
-body-lines [] = (free-word 10 endWord (words-free .6), tt)
+body-lines [] = (free-word feed endWord (words-free .6), tt)
 body-lines (e ∷ es) =
     (numbered-line stateWord (e .source) (words-free .7), (edged-line (e .target) (e .colours), from-lines (e .source) es))
 
@@ -71,15 +72,15 @@ hoaLines n s k es = hoaWord ∷ numbered statesWord n ∷ numbered startWord s �
 abbrev pub hoaText : ℕ → ℕ → ℕ → List Edge → List ℕ
 hoaText n s k es = textOf (hoaLines n s k es)
 
-pub text-lines : (n s k : ℕ) (es : List Edge) → split 10 (hoaText n s k es) ≡ map ended (hoaLines n s k es)
+pub text-lines : (n s k : ℕ) (es : List Edge) → linesOf (hoaText n s k es) ≡ map ended (hoaLines n s k es)
 text-lines n s k es =
     lines-of (hoaLines n s k es) (
-      free-word 10 hoaWord (words-free .0),
+      free-word feed hoaWord (words-free .0),
       (
         numbered-line statesWord n (words-free .1),
         (
           numbered-line startWord s (words-free .2),
-          (free-word 10 apWord (words-free .3), (accepting-line k, (free-word 10 bodyWord (words-free .5), body-lines es))),
+          (free-word feed apWord (words-free .3), (accepting-line k, (free-word feed bodyWord (words-free .5), body-lines es))),
         ),
       ),
     )
@@ -92,8 +93,8 @@ pub record SaysHoa (ls : List (List ℕ)) (n s k : ℕ) (es : List Edge) : Type 
   pub colours : coloursOf ls ≡ k
   pub edges : edgesOf ls ≡ es
 
-words-are : (isOnly 10 (afterWord hoaWord (ended hoaWord)) ≡ true) × (isOnly 10 (afterWord apWord (ended apWord)) ≡ true)
-    × (isOnly 10 (afterWord bodyWord (ended bodyWord)) ≡ true)
+words-are : (isOnly feed (afterWord hoaWord (ended hoaWord)) ≡ true) × (isOnly feed (afterWord apWord (ended apWord)) ≡ true)
+    × (isOnly feed (afterWord bodyWord (ended bodyWord)) ≡ true)
 unfolding afterWord isOnly
 words-are = (refl, refl, refl)
 
@@ -110,7 +111,7 @@ module _ (n s k : ℕ) (es : List Edge) (many : Small n) (starts : Small s) (few
         words-are .2,
       )
 
-  pub hoa-back : TogetherAll es → EdgesFit n k es → SaysHoa (split 10 (hoaText n s k es)) n s k es
+  pub hoa-back : TogetherAll es → EdgesFit n k es → SaysHoa (linesOf (hoaText n s k es)) n s k es
   unfolding hoaWrong
   hoa-back g f =
       rw (text-lines n s k es)

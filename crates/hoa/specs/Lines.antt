@@ -1,11 +1,12 @@
--- The lines of HOA text. Document 02, Ask 1. A line is a list of bytes with its line feed, 10; where the last line of a text has none, no form
--- takes it.
+-- The lines of HOA text. Document 02, Ask 1. A line is a list of bytes with its line feed; where the last line of a text has none, no form takes
+-- it.
 use mathlib.Core.Bool.{Bool, false, _&&_, _||_, cond}
 use mathlib.Core.List.{List, [], _∷_}
 use Prim.Native.Nat.{ℕ, suc}
 use lib.Dec.{ltb, eqb}
+use Rattle.fields.specs.Bytes.{feed, blank, ampersand}
 use Rattle.fields.specs.Fields.{afterWord, isOnly, numberOf, afterNumber, split, isWord, isNumbered, numberAfter, tailAfter}
-use Rattle.hoa.specs.Words.{acceptWord, blank, trueWord, infWord, closeWord, stateWord, edgeWord, openBrace, closeBrace}
+use Rattle.hoa.specs.Words.{acceptWord, blankWord, trueWord, infWord, closeWord, stateWord, edgeWord, openBrace, closeBrace}
 
 -- "`State:` lines with the mode alone"
 abbrev pub isState : List ℕ → Bool
@@ -26,19 +27,19 @@ targetTail l = tailAfter edgeWord l
 abbrev pub inside : List ℕ → List ℕ
 inside l = afterWord openBrace (targetTail l)
 
--- the colours after a brace, cut after each blank: numbers below k with a blank between, and the closing brace and the line feed after the last.
+-- the colours after a brace, split after each blank: numbers below k with a blank between, and the closing brace and the line feed after the last.
 -- (A piece that ends with a line feed has no blank and is the last.)
 unfoldable pub areColours : ℕ → List (List ℕ) → Bool
 areColours k [] = false
-areColours k (p ∷ ps) = ltb (numberOf p) k && (isWord closeBrace (afterNumber p) || (isOnly 32 (afterNumber p) && areColours k ps))
+areColours k (p ∷ ps) = ltb (numberOf p) k && (isWord closeBrace (afterNumber p) || (isOnly blank (afterNumber p) && areColours k ps))
 
 -- "Braces may be empty or repeat a colour, in any order, and each colour is below k."
 unfoldable pub isBraces : ℕ → List ℕ → Bool
-isBraces k l = isWord closeBrace l || areColours k (split 32 l)
+isBraces k l = isWord closeBrace l || areColours k (split blank l)
 
 -- "Every mode but the start is below its own text's n"
 unfoldable pub isEdge : ℕ → ℕ → List ℕ → Bool
-isEdge n k l = ltb (targetOf l) n && (isOnly 10 (targetTail l) || isBraces k (inside l))
+isEdge n k l = ltb (targetOf l) n && (isOnly feed (targetTail l) || isBraces k (inside l))
 
 -- "`Acceptance:` with k and `Inf(0)` to `Inf(k-1)` in order with a bare `&` between (`0 t` for none)"
 abbrev pub colourCount : List ℕ → ℕ
@@ -46,7 +47,7 @@ colourCount l = numberAfter acceptWord l
 
 -- what follows k and a blank
 abbrev pub condition : List ℕ → List ℕ
-condition l = afterWord blank (tailAfter acceptWord l)
+condition l = afterWord blankWord (tailAfter acceptWord l)
 
 -- the number after `Inf(`
 abbrev pub infNumber : List ℕ → ℕ
@@ -56,12 +57,12 @@ infNumber p = numberAfter infWord p
 abbrev pub infTail : List ℕ → List ℕ
 infTail p = afterWord closeWord (tailAfter infWord p)
 
--- the condition cut after each &, 38: Inf(j), Inf(j+1) and so on, the last of which is Inf(k-1)
+-- the condition split after each `&`: Inf(j), Inf(j+1) and so on, the last of which is Inf(k-1)
 unfoldable pub areInfs : ℕ → ℕ → List (List ℕ) → Bool
 areInfs k j [] = false
 areInfs k j (p ∷ ps) =
-    eqb (infNumber p) j && cond (isOnly 10 (infTail p)) (eqb (suc j) k) (isOnly 38 (infTail p) && areInfs k (suc j) ps)
+    eqb (infNumber p) j && cond (isOnly feed (infTail p)) (eqb (suc j) k) (isOnly ampersand (infTail p) && areInfs k (suc j) ps)
 
 -- no condition takes k = 0 but `t`
 unfoldable pub isAcceptance : List ℕ → Bool
-isAcceptance l = cond (eqb (colourCount l) 0) (isWord trueWord (condition l)) (areInfs (colourCount l) 0 (split 38 (condition l)))
+isAcceptance l = cond (eqb (colourCount l) 0) (isWord trueWord (condition l)) (areInfs (colourCount l) 0 (split ampersand (condition l)))

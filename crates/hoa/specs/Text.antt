@@ -3,14 +3,11 @@ use mathlib.Core.Bool.{Bool, false, not, _&&_, _||_, cond}
 use mathlib.Core.List.{List, [], _∷_, _++_, map}
 use Prim.Native.Nat.{ℕ, _+_}
 use lib.Dec.{ltb, eqb}
-use lib.ListN.{length, getD, drop}
-use Rattle.fields.specs.Fields.{numberOf, isWord, isNumbered, numberAfter, split}
+use lib.ListN.{length, drop}
+use Rattle.fields.specs.Bytes.{blank}
+use Rattle.fields.specs.Fields.{numberOf, isWord, isNumbered, numberAfter, split, lineOf}
 use Rattle.hoa.specs.Words.{hoaWord, statesWord, startWord, apWord, bodyWord, endWord, closeBrace}
 use Rattle.hoa.specs.Lines.{isState, stateOf, targetOf, inside, isEdge, isAcceptance, colourCount}
-
--- line j of a text, from 0; nothing where there is none, and no form takes nothing
-abbrev pub lineOf : List (List ℕ) → ℕ → List ℕ
-lineOf ls j = getD ls j []
 
 abbrev pub modesOf : List (List ℕ) → ℕ
 modesOf ls = numberAfter statesWord (lineOf ls 1)
@@ -73,7 +70,7 @@ pub record Edge : Type 0 where
 
 -- the colours on an edge's line
 unfoldable pub coloursSaid : List ℕ → List ℕ
-coloursSaid l = cond (isWord closeBrace (inside l)) [] (map numberOf (split 32 (inside l)))
+coloursSaid l = cond (isWord closeBrace (inside l)) [] (map numberOf (split blank (inside l)))
 
 -- the number is in the list
 unfoldable pub contains : ℕ → List ℕ → Bool

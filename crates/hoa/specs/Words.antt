@@ -23,8 +23,8 @@ abbrev pub acceptWord : List ℕ
 acceptWord = 65 ∷ 99 ∷ 99 ∷ 101 ∷ 112 ∷ 116 ∷ 97 ∷ 110 ∷ 99 ∷ 101 ∷ 58 ∷ 32 ∷ []
 
 -- " "
-abbrev pub blank : List ℕ
-blank = 32 ∷ []
+abbrev pub blankWord : List ℕ
+blankWord = 32 ∷ []
 
 -- "t"
 abbrev pub trueWord : List ℕ

@@ -1,21 +1,45 @@
 // HOA text: its lines, and the first that is outside the forms.
 ghost use mathlib.Core.Path.{_≡_};
-ghost use mathlib.Core.List.{[]};
+ghost use mathlib.Core.Bool.{cond};
+ghost use mathlib.Core.List.{[], map};
 ghost use Prim.Native.Nat.{_≤_};
 ghost use lib.ListN.{length, take};
-ghost use Rattle.fields.specs.Fields.{split, isOnly, afterWord, isWord};
+ghost use Rattle.fields.specs.Bytes.{blank, ampersand};
+ghost use Rattle.fields.specs.Fields.{numberOf, split, linesOf, isWord};
 ghost use Rattle.hoa.specs.Words.{closeBrace};
-ghost use Rattle.hoa.specs.Lines.{isState, stateOf, targetOf, targetTail, inside, areColours, isBraces, isEdge, colourCount, condition, infTail, infNumber, areInfs, isAcceptance};
-ghost use Rattle.hoa.specs.Text.{modesOf, startOf, coloursOf, headWrong, opensBlock, hasBlock, isNewBlock, mayStand, isEnd, bodyWrong, hoaWrong, coloursSaid, contains, colourByte};
-ghost use mathlib.Core.List.{map};
-ghost use mathlib.Core.Bool.{cond};
-ghost use Rattle.fields.specs.Fields.{numberOf};
-
-const FEED: u8 = 10;
-
-const BLANK: u8 = 32;
-
-const AND: u8 = 38;
+ghost use Rattle.hoa.specs.Lines.{
+  isState,
+  stateOf,
+  targetOf,
+  targetTail,
+  inside,
+  areColours,
+  isBraces,
+  isEdge,
+  colourCount,
+  condition,
+  infTail,
+  infNumber,
+  areInfs,
+  isAcceptance,
+};
+ghost use Rattle.hoa.specs.Text.{
+  modesOf,
+  startOf,
+  coloursOf,
+  headWrong,
+  opensBlock,
+  hasBlock,
+  isNewBlock,
+  mayStand,
+  isEnd,
+  bodyWrong,
+  hoaWrong,
+  coloursSaid,
+  contains,
+  colourByte,
+};
+use fields::Bytes;
 
 // Whether a line is a `State:` line.
 pub fn is_state(line: &[u8]) -> bool
@@ -61,11 +85,11 @@ fn closes(s: &[u8]) -> bool
 
 // Whether colours below k stand in a list, with what closes them.
 fn are_colours(s: &[u8], k: u32) -> bool
-    ensures { λ r. ⌜ r ≡ areColours k (split 32 (now (s .entry))) ⌝ }
+    ensures { λ r. ⌜ r ≡ areColours k (split blank (now (s .entry))) ⌝ }
 {
     let mut at = 0;
     while at < s.len() {
-        let e = fields::piece_end(s, at, BLANK);
+        let e = fields::piece_end(s, at, Bytes::BLANK);
         let piece = &s[at..e];
         if fields::number_of(piece) >= k {
             return false;
@@ -74,7 +98,7 @@ fn are_colours(s: &[u8], k: u32) -> bool
         if closes(tail) {
             return true;
         }
-        if !fields::is_only(tail, BLANK) {
+        if !fields::is_only(tail, Bytes::BLANK) {
             return false;
         }
         at = e;
@@ -99,7 +123,7 @@ pub fn is_edge(line: &[u8], n: u32, k: u32) -> bool
     if target_of(line) >= n {
         return false;
     }
-    if fields::is_only(target_tail(line), FEED) {
+    if fields::is_only(target_tail(line), Bytes::FEED) {
         return true;
     }
     is_braces(inside_of(line), k)
@@ -135,21 +159,21 @@ fn inf_number(piece: &[u8]) -> u32
 
 // Whether a condition is `Inf(0)` to `Inf(k-1)`.
 fn are_infs(s: &[u8], k: u32) -> bool
-    ensures { λ r. ⌜ r ≡ areInfs k 0 (split 38 (now (s .entry))) ⌝ }
+    ensures { λ r. ⌜ r ≡ areInfs k 0 (split ampersand (now (s .entry))) ⌝ }
 {
     let mut at = 0;
     let mut j: usize = 0;
     while at < s.len() {
-        let e = fields::piece_end(s, at, AND);
+        let e = fields::piece_end(s, at, Bytes::AMPERSAND);
         let piece = &s[at..e];
         if (inf_number(piece) as usize) != j {
             return false;
         }
         let tail = inf_tail(piece);
-        if fields::is_only(tail, FEED) {
+        if fields::is_only(tail, Bytes::FEED) {
             return j + 1 == (k as usize);
         }
-        if !fields::is_only(tail, AND) {
+        if !fields::is_only(tail, Bytes::AMPERSAND) {
             return false;
         }
         at = e;
@@ -172,28 +196,28 @@ fn is_acceptance(line: &[u8]) -> bool
 
 // The number of modes of a text.
 pub fn modes_of(text: &[u8]) -> u32
-    ensures { λ r. ⌜ r ≡ modesOf (split 10 (now (text .entry))) ⌝ }
+    ensures { λ r. ⌜ r ≡ modesOf (linesOf (now (text .entry))) ⌝ }
 {
     fields::line_number(text, 1, b"States: ")
 }
 
 // The start mode of a text.
 pub fn start_of(text: &[u8]) -> u32
-    ensures { λ r. ⌜ r ≡ startOf (split 10 (now (text .entry))) ⌝ }
+    ensures { λ r. ⌜ r ≡ startOf (linesOf (now (text .entry))) ⌝ }
 {
     fields::line_number(text, 2, b"Start: ")
 }
 
 // The number of colours of a text.
 pub fn colours_of(text: &[u8]) -> u32
-    ensures { λ r. ⌜ r ≡ coloursOf (split 10 (now (text .entry))) ⌝ }
+    ensures { λ r. ⌜ r ≡ coloursOf (linesOf (now (text .entry))) ⌝ }
 {
     fields::line_number(text, 4, b"Acceptance: ")
 }
 
 // The first of the lines before the body that is outside the forms, from 1; 0 where there is none.
 fn head_wrong(text: &[u8]) -> usize
-    ensures { λ r. ⌜ r ≡ headWrong (split 10 (now (text .entry))) ⌝ }
+    ensures { λ r. ⌜ r ≡ headWrong (linesOf (now (text .entry))) ⌝ }
 {
     if !fields::is_word_line(text, 0, b"HOA: v1") {
         return 1;
@@ -228,7 +252,7 @@ fn opens(line: &[u8], mode: u32) -> bool
 
 // Whether a mode has a block in the first lines of a body.
 fn has_block(body: &[u8], count: usize, mode: u32) -> bool
-    ensures { λ r. ⌜ r ≡ hasBlock mode (take count (split 10 (now (body .entry)))) ⌝ }
+    ensures { λ r. ⌜ r ≡ hasBlock mode (take count (linesOf (now (body .entry)))) ⌝ }
 {
     let mut at = 0;
     let mut j = 0;
@@ -236,7 +260,7 @@ fn has_block(body: &[u8], count: usize, mode: u32) -> bool
         if at >= body.len() {
             return false;
         }
-        let e = fields::piece_end(body, at, FEED);
+        let e = fields::piece_end(body, at, Bytes::FEED);
         if opens(&body[at..e], mode) {
             return true;
         }
@@ -248,7 +272,7 @@ fn has_block(body: &[u8], count: usize, mode: u32) -> bool
 
 // Whether a line opens the block of a mode that has none in the first lines of a body.
 fn is_new_block(body: &[u8], count: usize, line: &[u8], n: u32) -> bool
-    ensures { λ r. ⌜ r ≡ isNewBlock n (take count (split 10 (now (body .entry)))) (now (line .entry)) ⌝ }
+    ensures { λ r. ⌜ r ≡ isNewBlock n (take count (linesOf (now (body .entry)))) (now (line .entry)) ⌝ }
 {
     if !is_state(line) {
         return false;
@@ -262,8 +286,8 @@ fn is_new_block(body: &[u8], count: usize, line: &[u8], n: u32) -> bool
 
 // Whether a line may stand after the first lines of a body.
 fn may_stand(body: &[u8], count: usize, line: &[u8], n: u32, k: u32) -> bool
-    requires { ⌜ count ≤ length (split 10 (now body)) ⌝ }
-    ensures { λ r. ⌜ r ≡ mayStand n k (take count (split 10 (now (body .entry)))) (now (line .entry)) ⌝ }
+    requires { ⌜ count ≤ length (linesOf (now body)) ⌝ }
+    ensures { λ r. ⌜ r ≡ mayStand n k (take count (linesOf (now (body .entry)))) (now (line .entry)) ⌝ }
 {
     if is_new_block(body, count, line, n) {
         return true;
@@ -283,12 +307,12 @@ pub fn is_end(line: &[u8]) -> bool
 
 // The first line of a body that is outside the forms, from 1 over the whole text; 0 where there is none.
 fn body_wrong(body: &[u8], n: u32, k: u32) -> usize
-    ensures { λ r. ⌜ r ≡ bodyWrong n k [] (split 10 (now (body .entry))) ⌝ }
+    ensures { λ r. ⌜ r ≡ bodyWrong n k [] (linesOf (now (body .entry))) ⌝ }
 {
     let mut at = 0;
     let mut j = 0;
     while at < body.len() {
-        let e = fields::piece_end(body, at, FEED);
+        let e = fields::piece_end(body, at, Bytes::FEED);
         let line = &body[at..e];
         if is_end(line) {
             if e < body.len() {
@@ -307,7 +331,7 @@ fn body_wrong(body: &[u8], n: u32, k: u32) -> usize
 
 // The first line of a text that is outside the forms, from 1; 0 where there is none.
 pub fn hoa_wrong(text: &[u8]) -> usize
-    ensures { λ r. ⌜ r ≡ hoaWrong (split 10 (now (text .entry))) ⌝ }
+    ensures { λ r. ⌜ r ≡ hoaWrong (linesOf (now (text .entry))) ⌝ }
 {
     let head = head_wrong(text);
     if head != 0 {
@@ -321,11 +345,11 @@ pub fn hoa_wrong(text: &[u8]) -> usize
 
 // Whether a colour stands among the pieces of a list.
 fn in_pieces(s: &[u8], colour: u32) -> bool
-    ensures { λ r. ⌜ r ≡ contains colour (map numberOf (split 32 (now (s .entry)))) ⌝ }
+    ensures { λ r. ⌜ r ≡ contains colour (map numberOf (split blank (now (s .entry)))) ⌝ }
 {
     let mut at = 0;
     while at < s.len() {
-        let e = fields::piece_end(s, at, BLANK);
+        let e = fields::piece_end(s, at, Bytes::BLANK);
         if colour == fields::number_of(&s[at..e]) {
             return true;
         }

@@ -5,6 +5,7 @@ use native.Mathlib.Omega.{arith}
 use lib.ListN.{length, take, drop}
 use borrow.Author.Tests.{not-true, not-false}
 use borrow.Author.Needs.{needs}
+use Rattle.fields.specs.Bytes.{blank}
 use Rattle.fields.specs.Fields.{split}
 use Rattle.fields.proofs.Pieces.{end-bounds}
 use Rattle.hoa.specs.Lines.{areColours}
@@ -13,7 +14,7 @@ use Rattle.hoa.proofs.are_colours.Statement.{statement}
 use Rattle.hoa.proofs.are_colours.Tie as tie
 
 abbrev Inv-loop : tie.InvT-loop
-Inv-loop s k at₀ at = (at ≤ length s) × (areColours k (split 32 s) ≡ areColours k (split 32 (drop at s)))
+Inv-loop s k at₀ at = (at ≤ length s) × (areColours k (split blank s) ≡ areColours k (split blank (drop at s)))
 
 abbrev μ-loop : tie.MeasureT-loop
 μ-loop s k at₀ at = length s - at
@@ -33,7 +34,7 @@ part-piece-start c = search needs
 part-piece-end : tie.Need-part-piece-end Inv-loop μ-loop
 part-piece-end c =
     let a = c .before .before .before .before .args in
-    omega (arith, end-bounds 32 (a .s .now) (c .before .before .loop .at) (c .piece-end .result) (omega arith) (c .piece-end .ensures))
+    omega (arith, end-bounds blank (a .s .now) (c .before .before .loop .at) (c .piece-end .result) (omega arith) (c .piece-end .ensures))
 
 number-of-requires : tie.Need-number-of-requires Inv-loop μ-loop
 number-of-requires c κs = search needs
@@ -93,7 +94,7 @@ loop-less c =
     let f = g .before .before .before in
     let d = f .before .before in
     let a = d .before .before .args in
-    omega (arith, end-bounds 32 (a .s .now) (d .loop .at) (f .piece-end .result) (omega arith) (f .piece-end .ensures))
+    omega (arith, end-bounds blank (a .s .now) (d .loop .at) (f .piece-end .result) (omega arith) (f .piece-end .ensures))
 
 loop-again : tie.Need-loop-again Inv-loop μ-loop
 loop-again c =
@@ -106,7 +107,7 @@ loop-again c =
     let e = f .piece-end .result in
     let p = take (e - at) (drop at s) in
     let tail = c .before .before .before .before .after-number .ensures in (
-      omega (arith, end-bounds 32 (a .s .now) (d .loop .at) (f .piece-end .result) (omega arith) (f .piece-end .ensures)),
+      omega (arith, end-bounds blank (a .s .now) (d .loop .at) (f .piece-end .result) (omega arith) (f .piece-end .ensures)),
       d .loop .inv .1 ∙ colours-at (a .k) s at e (omega arith) (f .piece-end .ensures)
           ∙ turn-more (a .k) p _ (omega arith) (rw tail at (sym (c .before .before .before .closes .ensures) ∙ c .before .before .if2 .left))
           (rw tail at (sym (c .before .is-only .ensures) ∙ not-false _ (c .if3 .left))),

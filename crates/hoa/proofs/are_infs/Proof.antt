@@ -7,6 +7,7 @@ use lib.ListN.{length, take, drop}
 use borrow.Author.Tests.{not-true, not-false}
 use borrow.Author.Needs.{needs}
 use Rattle.fields.proofs.Pieces.{end-bounds}
+use Rattle.fields.specs.Bytes.{ampersand}
 use Rattle.fields.specs.Fields.{split}
 use Rattle.hoa.specs.Lines.{areInfs}
 use Rattle.hoa.proofs.Infs.{infs-at, infs-end, turn-other, turn-last, turn-wrong, turn-more}
@@ -14,7 +15,7 @@ use Rattle.hoa.proofs.are_infs.Statement.{statement}
 use Rattle.hoa.proofs.are_infs.Tie as tie
 
 abbrev Inv-loop : tie.InvT-loop
-Inv-loop s k at₀ j₀ at j = (at ≤ length s) × (j ≤ at) × (areInfs k 0 (split 38 s) ≡ areInfs k j (split 38 (drop at s)))
+Inv-loop s k at₀ j₀ at j = (at ≤ length s) × (j ≤ at) × (areInfs k 0 (split ampersand s) ≡ areInfs k j (split ampersand (drop at s)))
 
 abbrev μ-loop : tie.MeasureT-loop
 μ-loop s k at₀ j₀ at j = length s - at
@@ -34,7 +35,7 @@ part-piece-start c = search needs
 part-piece-end : tie.Need-part-piece-end Inv-loop μ-loop
 part-piece-end c =
     let d = c .before .before in
-    omega (arith, end-bounds 38 (d .before .before .args .s .now) (d .loop .at) (c .piece-end .result) (omega arith) (c .piece-end .ensures))
+    omega (arith, end-bounds ampersand (d .before .before .args .s .now) (d .loop .at) (c .piece-end .result) (omega arith) (c .piece-end .ensures))
 
 inf-number-requires : tie.Need-inf-number-requires Inv-loop μ-loop
 inf-number-requires c κs = search needs
@@ -103,7 +104,7 @@ loop-less : tie.Need-loop-less Inv-loop μ-loop
 loop-less c =
     let f = c .before .before .before .before .before .before .before .before in
     let d = f .before .before in
-    omega (arith, end-bounds 38 (d .before .before .args .s .now) (d .loop .at) (f .piece-end .result) (omega arith) (f .piece-end .ensures))
+    omega (arith, end-bounds ampersand (d .before .before .args .s .now) (d .loop .at) (f .piece-end .result) (omega arith) (f .piece-end .ensures))
 
 loop-again : tie.Need-loop-again Inv-loop μ-loop
 loop-again c =
@@ -117,7 +118,7 @@ loop-again c =
     let p = take (e - at) (drop at s) in
     let tail = c .before .before .before .before .inf-tail .ensures in
     let j = d .loop .j in
-    let (low, high) = end-bounds 38 s at e (omega arith) (f .piece-end .ensures) in (
+    let (low, high) = end-bounds ampersand s at e (omega arith) (f .piece-end .ensures) in (
       high,
       omega arith,
       rw (add-one j) (d .loop .inv .2 ∙ infs-at (a .k) j s at e (omega arith) (f .piece-end .ensures)

@@ -9,14 +9,15 @@ use borrow.Author.Tests.{not-true, not-false}
 use borrow.Author.Needs.{needs}
 use Rattle.fields.proofs.Places.{at-first, line-here, line-next, line-none}
 use Rattle.fields.proofs.Pieces.{end-bounds, split-at}
-use Rattle.fields.specs.Fields.{split, LineAt}
+use Rattle.fields.specs.Bytes.{feed}
+use Rattle.fields.specs.Fields.{LineAt, linesOf}
 use Rattle.hoa.specs.Text.{bodyWrong}
 use Rattle.hoa.proofs.Bodies.{lines-left, lines-over, body-ends, body-more, body-done, body-stops, body-goes}
 use Rattle.hoa.proofs.body_wrong.Statement.{statement}
 use Rattle.hoa.proofs.body_wrong.Tie as tie
 
 abbrev Inv-loop : tie.InvT-loop
-Inv-loop body n k at₀ j₀ at j = (j ≤ at) × (j ≤ length (split 10 body)) × LineAt body at j × (bodyWrong n k [] (split 10 body) ≡ bodyWrong n k (take j (split 10 body)) (drop j (split 10 body)))
+Inv-loop body n k at₀ j₀ at j = (j ≤ at) × (j ≤ length (linesOf body)) × LineAt body at j × (bodyWrong n k [] (linesOf body) ≡ bodyWrong n k (take j (linesOf body)) (drop j (linesOf body)))
 
 abbrev μ-loop : tie.MeasureT-loop
 μ-loop body n k at₀ j₀ at j = length body - at
@@ -36,7 +37,7 @@ part-line-start c = search needs
 part-line-end : tie.Need-part-line-end Inv-loop μ-loop
 part-line-end c =
     let d = c .before .before in
-    omega (arith, end-bounds 10 (d .before .before .args .body .now) (d .loop .at) (c .piece-end .result) (omega arith) (c .piece-end .ensures))
+    omega (arith, end-bounds feed (d .before .before .args .body .now) (d .loop .at) (c .piece-end .result) (omega arith) (c .piece-end .ensures))
 
 is-end-requires : tie.Need-is-end-requires Inv-loop μ-loop
 is-end-requires c κs = search needs
@@ -51,8 +52,8 @@ returns c =
     let a = d .before .before .args in
     let s = a .body .now in
     let inv = d .loop .inv in
-    let here = sym (inv .2 .lines) ∙ split-at 10 s (d .loop .at) (f .piece-end .result) (omega arith) (f .piece-end .ensures) in
-    sym (inv .3 ∙ body-more (a .n) (a .k) (d .loop .j) (split 10 s) (inv .1) _ _ here (sym (c .before .before .is-end .ensures) ∙ c .before .if1 .taken)
+    let here = sym (inv .2 .lines) ∙ split-at feed s (d .loop .at) (f .piece-end .result) (omega arith) (f .piece-end .ensures) in
+    sym (inv .3 ∙ body-more (a .n) (a .k) (d .loop .j) (linesOf s) (inv .1) _ _ here (sym (c .before .before .is-end .ensures) ∙ c .before .if1 .taken)
     (lines-left s (f .piece-end .result) (c .if2 .taken)))
 
 returns-2 : tie.Need-returns-2 Inv-loop μ-loop
@@ -62,8 +63,8 @@ returns-2 c =
     let a = d .before .before .args in
     let s = a .body .now in
     let inv = d .loop .inv in
-    let here = sym (inv .2 .lines) ∙ split-at 10 s (d .loop .at) (f .piece-end .result) (omega arith) (f .piece-end .ensures) in
-    sym (inv .3 ∙ body-done (a .n) (a .k) (d .loop .j) (split 10 s) (inv .1) _ _ here (sym (c .before .before .is-end .ensures) ∙ c .before .if1 .taken)
+    let here = sym (inv .2 .lines) ∙ split-at feed s (d .loop .at) (f .piece-end .result) (omega arith) (f .piece-end .ensures) in
+    sym (inv .3 ∙ body-done (a .n) (a .k) (d .loop .j) (linesOf s) (inv .1) _ _ here (sym (c .before .before .is-end .ensures) ∙ c .before .if1 .taken)
     (lines-over s (f .piece-end .result) (c .if2 .left)))
 
 may-stand-requires : tie.Need-may-stand-requires Inv-loop μ-loop
@@ -80,8 +81,8 @@ returns-3 c =
     let a = d .before .before .args in
     let s = a .body .now in
     let inv = d .loop .inv in
-    let here = sym (inv .2 .lines) ∙ split-at 10 s (d .loop .at) (f .piece-end .result) (omega arith) (f .piece-end .ensures) in
-    sym (inv .3 ∙ body-stops (a .n) (a .k) (d .loop .j) (split 10 s) (inv .1) _ _ here (sym (g .before .is-end .ensures) ∙ g .if1 .left)
+    let here = sym (inv .2 .lines) ∙ split-at feed s (d .loop .at) (f .piece-end .result) (omega arith) (f .piece-end .ensures) in
+    sym (inv .3 ∙ body-stops (a .n) (a .k) (d .loop .j) (linesOf s) (inv .1) _ _ here (sym (g .before .is-end .ensures) ∙ g .if1 .left)
     (sym (c .before .may-stand .ensures) ∙ not-true _ (c .if3 .taken)))
 
 add-j : tie.Need-add-j Inv-loop μ-loop
@@ -91,7 +92,7 @@ loop-less : tie.Need-loop-less Inv-loop μ-loop
 loop-less c =
     let f = c .before .before .before .before .before in
     let d = f .before .before in
-    omega (arith, end-bounds 10 (d .before .before .args .body .now) (d .loop .at) (f .piece-end .result) (omega arith) (f .piece-end .ensures))
+    omega (arith, end-bounds feed (d .before .before .args .body .now) (d .loop .at) (f .piece-end .result) (omega arith) (f .piece-end .ensures))
 
 loop-again : tie.Need-loop-again Inv-loop μ-loop
 loop-again c =
@@ -103,12 +104,12 @@ loop-again c =
     let inv = d .loop .inv in
     let j = d .loop .j in
     let e = f .piece-end .result in
-    let here = sym (inv .2 .lines) ∙ split-at 10 s (d .loop .at) e (omega arith) (f .piece-end .ensures) in
+    let here = sym (inv .2 .lines) ∙ split-at feed s (d .loop .at) e (omega arith) (f .piece-end .ensures) in
     let b = line-here s (d .loop .at) j e (inv .2) (omega arith) (f .piece-end .ensures) in (
-      omega (arith, end-bounds 10 s (d .loop .at) e (omega arith) (f .piece-end .ensures)),
+      omega (arith, end-bounds feed s (d .loop .at) e (omega arith) (f .piece-end .ensures)),
       omega (arith, b .within),
       rw (add-one j) (line-next s (d .loop .at) j e (inv .2) (omega arith) (f .piece-end .ensures)),
-      rw (add-one j) (inv .3 ∙ body-goes (a .n) (a .k) j (split 10 s) (inv .1) _ _ here (sym (g .before .is-end .ensures) ∙ g .if1 .left)
+      rw (add-one j) (inv .3 ∙ body-goes (a .n) (a .k) j (linesOf s) (inv .1) _ _ here (sym (g .before .is-end .ensures) ∙ g .if1 .left)
           (sym (c .before .may-stand .ensures) ∙ not-false _ (c .if3 .left)) b),
     )
 
@@ -121,7 +122,7 @@ returns-4 c =
     let a = d .before .before .args in
     let s = a .body .now in
     let inv = d .loop .inv in
-    sym (inv .3 ∙ body-ends (a .n) (a .k) (d .loop .j) (split 10 s) (inv .1) (line-none s (d .loop .at) (d .loop .j) (inv .2) (omega arith)))
+    sym (inv .3 ∙ body-ends (a .n) (a .k) (d .loop .j) (linesOf s) (inv .1) (line-none s (d .loop .at) (d .loop .j) (inv .2) (omega arith)))
 
 pub body-wrong-spec : {M : Type 1} → statement M
 body-wrong-spec =

@@ -2,7 +2,7 @@
 use mathlib.Core.Path.{ap, _∙_}
 use borrow.Author.Needs.{needs}
 use Rattle.fields.specs.Fields.{afterWord}
-use Rattle.hoa.specs.Words.{blank}
+use Rattle.hoa.specs.Words.{blankWord}
 use Rattle.hoa.proofs.condition_of.Statement.{statement}
 use Rattle.hoa.proofs.condition_of.Tie as tie
 
@@ -19,7 +19,7 @@ after-word-requires : tie.Need-after-word-requires
 after-word-requires c κs = search needs
 
 returns : tie.Need-returns
-returns c = c .after-word .ensures ∙ ap (afterWord blank) (c .before .before .tail-after .ensures)
+returns c = c .after-word .ensures ∙ ap (afterWord blankWord) (c .before .before .tail-after .ensures)
 
 pub condition-of-spec : {M : Type 1} → statement M
 condition-of-spec =

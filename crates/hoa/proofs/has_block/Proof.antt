@@ -7,14 +7,15 @@ use lib.ListN.{take, drop}
 use borrow.Author.Needs.{needs}
 use Rattle.fields.proofs.Places.{at-first, line-here, line-next, lines-spent}
 use Rattle.fields.proofs.Pieces.{end-bounds}
-use Rattle.fields.specs.Fields.{split, LineAt}
+use Rattle.fields.specs.Bytes.{feed}
+use Rattle.fields.specs.Fields.{LineAt, linesOf}
 use Rattle.hoa.specs.Text.{hasBlock}
 use Rattle.hoa.proofs.Blocks.{block-all, block-spent, block-turn}
 use Rattle.hoa.proofs.has_block.Statement.{statement}
 use Rattle.hoa.proofs.has_block.Tie as tie
 
 abbrev Inv-loop : tie.InvT-loop
-Inv-loop body count mode at₀ j₀ at j = (j ≤ count) × LineAt body at j × (hasBlock mode (take count (split 10 body)) ≡ hasBlock mode (drop j (take count (split 10 body))))
+Inv-loop body count mode at₀ j₀ at j = (j ≤ count) × LineAt body at j × (hasBlock mode (take count (linesOf body)) ≡ hasBlock mode (drop j (take count (linesOf body))))
 
 abbrev μ-loop : tie.MeasureT-loop
 μ-loop body count mode at₀ j₀ at j = count - j
@@ -27,7 +28,7 @@ returns c =
     let d = c .before .before in
     let a = d .before .before .args in
     let s = a .body .now in
-    sym (d .loop .inv .2 ∙ block-spent (a .mode) (a .count) (d .loop .j) (split 10 s) (lines-spent s (d .loop .at) (d .loop .j) (d .loop .inv .1) (omega arith)))
+    sym (d .loop .inv .2 ∙ block-spent (a .mode) (a .count) (d .loop .j) (linesOf s) (lines-spent s (d .loop .at) (d .loop .j) (d .loop .inv .1) (omega arith)))
 
 piece-end-requires : tie.Need-piece-end-requires Inv-loop μ-loop
 piece-end-requires c κs = search needs
@@ -41,7 +42,7 @@ part-opens-start c = search needs
 part-opens-end : tie.Need-part-opens-end Inv-loop μ-loop
 part-opens-end c =
     let d = c .before .before .before in
-    omega (arith, end-bounds 10 (d .before .before .args .body .now) (d .loop .at) (c .piece-end .result) (omega arith) (c .piece-end .ensures))
+    omega (arith, end-bounds feed (d .before .before .args .body .now) (d .loop .at) (c .piece-end .result) (omega arith) (c .piece-end .ensures))
 
 opens-requires : tie.Need-opens-requires Inv-loop μ-loop
 opens-requires c κs = search needs
@@ -53,7 +54,7 @@ returns-2 c =
     let a = d .before .before .args in
     let s = a .body .now in
     let here = line-here s (d .loop .at) (d .loop .j) (f .piece-end .result) (d .loop .inv .1) (omega arith) (f .piece-end .ensures) in
-    sym (d .loop .inv .2 ∙ block-turn (a .mode) (a .count) (d .loop .j) (split 10 s) _ _ (omega arith) here ∙ simp (sym (c .before .opens .ensures) ∙ c .if2 .taken))
+    sym (d .loop .inv .2 ∙ block-turn (a .mode) (a .count) (d .loop .j) (linesOf s) _ _ (omega arith) here ∙ simp (sym (c .before .opens .ensures) ∙ c .if2 .taken))
 
 add-j : tie.Need-add-j Inv-loop μ-loop
 add-j c = search needs
@@ -71,14 +72,14 @@ loop-again c =
     let here = line-here s (d .loop .at) j (f .piece-end .result) (d .loop .inv .1) (omega arith) (f .piece-end .ensures) in (
       omega arith,
       rw (add-one j) (line-next s (d .loop .at) j (f .piece-end .result) (d .loop .inv .1) (omega arith) (f .piece-end .ensures)),
-      rw (add-one j) (d .loop .inv .2 ∙ block-turn (a .mode) (a .count) j (split 10 s) _ _ (omega arith) here ∙ simp (sym (c .before .opens .ensures) ∙ c .if2 .left)),
+      rw (add-one j) (d .loop .inv .2 ∙ block-turn (a .mode) (a .count) j (linesOf s) _ _ (omega arith) here ∙ simp (sym (c .before .opens .ensures) ∙ c .if2 .left)),
     )
 
 returns-3 : tie.Need-returns-3 Inv-loop μ-loop
 returns-3 c =
     let d = c .before in
     let a = d .before .before .args in
-    sym (d .loop .inv .2 ∙ block-all (a .mode) (a .count) (d .loop .j) (split 10 (a .body .now)) (omega arith))
+    sym (d .loop .inv .2 ∙ block-all (a .mode) (a .count) (d .loop .j) (linesOf (a .body .now)) (omega arith))
 
 pub has-block-spec : {M : Type 1} → statement M
 has-block-spec =

@@ -7,6 +7,7 @@ use lib.ListN.{length, drop}
 use borrow.Author.Tests.{eq-eqb, ne-eqb}
 use borrow.Author.Needs.{needs}
 use Rattle.fields.proofs.Pieces.{end-bounds}
+use Rattle.fields.specs.Bytes.{blank}
 use Rattle.fields.specs.Fields.{numberOf, split}
 use Rattle.hoa.specs.Text.{contains}
 use Rattle.hoa.proofs.Colours.{contains-at, contains-end}
@@ -14,7 +15,7 @@ use Rattle.hoa.proofs.in_pieces.Statement.{statement}
 use Rattle.hoa.proofs.in_pieces.Tie as tie
 
 abbrev Inv-loop : tie.InvT-loop
-Inv-loop s colour at₀ at = (at ≤ length s) × (contains colour (map numberOf (split 32 s)) ≡ contains colour (map numberOf (split 32 (drop at s))))
+Inv-loop s colour at₀ at = (at ≤ length s) × (contains colour (map numberOf (split blank s)) ≡ contains colour (map numberOf (split blank (drop at s))))
 
 abbrev μ-loop : tie.MeasureT-loop
 μ-loop s colour at₀ at = length s - at
@@ -34,7 +35,7 @@ part-number-of-start c = search needs
 part-number-of-end : tie.Need-part-number-of-end Inv-loop μ-loop
 part-number-of-end c =
     let d = c .before .before in
-    omega (arith, end-bounds 32 (d .before .before .args .s .now) (d .loop .at) (c .piece-end .result) (omega arith) (c .piece-end .ensures))
+    omega (arith, end-bounds blank (d .before .before .args .s .now) (d .loop .at) (c .piece-end .result) (omega arith) (c .piece-end .ensures))
 
 number-of-requires : tie.Need-number-of-requires Inv-loop μ-loop
 number-of-requires c κs = search needs
@@ -52,7 +53,7 @@ loop-less : tie.Need-loop-less Inv-loop μ-loop
 loop-less c =
     let f = c .before .before .before in
     let d = f .before .before in
-    omega (arith, end-bounds 32 (d .before .before .args .s .now) (d .loop .at) (f .piece-end .result) (omega arith) (f .piece-end .ensures))
+    omega (arith, end-bounds blank (d .before .before .args .s .now) (d .loop .at) (f .piece-end .result) (omega arith) (f .piece-end .ensures))
 
 loop-again : tie.Need-loop-again Inv-loop μ-loop
 loop-again c =
@@ -60,7 +61,7 @@ loop-again c =
     let d = f .before .before in
     let a = d .before .before .args in
     let s = a .s .now in
-    let (low, high) = end-bounds 32 s (d .loop .at) (f .piece-end .result) (omega arith) (f .piece-end .ensures) in (
+    let (low, high) = end-bounds blank s (d .loop .at) (f .piece-end .result) (omega arith) (f .piece-end .ensures) in (
       high,
       d .loop .inv .1 ∙ contains-at (a .colour) s (d .loop .at) (f .piece-end .result) (omega arith) (f .piece-end .ensures)
           ∙ rw (ne-eqb _ _ (λ z. c .if1 .left (z ∙ sym (c .before .number-of .ensures)))),

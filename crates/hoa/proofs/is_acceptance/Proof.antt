@@ -4,6 +4,7 @@ use mathlib.Core.Path.{ap, _∙_}
 use Prim.Native.Nat.{ℕ}
 use borrow.Author.Tests.{eq-eqb, ne-eqb}
 use borrow.Author.Needs.{needs}
+use Rattle.fields.specs.Bytes.{ampersand}
 use Rattle.fields.specs.Fields.{isWord, split}
 use Rattle.hoa.specs.Lines.{isAcceptance, areInfs}
 use Rattle.hoa.specs.Words.{trueWord}
@@ -35,7 +36,7 @@ returns-2 : tie.Need-returns-2
 unfolding isAcceptance
 returns-2 c =
     let d = c .before in
-    simp (← (d .before .before .colour-count .ensures), ne-eqb _ _ (d .if1 .left)) (c .are-infs .ensures ∙ ap (λ (l : List ℕ). areInfs (d .before .before .colour-count .result) 0 (split 38 l)) (d .before .condition-of .ensures))
+    simp (← (d .before .before .colour-count .ensures), ne-eqb _ _ (d .if1 .left)) (c .are-infs .ensures ∙ ap (λ (l : List ℕ). areInfs (d .before .before .colour-count .result) 0 (split ampersand l)) (d .before .condition-of .ensures))
 
 pub is-acceptance-spec : {M : Type 1} → statement M
 is-acceptance-spec =

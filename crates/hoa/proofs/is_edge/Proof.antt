@@ -2,6 +2,7 @@
 use mathlib.Core.Path.{sym, ap, _∙_}
 use borrow.Author.Tests.{le-ltb, lt-ltb}
 use borrow.Author.Needs.{needs}
+use Rattle.fields.specs.Bytes.{feed}
 use Rattle.fields.specs.Fields.{isOnly}
 use Rattle.hoa.specs.Lines.{isEdge, isBraces}
 use Rattle.hoa.proofs.is_edge.Statement.{statement}
@@ -24,7 +25,7 @@ returns-2 : tie.Need-returns-2
 unfolding isEdge
 returns-2 c =
     let d = c .before .before .before in
-    let fed = sym (c .before .is-only .ensures ∙ ap (isOnly 10) (c .before .before .target-tail .ensures)) ∙ c .if2 .taken in
+    let fed = sym (c .before .is-only .ensures ∙ ap (isOnly feed) (c .before .before .target-tail .ensures)) ∙ c .if2 .taken in
     simp (← (d .before .target-of .ensures), lt-ltb _ _ (d .if1 .left), fed)
 
 inside-of-requires : tie.Need-inside-of-requires
@@ -38,7 +39,7 @@ unfolding isEdge
 returns-3 c =
     let g = c .before .before in
     let d = g .before .before .before in
-    let fed = sym (g .before .is-only .ensures ∙ ap (isOnly 10) (g .before .before .target-tail .ensures)) ∙ g .if2 .left in
+    let fed = sym (g .before .is-only .ensures ∙ ap (isOnly feed) (g .before .before .target-tail .ensures)) ∙ g .if2 .left in
     simp (← (d .before .target-of .ensures), lt-ltb _ _ (d .if1 .left), fed) (c .is-braces .ensures ∙ ap (isBraces _) (c .before .inside-of .ensures))
 
 pub is-edge-spec : {M : Type 1} → statement M
