@@ -20,28 +20,28 @@ use Rattle.model.specs.Fitness.{ArcFits, unfitArc, arcsVerdict}
 use Rattle.model.proofs.Bits.{colours-below}
 use Rattle.fields.proofs.Numbers.{both}
 use Rattle.hoa.specs.Text.{Edge, contains, colourByte}
-use Rattle.hoa.proofs.Edges.{Below, EdgeFits, EdgesFit}
+use Rattle.hoa.specs.Edges.{Below, EdgeFits, EdgesFit}
 use Rattle.dimacs.specs.Lines.{weightOn}
 use Rattle.dimacs.specs.Text.{TextArc, textArcOn}
 use Rattle.reading.specs.Agreement.{sameEnds, allSame}
 use Rattle.reading.specs.ModelRead.{arcRead, arcsRead}
 use Rattle.reading.specs.Within.{weightsVerdict, Narrow}
 
--- texts that agree have as many edges as `a` lines
-pub same-length : (es : List Edge) (as : List TextArc) → allSame es as ≡ true → length es ≡ length as
+-- texts that agree have ts many edges ts `a` lines
+pub same-length : (es : List Edge) (ts : List TextArc) → allSame es ts ≡ true → length es ≡ length ts
 unfolding allSame
 same-length [] [] e = refl
-same-length [] (a ∷ as) e = clash (cc)
+same-length [] (a ∷ ts) e = clash (cc)
 same-length (x ∷ es) [] e = clash (cc)
-same-length (x ∷ es) (a ∷ as) e = ap {B = ℕ} suc (same-length es as (both (sameEnds x a) (allSame es as) e .1))
+same-length (x ∷ es) (a ∷ ts) e = ap {B = ℕ} suc (same-length es ts (both (sameEnds x a) (allSame es ts) e .1))
 
--- and as many arcs
-pub read-length : (es : List Edge) (as : List TextArc) → length es ≡ length as → length (arcsRead es as) ≡ length as
+-- and ts many arcs
+pub read-length : (es : List Edge) (ts : List TextArc) → length es ≡ length ts → length (arcsRead es ts) ≡ length ts
 unfolding arcsRead
 read-length [] [] e = refl
-read-length [] (a ∷ as) e = absurd (omega arith)
+read-length [] (a ∷ ts) e = absurd (omega arith)
 read-length (x ∷ es) [] e = absurd (omega arith)
-read-length (x ∷ es) (a ∷ as) e = ap {B = ℕ} suc (read-length es as (omega arith))
+read-length (x ∷ es) (a ∷ ts) e = ap {B = ℕ} suc (read-length es ts (omega arith))
 
 -- a byte of four bits
 byte-bits : (p q r s : Bool) → (x : ℕ) × (x ≡ cond p 1 0 + cond q 2 0 + cond r 4 0 + cond s 8 0)
@@ -112,7 +112,7 @@ module _ (n k : ℕ) (e : Edge) (a : TextArc) (fits : EdgeFits n k e) where
 -- 5 of the arcs that are read is that of the `a` lines
 pub weights-five : (n k : ℕ) (es : List Edge) (ls : List (List ℕ)) (i : ℕ) → length es ≡ length ls → EdgesFit n k es
     → arcsVerdict n (2 ^ k) (arcsRead es (map textArcOn ls)) i ≡ weightsVerdict ls i
-unfolding arcsRead arcsVerdict weightsVerdict
+unfolding arcsRead arcsVerdict weightsVerdict isHeavy
 weights-five n k [] [] i e f = refl
 weights-five n k [] (l ∷ ls) i e f = absurd (omega arith)
 weights-five n k (x ∷ es) [] i e f = absurd (omega arith)

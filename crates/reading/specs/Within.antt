@@ -1,7 +1,7 @@
 -- What the functions within promise each other, and what they are given.
 use Prim.Native.Nat.{ℕ, suc, _-_, _≤_}
 use mathlib.Core.Path.{_≡_}
-use mathlib.Core.Bool.{cond, _||_}
+use mathlib.Core.Bool.{Bool, cond, _||_}
 use mathlib.Core.List.{List, [], _∷_}
 use lib.Dec.{ltb}
 use lib.ListN.{length, take, drop}
@@ -35,11 +35,14 @@ pub record IsNext (text : List ℕ) (start mode : ℕ) (r : Next) : Type 0 where
   pub edges : edgesFrom mode (linesOf (drop start text))
       ≡ cond (r .found) (edgeOn (r .source) (take (r .to - r .from) (drop (r .from) text)) ∷ edgesFrom (r .source) (linesOf (drop (r .to) text))) []
 
--- 5 of `a` lines, of which the first is line i: a weight outside its range. Of an arc that is read nothing else can be unfit (law weights-five).
+-- the weight on an `a` line is outside its range
+unfoldable pub isHeavy : List ℕ → Bool
+isHeavy l = ltb drawMost (drawOf (weightOn l)) || ltb gainMost (gainOf (weightOn l))
+
+-- 5 of `a` lines, of which the first is line i: nothing else of an arc that is read can be unfit (law weights-five)
 unfoldable pub weightsVerdict : List (List ℕ) → ℕ → Verdict
 weightsVerdict [] i = Yes
-weightsVerdict (l ∷ ls) i =
-    refuse (ltb drawMost (drawOf (weightOn l)) || ltb gainMost (gainOf (weightOn l))) (UnfitArc i) (weightsVerdict ls (suc i))
+weightsVerdict (l ∷ ls) i = refuse (isHeavy l) (UnfitArc i) (weightsVerdict ls (suc i))
 
 -- what is answered of a model of HOA text with m arcs that is read
 abbrev pub readBy : List (List ℕ) → ℕ → Reading
@@ -51,7 +54,7 @@ Narrow [] = Unit
 Narrow (a ∷ l) = (a .source ≤ 255) × (a .target ≤ 255) × (a .draw ≤ 65535) × (a .gain ≤ 65535) × Narrow l
 
 -- as many edges as `a` lines, whose arcs are narrow, and lists that take them
-pub record Fillable (es : List Edge) (as : List TextArc) (l : Lists) : Type 0 where
-  pub equal : length es ≡ length as
-  pub narrow : Narrow (arcsRead es as)
-  pub room : length as ≤ roomIn l
+pub record Fillable (es : List Edge) (ts : List TextArc) (l : Lists) : Type 0 where
+  pub equal : length es ≡ length ts
+  pub narrow : Narrow (arcsRead es ts)
+  pub room : length ts ≤ roomIn l

@@ -16,7 +16,7 @@ ghost use Rattle.dimacs.specs.Text.{textArcOn};
 ghost use Rattle.reading.specs.Agreement.{sameEnds, allSame};
 ghost use Rattle.reading.specs.ModelRead.{arcsRead};
 ghost use Rattle.reading.specs.Reading.{noRoom, readable, refusedBy, writtenFrom, readOf, readAnswer, listsRead};
-ghost use Rattle.reading.specs.Within.{edgeOn, IsNext, weightsVerdict, Fillable, readBy};
+ghost use Rattle.reading.specs.Within.{edgeOn, IsNext, isHeavy, weightsVerdict, Fillable, readBy};
 use fields::Bytes;
 use limits::Limits;
 use refusals::Refusal;
@@ -137,6 +137,17 @@ fn no_room(room: usize, count: u32) -> bool
     m > Limits::ARCS
 }
 
+// Whether the weight on an `a` line is outside its range.
+fn is_heavy(line: &[u8]) -> bool
+    ensures { λ r. ⌜ r ≡ isHeavy (now (line .entry)) ⌝ }
+{
+    let parts = dimacs::parts_on(line);
+    if parts.draw > (Limits::DRAW as u32) {
+        return true;
+    }
+    parts.gain > (Limits::GAIN as u32)
+}
+
 // Refusal 5: of an arc that is read, only the weight can be outside its range.
 fn check_weights(arcs: &[u8]) -> Verdict
     requires { ⌜ length (linesOf (now arcs)) ≤ arcsMost ⌝ }
@@ -146,11 +157,7 @@ fn check_weights(arcs: &[u8]) -> Verdict
     let mut i: u32 = 0;
     while at < arcs.len() {
         let e = fields::piece_end(arcs, at, Bytes::FEED);
-        let parts = dimacs::parts_on(&arcs[at..e]);
-        if parts.draw > (Limits::DRAW as u32) {
-            return Verdict::Refused(Refusal::UnfitArc(i));
-        }
-        if parts.gain > (Limits::GAIN as u32) {
+        if is_heavy(&arcs[at..e]) {
             return Verdict::Refused(Refusal::UnfitArc(i));
         }
         at = e;

@@ -10,22 +10,23 @@ use borrow.Author.Needs.{needs}
 use Rattle.dimacs.specs.Text.{textArcOn}
 use Rattle.hoa.specs.Text.{edgesFrom}
 use Rattle.fields.proofs.Pieces.{end-bounds}
-use Rattle.fields.specs.Fields.{split}
-use Rattle.reading.specs.Both.{allSame}
+use Rattle.fields.specs.Fields.{linesOf}
+use Rattle.reading.specs.Agreement.{allSame}
 use Rattle.reading.proofs.Steps.{turn-spent, turn-here, turn-over}
 use Rattle.reading.proofs.all_same.Statement.{statement}
 use Rattle.reading.proofs.all_same.Tie as tie
 
 abbrev Inv-loop : tie.InvT-loop
-Inv-loop hoa body dimacs arcs h₀ d₀ source₀ h d source = (h ≤ length hoa) × (d ≤ length dimacs) × (allSame (edgesFrom 0 (split 10 (drop body hoa))) (map textArcOn (split 10 (drop arcs dimacs))) ≡ allSame (edgesFrom source (split 10 (drop h hoa))) (map textArcOn (split 10 (drop d dimacs))))
+Inv-loop body arcs h₀ d₀ source₀ h d source =
+    (h ≤ length body) × (d ≤ length arcs)
+    × (allSame (edgesFrom 0 (linesOf body)) (map textArcOn (linesOf arcs))
+      ≡ allSame (edgesFrom source (linesOf (drop h body))) (map textArcOn (linesOf (drop d arcs))))
 
 abbrev μ-loop : tie.MeasureT-loop
-μ-loop hoa body dimacs arcs h₀ d₀ source₀ h d source = length dimacs - d
+μ-loop body arcs h₀ d₀ source₀ h d source = length arcs - d
 
 loop-holds : tie.Need-loop-holds Inv-loop μ-loop
-loop-holds c =
-    let p = c .before .before .pre in
-    (p .0, p .1, refl)
+loop-holds c = (omega arith, omega arith, refl)
 
 next-edge-requires : tie.Need-next-edge-requires Inv-loop μ-loop
 next-edge-requires c κs = search needs
@@ -35,7 +36,7 @@ returns c =
     let x = c .before .before in
     let d = x .before .before in
     let a = d .before .before .before .args in
-    sym (d .loop .inv .2 ∙ turn-spent (a .hoa .now) (d .loop .h) (d .loop .source) (x .next-edge .result) (x .next-edge .ensures) (a .dimacs .now) (d .loop .d)
+    sym (d .loop .inv .2 ∙ turn-spent (a .body .now) (d .loop .h) (d .loop .source) (x .next-edge .result) (x .next-edge .ensures) (a .arcs .now) (d .loop .d)
     (omega arith) (not-true _ (c .if1 .taken)))
 
 piece-end-requires : tie.Need-piece-end-requires Inv-loop μ-loop
@@ -62,7 +63,7 @@ part-same-ends-end-2 c =
     let d = x .before .before in
     let a = d .before .before .before .args in
     let f = c .before in
-    omega (arith, end-bounds 10 (a .dimacs .now) (d .loop .d) (f .piece-end .result) (omega arith) (f .piece-end .ensures))
+    omega (arith, end-bounds 10 (a .arcs .now) (d .loop .d) (f .piece-end .result) (omega arith) (f .piece-end .ensures))
 
 same-ends-requires : tie.Need-same-ends-requires Inv-loop μ-loop
 same-ends-requires c κs = search needs
@@ -74,7 +75,7 @@ returns-2 c =
     let x = g .before .before in
     let d = x .before .before in
     let a = d .before .before .before .args in
-    sym (d .loop .inv .2 ∙ turn-here (a .hoa .now) (d .loop .h) (d .loop .source) (x .next-edge .result) (x .next-edge .ensures) (a .dimacs .now) (d .loop .d)
+    sym (d .loop .inv .2 ∙ turn-here (a .body .now) (d .loop .h) (d .loop .source) (x .next-edge .result) (x .next-edge .ensures) (a .arcs .now) (d .loop .d)
     (f .piece-end .result) false (omega arith) (f .piece-end .ensures) (not-false _ (g .if1 .left)) (sym (c .before .same-ends .ensures) ∙ not-true _ (c .if2 .taken)))
 
 loop-less : tie.Need-loop-less Inv-loop μ-loop
@@ -82,7 +83,7 @@ loop-less c =
     let f = c .before .before .before .before in
     let d = f .before .before .before .before .before in
     let a = d .before .before .before .args in
-    omega (arith, end-bounds 10 (a .dimacs .now) (d .loop .d) (f .piece-end .result) (omega arith) (f .piece-end .ensures))
+    omega (arith, end-bounds 10 (a .arcs .now) (d .loop .d) (f .piece-end .result) (omega arith) (f .piece-end .ensures))
 
 loop-again : tie.Need-loop-again Inv-loop μ-loop
 loop-again c =
@@ -91,10 +92,10 @@ loop-again c =
     let x = g .before .before in
     let d = x .before .before in
     let a = d .before .before .before .args in
-    let (low, high) = end-bounds 10 (a .dimacs .now) (d .loop .d) (f .piece-end .result) (omega arith) (f .piece-end .ensures) in (
+    let (low, high) = end-bounds 10 (a .arcs .now) (d .loop .d) (f .piece-end .result) (omega arith) (f .piece-end .ensures) in (
       x .next-edge .ensures .within,
       high,
-      d .loop .inv .2 ∙ turn-here (a .hoa .now) (d .loop .h) (d .loop .source) (x .next-edge .result) (x .next-edge .ensures) (a .dimacs .now) (d .loop .d)
+      d .loop .inv .2 ∙ turn-here (a .body .now) (d .loop .h) (d .loop .source) (x .next-edge .result) (x .next-edge .ensures) (a .arcs .now) (d .loop .d)
           (f .piece-end .result) true (omega arith) (f .piece-end .ensures) (not-false _ (g .if1 .left)) (sym (c .before .same-ends .ensures) ∙ not-false _ (c .if2 .left)),
     )
 
@@ -106,7 +107,7 @@ returns-3 c =
     let x = c .before in
     let d = x .before .before in
     let a = d .before .before .before .args in
-    sym (d .loop .inv .2 ∙ turn-over (a .hoa .now) (d .loop .h) (d .loop .source) (x .next-edge2 .result) (x .next-edge2 .ensures) (a .dimacs .now) (d .loop .d) (omega arith))
+    sym (d .loop .inv .2 ∙ turn-over (a .body .now) (d .loop .h) (d .loop .source) (x .next-edge2 .result) (x .next-edge2 .ensures) (a .arcs .now) (d .loop .d) (omega arith))
 
 pub all-same-spec : {M : Type 1} → statement M
 all-same-spec =

@@ -8,13 +8,13 @@ use borrow.Author.Tests.{not-true, not-false}
 use borrow.Author.Needs.{needs}
 use Rattle.hoa.specs.Text.{edgesFrom}
 use Rattle.fields.proofs.Pieces.{end-bounds}
-use Rattle.fields.specs.Fields.{split}
+use Rattle.fields.specs.Fields.{linesOf}
 use Rattle.reading.proofs.Steps.{edges-state, edges-other, edges-over}
 use Rattle.reading.proofs.next_edge.Statement.{statement}
 use Rattle.reading.proofs.next_edge.Tie as tie
 
 abbrev Inv-loop : tie.InvT-loop
-Inv-loop text start mode at₀ source₀ at source = (start ≤ at) × (at ≤ length text) × (edgesFrom mode (split 10 (drop start text)) ≡ edgesFrom source (split 10 (drop at text)))
+Inv-loop text start mode at₀ source₀ at source = (start ≤ at) × (at ≤ length text) × (edgesFrom mode (linesOf (drop start text)) ≡ edgesFrom source (linesOf (drop at text)))
 
 abbrev μ-loop : tie.MeasureT-loop
 μ-loop text start mode at₀ source₀ at source = length text - at

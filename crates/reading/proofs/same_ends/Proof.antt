@@ -2,7 +2,7 @@
 use mathlib.Core.Path.{sym, _∙_}
 use borrow.Author.Needs.{needs}
 use Rattle.dimacs.specs.Text.{textArcOn}
-use Rattle.reading.specs.Both.{edgeOn}
+use Rattle.reading.specs.Within.{edgeOn}
 use Rattle.reading.proofs.Steps.{ends-other, ends-rest}
 use Rattle.reading.proofs.same_ends.Statement.{statement}
 use Rattle.reading.proofs.same_ends.Tie as tie
