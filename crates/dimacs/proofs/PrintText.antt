@@ -2,7 +2,7 @@
 use mathlib.Core.Path.{_≡_, refl, ap}
 use mathlib.Core.Bool.{true, false}
 use mathlib.Core.List.{List, [], _∷_, _++_, append-assoc, map}
-use Prim.Native.Nat.{ℕ, suc, _+_, _≤_, _<_}
+use Prim.Native.Nat.{ℕ, suc, _+_, _<_}
 use native.Mathlib.Omega.{arith}
 use lib.Dec.{eqb}
 use lib.IntN.{ℤ, pos, negsuc}
@@ -14,6 +14,7 @@ use Rattle.fields.proofs.Printed.{Digits, printed-digits, after-word, free-appe
 use Rattle.fields.proofs.Num.{num, Small, number-num, after-num, number-back, tail-back, feed-ends, blank-ends, num-long, num-line, freeb, free-word}
 use Rattle.dimacs.specs.Words.{problemWord, arcWord, blankWord}
 use Rattle.dimacs.specs.Lines.{isComment, isProblem, countField, modesOn, countOn, fromOn, toField, toOn, weightField, isNegative, unsigned, signedOf, isArc}
+use Rattle.dimacs.proofs.Arcs.{ModesFit}
 use Rattle.dimacs.specs.Text.{TextArc, textArcOn, textArcsOf, comments, modesOf, arcsWrong, dimacsWrong}
 
 -- a `p` line, without its line feed
@@ -80,10 +81,7 @@ arcText a = arcWord ++ (num (a .from) ++ (blankWord ++ (num (a .to) ++ (blankWor
 
 -- what a text can say of an arc
 pub record TextArcFits (n : ℕ) (a : TextArc) : Type 0 where
-  pub from-some : 0 < a .from
-  pub from-most : a .from ≤ n
-  pub to-some : 0 < a .to
-  pub to-most : a .to ≤ n
+  pub modes : ModesFit n a
   pub weight : SmallZ (a .weight)
 
 module _ (n : ℕ) (many : n < 100000) (a : TextArc) (f : TextArcFits n a) where
@@ -91,22 +89,22 @@ module _ (n : ℕ) (many : n < 100000) (a : TextArc) (f : TextArcFits n a) where
   arc-ended = simp append-assoc
 
   arc-from : fromOn (ended (arcText a)) ≡ a .from
-  arc-from = rw arc-ended (number-back arcWord (a .from) _ (omega (arith, f .from-most)) (blank-ends _))
+  arc-from = rw arc-ended (number-back arcWord (a .from) _ (omega (arith, f .modes .from-most)) (blank-ends _))
 
   arc-field : toField (ended (arcText a)) ≡ num (a .to) ++ (blankWord ++ (weightText (a .weight) ++ 10 ∷ []))
   arc-field =
       rw (
         arc-ended,
-        tail-back arcWord (a .from) (blankWord ++ (num (a .to) ++ (blankWord ++ (weightText (a .weight) ++ 10 ∷ [])))) (omega (arith, f .from-most)) (blank-ends _),
+        tail-back arcWord (a .from) (blankWord ++ (num (a .to) ++ (blankWord ++ (weightText (a .weight) ++ 10 ∷ [])))) (omega (arith, f .modes .from-most)) (blank-ends _),
       )
       (after-word blankWord _)
 
   arc-to : toOn (ended (arcText a)) ≡ a .to
-  arc-to = rw arc-field (number-num (a .to) (blankWord ++ (weightText (a .weight) ++ 10 ∷ [])) (omega (arith, f .to-most)) (blank-ends _))
+  arc-to = rw arc-field (number-num (a .to) (blankWord ++ (weightText (a .weight) ++ 10 ∷ [])) (omega (arith, f .modes .to-most)) (blank-ends _))
 
   arc-rest : weightField (ended (arcText a)) ≡ weightText (a .weight) ++ 10 ∷ []
   arc-rest =
-      rw (arc-field, after-num (a .to) (blankWord ++ (weightText (a .weight) ++ 10 ∷ [])) (omega (arith, f .to-most)) (blank-ends _)) (after-word blankWord _)
+      rw (arc-field, after-num (a .to) (blankWord ++ (weightText (a .weight) ++ 10 ∷ [])) (omega (arith, f .modes .to-most)) (blank-ends _)) (after-word blankWord _)
 
   pub arc-is : isArc n (ended (arcText a)) ≡ true
   unfolding isArc
@@ -115,10 +113,10 @@ module _ (n : ℕ) (many : n < 100000) (a : TextArc) (f : TextArcFits n a) where
         arc-from,
         arc-to,
         arc-rest,
-        lt-ltb 0 (a .from) (f .from-some),
-        le-leb (a .from) n (f .from-most),
-        lt-ltb 0 (a .to) (f .to-some),
-        le-leb (a .to) n (f .to-most),
+        lt-ltb 0 (a .from) (f .modes .from-some),
+        le-leb (a .from) n (f .modes .from-most),
+        lt-ltb 0 (a .to) (f .modes .to-some),
+        le-leb (a .to) n (f .modes .to-most),
       )
       (weight-back (a .weight) (f .weight) .ends)
 
@@ -176,7 +174,7 @@ dimacsText n l = textOf (dimacsLines n l)
 pub record SaysDimacs (ls : List (List ℕ)) (n : ℕ) (l : List TextArc) : Type 0 where
   pub right : dimacsWrong ls ≡ 0
   pub modes : modesOf ls ≡ n
-  pub arrows : textArcsOf ls ≡ l
+  pub arcs : textArcsOf ls ≡ l
 
 no-comments : (n m : ℕ) (t : List (List ℕ)) → comments (ended (problemText n m) ∷ t) ≡ 0
 unfolding comments isComment
@@ -191,5 +189,5 @@ dimacs-back n l many some f =
       right = rw (none, problem-is n (length l) many some, problem-modes n (length l) many some, problem-count n (length l) many some)
           (arcs-right n many (length l) 1 0 l (omega arith) f);
       modes = rw none (problem-modes n (length l) many some);
-      arrows = rw none (arcs-read n many l f);
+      arcs = rw none (arcs-read n many l f);
     })
