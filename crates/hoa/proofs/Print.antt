@@ -13,17 +13,13 @@ use Rattle.fields.proofs.Num.{num, Small, number-num, after-num, number-back, t
 use Rattle.fields.proofs.Printed.{Digits, printed-digits, after-word, free-append}
 use Rattle.hoa.specs.Words.{edgeWord, openBrace, closeBrace, infWord, closeWord, acceptWord, blankWord, trueWord}
 use Rattle.hoa.specs.Text.{coloursSaid}
+use Rattle.hoa.specs.Edges.{Below}
 use Rattle.hoa.specs.Lines.{isAcceptance, colourCount, condition, targetOf, targetTail, inside, areColours, isBraces, isEdge, infNumber, infTail, areInfs}
 
 -- the colours c and cs, and the closing brace
 abbrev pub inner : ℕ → List ℕ → List ℕ
 inner c [] = num c ++ 125 ∷ []
 inner c (d ∷ cs) = num c ++ blank ∷ inner d cs
-
--- every number of the list is below k
-abbrev pub Below : ℕ → List ℕ → Type 0
-Below k [] = Unit
-Below k (c ∷ cs) = (c < k) × Below k cs
 
 brace-ends : digitCount (125 ∷ feed ∷ []) ≡ 0
 unfolding digitCount isDigit

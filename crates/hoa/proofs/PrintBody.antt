@@ -13,7 +13,8 @@ use Rattle.fields.proofs.Num.{Small, numbered, numbered-is, numbered-says}
 use Rattle.hoa.specs.Words.{stateWord, endWord}
 use Rattle.hoa.specs.Lines.{isState}
 use Rattle.hoa.specs.Text.{Edge, contains, edgesFrom, opensBlock, hasBlock, isNewBlock, mayStand, isEnd, bodyWrong}
-use Rattle.hoa.proofs.Print.{Below, edged, edge-back, edge-target, edge-colours}
+use Rattle.hoa.specs.Edges.{Below, EdgeFits, EdgesFit}
+use Rattle.hoa.proofs.Print.{edged, edge-back, edge-target, edge-colours}
 
 abbrev pub stated : ℕ → List ℕ
 stated i = numbered stateWord i
@@ -43,16 +44,6 @@ TogetherAll (e ∷ es) = Together (e .source ∷ []) (e .source) es
 below-more : (k : ℕ) (cs : List ℕ) → k ≤ 100000 → Below k cs → Below 100000 cs
 below-more k [] h f = tt
 below-more k (c ∷ cs) h f = (omega (arith, f .0), below-more k cs h (f .1))
-
--- what a text can say of an edge
-pub record EdgeFits (n k : ℕ) (e : Edge) : Type 0 where
-  pub source : e .source < n
-  pub target : e .target < n
-  pub colours : Below k (e .colours)
-
-abbrev pub EdgesFit : ℕ → ℕ → List Edge → Type 0
-EdgesFit n k [] = Unit
-EdgesFit n k (e ∷ es) = EdgeFits n k e × EdgesFit n k es
 
 -- the three kinds of line are told apart by their first byte
 end-is : isEnd (ended endWord) ≡ true

@@ -12,8 +12,9 @@ use Rattle.fields.proofs.Printed.{free-append}
 use Rattle.fields.proofs.Num.{Small, num, numbered, numbered-is, numbered-says, freeb, free-word, num-line, numbered-line}
 use Rattle.hoa.specs.Words.{hoaWord, statesWord, startWord, apWord, acceptWord, blankWord, bodyWord, endWord, stateWord, edgeWord, openBrace, infWord, closeWord}
 use Rattle.hoa.specs.Text.{Edge, edgesOf, headWrong, bodyWrong, hoaWrong, modesOf, startOf, coloursOf}
+use Rattle.hoa.specs.Edges.{EdgesFit}
 use Rattle.hoa.proofs.Print.{inner, braces, edged, inf, infs, goals, accepting, accepting-count, accepting-back}
-use Rattle.hoa.proofs.PrintBody.{TogetherAll, EdgesFit, stated, edgeText, bodyFrom, bodyText, bodies-back, empty-back, all-edges-back}
+use Rattle.hoa.proofs.PrintBody.{TogetherAll, stated, edgeText, bodyFrom, bodyText, bodies-back, empty-back, all-edges-back}
 
 words-free : (freeb feed hoaWord ≡ true) × (freeb feed statesWord ≡ true) × (freeb feed startWord ≡ true) × (freeb feed apWord ≡ true)
     × (freeb feed acceptWord ≡ true) × (freeb feed bodyWord ≡ true) × (freeb feed endWord ≡ true) × (freeb feed stateWord ≡ true)
