@@ -1,17 +1,14 @@
 -- The arcs that are read: there are as many as edges and `a` lines, their colour bytes say the colours in the braces, and 5 can only find their
 -- weights. Assumes nothing.
-use mathlib.Core.Path.{_≡_, refl, sym, ap, _∙_}
+use mathlib.Core.Path.{_≡_, refl, ap, _∙_}
 use mathlib.Core.Bool.{Bool, true, false, cond, _&&_, _||_}
 use mathlib.Core.List.{List, [], _∷_, map}
 use Prim.Native.Nat.{ℕ, zero, suc, _+_, _^_, _≤_, _<_}
 use native.Mathlib.Omega.{arith}
-use lib.Dec.{leb, ltb, eqb}
-use lib.ListN.{length, getD, length-map}
-use borrow.Author.Tests.{lt-ltb, le-ltb, lt-leb, ltb-true, eqb-true, ne-eqb}
-use Rattle.limits.specs.Ceilings.{arcsMost, coloursMost, drawMost, gainMost}
-use Rattle.refusals.specs.declared.Refusal.the-variants.{UnfitArc}
-use Rattle.refusals.specs.declared.Verdict.{Verdict}
-use Rattle.refusals.specs.Refusals.{refuse}
+use lib.Dec.{ltb}
+use lib.ListN.{length, getD}
+use borrow.Author.Tests.{le-ltb, lt-leb, ne-eqb}
+use Rattle.limits.specs.Ceilings.{coloursMost, drawMost, gainMost}
 use Rattle.refusals.proofs.Verdicts.{clash}
 use Rattle.walks.specs.Weights.{drawOf, gainOf}
 use Rattle.model.specs.declared.Arc.{Arc}
@@ -21,11 +18,10 @@ use Rattle.model.proofs.Bits.{colours-below}
 use Rattle.fields.proofs.Numbers.{both}
 use Rattle.hoa.specs.Text.{Edge, contains, colourByte}
 use Rattle.hoa.specs.Edges.{Below, EdgeFits, EdgesFit}
-use Rattle.dimacs.specs.Lines.{weightOn}
 use Rattle.dimacs.specs.Text.{TextArc, textArcOn}
 use Rattle.reading.specs.Agreement.{sameEnds, allSame}
 use Rattle.reading.specs.ModelRead.{arcRead, arcsRead}
-use Rattle.reading.specs.Within.{weightsVerdict, Narrow}
+use Rattle.reading.specs.Within.{isHeavy, weightsVerdict, Narrow}
 
 -- texts that agree have ts many edges ts `a` lines
 pub same-length : (es : List Edge) (ts : List TextArc) → allSame es ts ≡ true → length es ≡ length ts

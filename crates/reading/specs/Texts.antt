@@ -1,6 +1,6 @@
 -- Which models have texts, and what texts say of a model. Document 02, Ask 1: "every fit model whose arcs of one source stand together has a pair of
 -- texts that gives it"; Ask 4: "only such models", without both parts, "have texts".
-use Prim.Native.Nat.{ℕ, suc, _+_, _≤_, _<_}
+use Prim.Native.Nat.{ℕ, _≤_, _<_}
 use mathlib.Core.Path.{_≡_}
 use mathlib.Core.Logic.{_⊎_}
 use mathlib.Core.List.{List}

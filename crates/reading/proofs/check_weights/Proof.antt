@@ -1,60 +1,90 @@
+-- `reading::check_weights` meets its contract: one line after the other. Assumes nothing.
+use mathlib.Core.Path.{_≡_, refl, sym, _∙_}
+use Prim.Native.Nat.{suc, _+_, _-_, _≤_, _<_}
+use native.Mathlib.Numerals.{add-one}
+use native.Mathlib.Omega.{arith}
+use lib.ListN.{length, drop}
 use borrow.Author.Needs.{needs}
+use Rattle.fields.specs.Bytes.{feed}
+use Rattle.fields.specs.Fields.{linesOf}
+use Rattle.fields.proofs.Pieces.{end-bounds}
+use Rattle.reading.specs.Within.{weightsVerdict}
+use Rattle.reading.proofs.Weights.{weights-here, weights-later, lines-later, weights-over}
 use Rattle.reading.proofs.check_weights.Statement.{statement}
 use Rattle.reading.proofs.check_weights.Tie as tie
-use Rattle.reading.proofs.check_weights.Reads as reads
-use Rattle.reading.proofs.check_weights.Lts as lts
-use Rattle.fields.proofs.piece_end.Reads as piece-end-reads
-use Rattle.reading.proofs.is_heavy.Reads as is-heavy-reads
 
 abbrev Inv-loop : tie.InvT-loop
-Inv-loop arcs at₀ i₀ at i = ?
+Inv-loop arcs at₀ i₀ at i =
+    (at ≤ length arcs) × (i + length (linesOf (drop at arcs)) ≡ length (linesOf arcs))
+    × (weightsVerdict (linesOf arcs) 0 ≡ weightsVerdict (linesOf (drop at arcs)) i)
 
 abbrev μ-loop : tie.MeasureT-loop
-μ-loop arcs at₀ i₀ at i = ?
+μ-loop arcs at₀ i₀ at i = length arcs - at
 
--- src/lib.rt:158:5
 loop-holds : tie.Need-loop-holds Inv-loop μ-loop
-loop-holds c = search needs
+loop-holds c = (omega arith, omega arith, refl)
 
--- src/lib.rt:159:13
 piece-end-requires : tie.Need-piece-end-requires Inv-loop μ-loop
 piece-end-requires c κs = search needs
 
--- src/lib.rt:160:21
 sub-is-heavy : tie.Need-sub-is-heavy Inv-loop μ-loop
 sub-is-heavy c = search needs
 
--- src/lib.rt:160:21
+-- where the line ends
+ends : (p : tie.After-piece-end Inv-loop μ-loop)
+    → (p .before .before .loop .at < p .piece-end .result) × (p .piece-end .result ≤ length (p .before .before .before .before .args .arcs .now))
+ends p =
+    let d = p .before .before in
+    end-bounds feed (d .before .before .args .arcs .now) (d .loop .at) (p .piece-end .result) (omega arith) (p .piece-end .ensures)
+
 part-is-heavy-start : tie.Need-part-is-heavy-start Inv-loop μ-loop
 part-is-heavy-start c = search needs
 
--- src/lib.rt:160:21
 part-is-heavy-end : tie.Need-part-is-heavy-end Inv-loop μ-loop
-part-is-heavy-end c = search needs
+part-is-heavy-end c = ends c .1
 
--- src/lib.rt:160:12
 is-heavy-requires : tie.Need-is-heavy-requires Inv-loop μ-loop
 is-heavy-requires c κs = search needs
 
--- src/lib.rt:161:13
 returns : tie.Need-returns Inv-loop μ-loop
-returns c = search needs
+returns c =
+    let p = c .before .before .before in
+    let d = p .before .before in
+    sym (d .loop .inv .2 ∙ weights-here (d .before .before .args .arcs .now) (d .loop .at) (p .piece-end .result) (d .loop .i) (omega arith)
+    (p .piece-end .ensures) (sym (c .before .is-heavy .ensures) ∙ c .if1 .taken))
 
--- src/lib.rt:164:9
+-- the lines that are left
+left : (p : tie.After-piece-end Inv-loop μ-loop) → length (linesOf (drop (p .before .before .loop .at) (p .before .before .before .before .args .arcs .now)))
+    ≡ suc (length (linesOf (drop (p .piece-end .result) (p .before .before .before .before .args .arcs .now))))
+left p =
+    let d = p .before .before in
+    lines-later (d .before .before .args .arcs .now) (d .loop .at) (p .piece-end .result) (d .loop .i) (omega arith) (p .piece-end .ensures)
+
 add-i : tie.Need-add-i Inv-loop μ-loop
-add-i c = search needs
+add-i c =
+    let p = c .before .before .before in
+    let small : p .before .before .loop .i < 255 = omega (arith, left p, p .before .before .before .before .pre, p .before .before .loop .inv .1) in
+    search needs
 
--- src/lib.rt:158:5
 loop-less : tie.Need-loop-less Inv-loop μ-loop
-loop-less c = search needs
+loop-less c = let (low, high) = ends (c .before .before .before) in omega (arith, low, high)
 
--- src/lib.rt:158:5
 loop-again : tie.Need-loop-again Inv-loop μ-loop
-loop-again c = search needs
+loop-again c =
+    let p = c .before .before .before in
+    let d = p .before .before in
+    (
+      ends p .1,
+      omega (arith, left p, d .loop .inv .1),
+      d .loop .inv .2
+          ∙ rw (add-one (d .loop .i)) (weights-later (d .before .before .args .arcs .now) (d .loop .at) (p .piece-end .result) (d .loop .i) (omega arith)
+          (p .piece-end .ensures) (sym (c .before .is-heavy .ensures) ∙ c .if1 .left)),
+    )
 
--- src/lib.rt:152:1
 returns-2 : tie.Need-returns-2 Inv-loop μ-loop
-returns-2 c = search needs
+returns-2 c =
+    let d = c .before in
+    sym (d .loop .inv .2 ∙ weights-over (d .before .before .args .arcs .now) (d .loop .at) (d .loop .i) (omega arith))
 
 pub check-weights-spec : {M : Type 1} → statement M
 check-weights-spec =

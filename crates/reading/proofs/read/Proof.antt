@@ -1,0 +1,131 @@
+-- `reading::read` meets its contract: the verdict decides whether the lists are written. Assumes nothing.
+use mathlib.Core.Path.{_≡_, sym, ap, _∙_}
+use borrow.Author.Needs.{needs}
+use Rattle.refusals.specs.declared.Verdict.{Verdict}
+use Rattle.refusals.specs.declared.Verdict.the-variants.{Yes}
+use Rattle.model.specs.Lists.{Lists, lists}
+use Rattle.fields.specs.Fields.{linesOf}
+use Rattle.reading.specs.Reading.{readable, readVerdict}
+use Rattle.reading.proofs.Verdicts.{arc-slice}
+use Rattle.reading.proofs.Through.{read-number, read-refused, lists-refused, read-accepted, may-fill, lists-accepted}
+use Rattle.reading.proofs.read.Statement.{statement}
+use Rattle.reading.proofs.read.Tie as tie
+
+shortest-requires : tie.Need-shortest-requires
+shortest-requires c κs = search needs
+
+check-texts-requires : tie.Need-check-texts-requires
+check-texts-requires c κs = search needs
+
+enum-told : tie.Need-enum-told
+enum-told c = search needs
+
+-- from the check to the beginning, and the lists as they were
+abbrev start : tie.After-check-texts → tie.Start
+start d = d .before .before .before .before .before .before .before .before .before
+
+abbrev lists-of : tie.Start → Lists
+lists-of s = lists (s .args .sources .now) (s .args .targets .now) (s .args .draws .now) (s .args .gains .now) (s .args .colours .now)
+
+-- the check is the verdict on the reading
+told : (d : tie.After-check-texts) → d .check-texts .result ≡ readVerdict (start d .args .hoa .now) (start d .args .dimacs .now) (lists-of (start d))
+told d =
+    d .check-texts .ensures
+    ∙ ap {B = Verdict} (readable (linesOf (start d .args .hoa .now)) (linesOf (start d .args .dimacs .now))) (d .before .shortest .ensures)
+
+-- where it is yes, and the place where the lines of the body are known
+yes : (e : tie.After-enum-told)
+    → let d = e .before .before in readVerdict (start d .args .hoa .now) (start d .args .dimacs .now) (lists-of (start d)) ≡ Yes
+yes e = sym (told (e .before .before)) ∙ e .enum-told .given .1
+
+problem-of-requires : tie.Need-problem-of-requires
+problem-of-requires c κs = search needs
+
+body-of-requires : tie.Need-body-of-requires
+body-of-requires c κs = search needs
+
+sub-fill : tie.Need-sub-fill
+sub-fill c = c .before .problem-of .ensures .within
+
+part-fill-start : tie.Need-part-fill-start
+part-fill-start c = let h = c .before .problem-of .ensures .within in search needs
+
+part-fill-end : tie.Need-part-fill-end
+part-fill-end c = search needs
+
+fill-requires : tie.Need-fill-requires
+fill-requires c κs =
+    let b = c .before .before .before .before .before .before in
+    let p = b .before in
+    may-fill _ _ _ (yes (p .before)) _ _ (b .body-of .ensures) (arc-slice _ _ (p .problem-of .ensures))
+
+accepted-requires : tie.Need-accepted-requires
+accepted-requires c κs = search needs
+
+enum-known-verdict : tie.Need-enum-known-verdict
+enum-known-verdict c = search needs
+
+refused-requires : tie.Need-refused-requires
+refused-requires c κs = search needs
+
+same-length : tie.Need-same-length
+same-length c = search needs
+
+same-length-2 : tie.Need-same-length-2
+same-length-2 c = search needs
+
+same-length-3 : tie.Need-same-length-3
+same-length-3 c = search needs
+
+same-length-4 : tie.Need-same-length-4
+same-length-4 c = search needs
+
+same-length-5 : tie.Need-same-length-5
+same-length-5 c = search needs
+
+returns : tie.Need-returns
+returns c =
+    let f = c .before .before .before .before .before .before .before .before .before .before .before in
+    let b = f .before .before .before .before .before .before .before in
+    let p = b .before in
+    let l = lists-of (start (p .before .before .before)) in
+    let whole = c .accepted .ensures ∙ read-accepted _ _ l (yes (p .before)) _ (p .problem-of .ensures .count) in
+    (
+      whole,
+      (
+        read-number _ _ l _ whole,
+        f .fill .ensures ∙ lists-accepted _ _ l (yes (p .before)) _ _ (b .body-of .ensures) (arc-slice _ _ (p .problem-of .ensures)),
+      ),
+    )
+
+returns-2 : tie.Need-returns-2
+returns-2 c =
+    let d = c .before .before .before .before in
+    let l = lists-of (start d) in
+    let no = sym (told d) ∙ c .before .before .verdict .given .1 in
+    let whole = c .refused .ensures ∙ read-refused _ _ l _ no in
+    (whole, (read-number _ _ l _ whole, lists-refused _ _ l _ no))
+
+pub read-spec : {M : Type 1} → statement M
+read-spec =
+    tie.close
+    (tie.spec
+    shortest-requires
+    check-texts-requires
+    enum-told
+    problem-of-requires
+    body-of-requires
+    sub-fill
+    part-fill-start
+    part-fill-end
+    fill-requires
+    accepted-requires
+    enum-known-verdict
+    refused-requires
+    same-length
+    same-length-2
+    same-length-3
+    same-length-4
+    same-length-5
+    returns
+    returns-2)
