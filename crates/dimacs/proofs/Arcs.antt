@@ -39,14 +39,14 @@ comments-end (l ∷ ls) = go (isComment l) refl (comments-end ls)
 abbrev pub noArc : TextArc
 noArc = record { from = 0; to = 0; weight = pos 0 }
 
-no-arc : textArcOn [] ≡ noArc
+nothing-said : textArcOn [] ≡ noArc
 unfolding afterWord numberOf afterNumber isPlain digitCount isNegative unsigned
-no-arc = refl
+nothing-said = refl
 
 -- the i-th arc is what the i-th line after the `p` line says
 pub arc-said : (ls : List (List ℕ)) (i : ℕ) → getD (textArcsOf ls) i noArc ≡ textArcOn (lineOf ls (suc (comments ls) + i))
 arc-said ls i =
-    rw (← no-arc)
+    rw (← nothing-said)
     (List·getD-map textArcOn (arcLines ls) i [] ∙ ap textArcOn (getD-drop (suc (comments ls)) ls i []))
 
 -- "in `a` lines, from 1 to n"
@@ -80,12 +80,26 @@ arc-modes n l e =
     let (c, d) = mode-bounds n (toOn l) v in
     record { from-some = a; from-most = b; to-some = c; to-most = d }
 
+-- every line is an arc's
+abbrev pub AllArcs : ℕ → List (List ℕ) → Type 0
+AllArcs n [] = Unit
+AllArcs n (l ∷ ls) = (isArc n l ≡ true) × AllArcs n ls
+
+pub arc-at : (n : ℕ) (ls : List (List ℕ)) (i : ℕ) → AllArcs n ls → i < length ls → isArc n (lineOf ls i) ≡ true
+arc-at n [] i f h = absurd (omega arith)
+arc-at n (l ∷ ls) zero f h = f .0
+arc-at n (l ∷ ls) (suc i) f h = arc-at n ls i (f .1) (omega arith)
+
+all-modes : (n : ℕ) (ls : List (List ℕ)) → AllArcs n ls → AllModesFit n (map textArcOn ls)
+all-modes n [] f = tt
+all-modes n (l ∷ ls) f = (arc-modes n l (f .0), all-modes n ls (f .1))
+
 -- a test that gives no line
 passes : (t : Bool) (a b : ℕ) → cond t a (suc b) ≡ 0 → (t ≡ true) × (a ≡ 0)
 passes true a b e = (refl, e)
 passes false a b e = absurd (omega (arith, e))
 
-all-arcs : (n m line i : ℕ) (ls : List (List ℕ)) → arcsWrong n m line i ls ≡ 0 → (i + length ls ≡ m) × AllModesFit n (map textArcOn ls)
+all-arcs : (n m line i : ℕ) (ls : List (List ℕ)) → arcsWrong n m line i ls ≡ 0 → (i + length ls ≡ m) × AllArcs n ls
 unfolding arcsWrong
 all-arcs n m line i [] e =
     let (z, _) = passes (eqb i m) 0 line e in
@@ -94,7 +108,7 @@ all-arcs n m line i (l ∷ ls) e =
     let (z, r) = passes (ltb i m && isArc n l) (arcsWrong n m (suc line) (suc i) ls) line e in
     let (_, v) = both (ltb i m) (isArc n l) z in
     let (c, f) = all-arcs n m (suc line) (suc i) ls r in
-    (omega (arith, c), (arc-modes n l v, f))
+    (omega (arith, c), (v, f))
 
 -- a text whose every line is in the forms: its `p` line, as many arcs as that says, and modes from 1 to n
 module _ (ls : List (List ℕ)) (right : dimacsWrong ls ≡ 0) where
@@ -105,7 +119,10 @@ module _ (ls : List (List ℕ)) (right : dimacsWrong ls ≡ 0) where
   pub problem-right : isProblem (problemLine ls) ≡ true
   problem-right = passed .0
 
-  pub dimacs-right : (length (arcLines ls) ≡ countOf ls) × AllModesFit (modesOf ls) (textArcsOf ls)
-  dimacs-right =
+  pub arcs-all : (length (arcLines ls) ≡ countOf ls) × AllArcs (modesOf ls) (arcLines ls)
+  arcs-all =
       let (c, f) = all-arcs (modesOf ls) (countOf ls) (suc (comments ls)) 0 (arcLines ls) (passed .1) in
       (omega (arith, c), f)
+
+  pub dimacs-right : (length (arcLines ls) ≡ countOf ls) × AllModesFit (modesOf ls) (textArcsOf ls)
+  dimacs-right = (arcs-all .0, all-modes (modesOf ls) (arcLines ls) (arcs-all .1))

@@ -40,9 +40,8 @@ number-below l = go (isPlain (digitCount l)) refl
     go : (t : Bool) → isPlain (digitCount l) ≡ t → cond t (value 0 (take (digitCount l) l)) 0 < 10 ^ digitsMost
     go true e =
         let size = length-take-le (digitCount l) l (digits-le l) in
-        let low = value-below 0 0 (take (digitCount l) l) (omega arith) (leading l) in
-        let most = plain-bounds (digitCount l) e .1 in
-        omega (arith, low, pow-le-pow-right {n = 10} (omega arith) {i = 0 + length (take (digitCount l) l)} {j = digitsMost} (omega (arith, size, most)))
+        let few : 0 + length (take (digitCount l) l) ≤ digitsMost = omega (arith, size, plain-bounds (digitCount l) e .1) in
+        omega (arith, value-below 0 0 (take (digitCount l) l) (omega arith) (leading l), pow-le-pow-right {n = 10} (omega arith) few)
     go false e = omega arith
 
 parts-of-one : (w : ℤ) → (partsOf w .draw ≡ 0) ⊎ (partsOf w .gain ≡ 0)

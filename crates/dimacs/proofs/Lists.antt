@@ -1,16 +1,35 @@
 -- Comments and arcs, line by line. Assumes nothing.
-use mathlib.Core.Path.{_≡_, refl}
+use mathlib.Core.Path.{_≡_, refl, sym, _∙_}
 use mathlib.Core.Bool.{true, false}
 use mathlib.Core.List.{List, [], _∷_}
-use Prim.Native.Nat.{ℕ, suc, _-_, _≤_, _<_}
+use Prim.Native.Nat.{ℕ, suc, _+_, _-_, _≤_, _<_}
 use native.Mathlib.Omega.{arith}
 use native.Mathlib.Decide.{decLe}
-use lib.ListN.{length, getD, take, drop, drop-of-length-le}
+use lib.ListN.{length, take, drop, drop-of-length-le}
 use lib.Seq.{take-nil}
 use borrow.Author.Tests.{lt-ltb, le-ltb, eq-eqb, ne-eqb}
-use Rattle.fields.specs.Fields.{afterWord, isOnly, numberOf, afterNumber, isPlain, digitCount}
+use Rattle.fields.specs.Bytes.{feed}
+use Rattle.fields.specs.Fields.{afterWord, isOnly, numberOf, afterNumber, isPlain, digitCount, pieceLength, linesOf, lineOf, LineAt}
+use Rattle.fields.proofs.Pieces.{split-at, end-bounds}
+use Rattle.fields.proofs.Places.{line-here, line-next}
 use Rattle.dimacs.specs.Lines.{isComment, isProblem, isArc, modesOn, countOn}
 use Rattle.dimacs.specs.Text.{comments, arcsWrong, dimacsWrong}
+
+-- line j of a text that is there: it stands from a place to e, and the others follow
+pub record LineSpan (s : List ℕ) (at j e : ℕ) : Type 0 where
+  pub here : drop j (linesOf s) ≡ take (e - at) (drop at s) ∷ linesOf (drop e s)
+  pub rest : drop (suc j) (linesOf s) ≡ linesOf (drop e s)
+  pub later : at < e
+  pub next : LineAt s e (suc j)
+
+pub line-span : (s : List ℕ) (at j e : ℕ) → LineAt s at j → at < length s → e ≡ at + pieceLength feed (drop at s) → LineSpan s at j e
+line-span s at j e p h q =
+    record {
+      here = sym (p .lines) ∙ split-at feed s at e h q;
+      rest = line-here s at j e p h q .next;
+      later = end-bounds feed s at e h q .0;
+      next = line-next s at j e p h q;
+    }
 
 pub comments-none : (j : ℕ) (ls : List (List ℕ)) → drop j ls ≡ [] → comments (drop j ls) ≡ 0
 unfolding comments
@@ -51,7 +70,7 @@ unfolding arcsWrong
 arcs-short j ls n m i e h = rw (e, ne-eqb i m h)
 
 -- the whole text
-module _ (ls : List (List ℕ)) (line : ℕ) (p : List ℕ) (count : line ≡ comments ls) (here : p ≡ getD ls line []) where
+module _ (ls : List (List ℕ)) (line : ℕ) (p : List ℕ) (count : line ≡ comments ls) (here : p ≡ lineOf ls line) where
   pub text-wrong : isProblem p ≡ false → suc line ≡ dimacsWrong ls
   unfolding dimacsWrong
   text-wrong e = rw (← count, ← here, e)
@@ -60,7 +79,7 @@ module _ (ls : List (List ℕ)) (line : ℕ) (p : List ℕ) (count : line ≡ co
   unfolding dimacsWrong
   text-arcs e = rw (← count, ← here, e)
 
-no-problem : isProblem [] ≡ false
+pub no-problem : isProblem [] ≡ false
 unfolding afterWord isOnly numberOf afterNumber isPlain digitCount
 no-problem = refl
 

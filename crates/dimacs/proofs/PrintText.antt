@@ -8,6 +8,7 @@ use lib.Dec.{eqb}
 use lib.IntN.{ℤ, pos, negsuc}
 use lib.ListN.{length}
 use borrow.Author.Tests.{lt-ltb, le-leb, eq-eqb, ne-eqb}
+use Rattle.fields.specs.Bytes.{feed, minus}
 use Rattle.fields.specs.Fields.{isOnly, afterNumber, linesOf}
 use Rattle.fields.proofs.Pieces.{Free, FreeAll, ended, textOf, lines-of}
 use Rattle.fields.proofs.Printed.{Digits, printed-digits, after-word, free-append}
@@ -21,28 +22,29 @@ use Rattle.dimacs.specs.Text.{TextArc, textArcOn, textArcsOf, comments, 
 abbrev pub problemText : ℕ → ℕ → List ℕ
 problemText n m = problemWord ++ (num n ++ (blankWord ++ num m))
 
-problem-ended : (n m : ℕ) → ended (problemText n m) ≡ problemWord ++ (num n ++ (blankWord ++ (num m ++ 10 ∷ [])))
+problem-ended : (n m : ℕ) → ended (problemText n m) ≡ problemWord ++ (num n ++ (blankWord ++ (num m ++ feed ∷ [])))
 problem-ended n m = simp append-assoc
 
 module _ (n m : ℕ) (many : Small n) (some : Small m) where
   pub problem-modes : modesOn (ended (problemText n m)) ≡ n
-  problem-modes = rw (problem-ended n m) (number-back problemWord n (blankWord ++ (num m ++ 10 ∷ [])) many (blank-ends _))
+  problem-modes = rw (problem-ended n m) (number-back problemWord n (blankWord ++ (num m ++ feed ∷ [])) many (blank-ends _))
 
-  problem-field : countField (ended (problemText n m)) ≡ num m ++ 10 ∷ []
+  problem-field : countField (ended (problemText n m)) ≡ num m ++ feed ∷ []
   problem-field =
-      rw (problem-ended n m, tail-back problemWord n (blankWord ++ (num m ++ 10 ∷ [])) many (blank-ends _)) (after-word blankWord (num m ++ 10 ∷ []))
+      rw (problem-ended n m, tail-back problemWord n (blankWord ++ (num m ++ feed ∷ [])) many (blank-ends _))
+      (after-word blankWord (num m ++ feed ∷ []))
 
   pub problem-count : countOn (ended (problemText n m)) ≡ m
-  problem-count = rw problem-field (number-num m (10 ∷ []) some feed-ends)
+  problem-count = rw problem-field (number-num m (feed ∷ []) some feed-ends)
 
   pub problem-is : isProblem (ended (problemText n m)) ≡ true
   unfolding isOnly
-  problem-is = rw (problem-field, after-num m (10 ∷ []) some feed-ends)
+  problem-is = rw (problem-field, after-num m (feed ∷ []) some feed-ends)
 
 -- a weight, with a minus where it is negative
 abbrev pub weightText : ℤ → List ℕ
 weightText (pos n) = num n
-weightText (negsuc n) = 45 ∷ num (suc n)
+weightText (negsuc n) = minus ∷ num (suc n)
 
 abbrev pub SmallZ : ℤ → Type 0
 SmallZ (pos n) = Small n
@@ -53,26 +55,26 @@ digits-plain : (l r : List ℕ) → Digits l → 0 < length l → (isNegative (l
 unfolding isNegative unsigned
 digits-plain [] r f h = absurd (omega arith)
 digits-plain (x ∷ l) r f h =
-    let no : eqb x 45 ≡ false = ne-eqb x 45 (λ e. absurd (omega (arith, e, f .0))) in
+    let no : eqb x minus ≡ false = ne-eqb x minus (λ e. absurd (omega (arith, e, f .0))) in
     (no, rw no)
 
 -- what is read of a weight and its line feed
 record ReadsWeight (f : List ℕ) (w : ℤ) : Type 0 where
   weighs : signedOf f ≡ w
-  ends : isOnly 10 (afterNumber (unsigned f)) ≡ true
+  ends : isOnly feed (afterNumber (unsigned f)) ≡ true
 
-weight-back : (w : ℤ) → SmallZ w → ReadsWeight (weightText w ++ 10 ∷ []) w
+weight-back : (w : ℤ) → SmallZ w → ReadsWeight (weightText w ++ feed ∷ []) w
 unfolding isOnly isNegative unsigned
 weight-back (pos n) low =
-    let (a, b) = digits-plain (num n) (10 ∷ []) (printed-digits 5 n) (num-long n) in
+    let (a, b) = digits-plain (num n) (feed ∷ []) (printed-digits 5 n) (num-long n) in
     record {
-      weighs = rw (a, b, number-num n (10 ∷ []) low feed-ends);
-      ends = rw (b, after-num n (10 ∷ []) low feed-ends);
+      weighs = rw (a, b, number-num n (feed ∷ []) low feed-ends);
+      ends = rw (b, after-num n (feed ∷ []) low feed-ends);
     }
 weight-back (negsuc n) low =
     record {
-      weighs = rw (number-num (suc n) (10 ∷ []) low feed-ends);
-      ends = rw (after-num (suc n) (10 ∷ []) low feed-ends);
+      weighs = rw (number-num (suc n) (feed ∷ []) low feed-ends);
+      ends = rw (after-num (suc n) (feed ∷ []) low feed-ends);
     }
 
 -- an `a` line, without its line feed
@@ -84,27 +86,34 @@ pub record TextArcFits (n : ℕ) (a : TextArc) : Type 0 where
   pub modes : ModesFit n a
   pub weight : SmallZ (a .weight)
 
-module _ (n : ℕ) (many : n < 100000) (a : TextArc) (f : TextArcFits n a) where
-  arc-ended : ended (arcText a) ≡ arcWord ++ (num (a .from) ++ (blankWord ++ (num (a .to) ++ (blankWord ++ (weightText (a .weight) ++ 10 ∷ [])))))
+-- such a line from its weight on, and from its target on, with the line feed
+abbrev fromWeight : TextArc → List ℕ
+fromWeight a = weightText (a .weight) ++ feed ∷ []
+
+abbrev fromTarget : TextArc → List ℕ
+fromTarget a = num (a .to) ++ (blankWord ++ fromWeight a)
+
+module _ (n : ℕ) (many : Small n) (a : TextArc) (f : TextArcFits n a) where
+  arc-ended : ended (arcText a) ≡ arcWord ++ (num (a .from) ++ (blankWord ++ fromTarget a))
   arc-ended = simp append-assoc
 
-  arc-from : fromOn (ended (arcText a)) ≡ a .from
-  arc-from = rw arc-ended (number-back arcWord (a .from) _ (omega (arith, f .modes .from-most)) (blank-ends _))
+  low-from : Small (a .from)
+  low-from = omega (arith, f .modes .from-most)
 
-  arc-field : toField (ended (arcText a)) ≡ num (a .to) ++ (blankWord ++ (weightText (a .weight) ++ 10 ∷ []))
-  arc-field =
-      rw (
-        arc-ended,
-        tail-back arcWord (a .from) (blankWord ++ (num (a .to) ++ (blankWord ++ (weightText (a .weight) ++ 10 ∷ [])))) (omega (arith, f .modes .from-most)) (blank-ends _),
-      )
-      (after-word blankWord _)
+  low-to : Small (a .to)
+  low-to = omega (arith, f .modes .to-most)
+
+  arc-from : fromOn (ended (arcText a)) ≡ a .from
+  arc-from = rw arc-ended (number-back arcWord (a .from) _ low-from (blank-ends _))
+
+  arc-field : toField (ended (arcText a)) ≡ fromTarget a
+  arc-field = rw (arc-ended, tail-back arcWord (a .from) (blankWord ++ fromTarget a) low-from (blank-ends _)) (after-word blankWord _)
 
   arc-to : toOn (ended (arcText a)) ≡ a .to
-  arc-to = rw arc-field (number-num (a .to) (blankWord ++ (weightText (a .weight) ++ 10 ∷ [])) (omega (arith, f .modes .to-most)) (blank-ends _))
+  arc-to = rw arc-field (number-num (a .to) (blankWord ++ fromWeight a) low-to (blank-ends _))
 
-  arc-rest : weightField (ended (arcText a)) ≡ weightText (a .weight) ++ 10 ∷ []
-  arc-rest =
-      rw (arc-field, after-num (a .to) (blankWord ++ (weightText (a .weight) ++ 10 ∷ [])) (omega (arith, f .modes .to-most)) (blank-ends _)) (after-word blankWord _)
+  arc-rest : weightField (ended (arcText a)) ≡ fromWeight a
+  arc-rest = rw (arc-field, after-num (a .to) (blankWord ++ fromWeight a) low-to (blank-ends _)) (after-word blankWord _)
 
   pub arc-is : isArc n (ended (arcText a)) ≡ true
   unfolding isArc
@@ -127,7 +136,7 @@ abbrev pub TextArcsFit : ℕ → List TextArc → Type 0
 TextArcsFit n [] = Unit
 TextArcsFit n (a ∷ l) = TextArcFits n a × TextArcsFit n l
 
-module _ (n : ℕ) (many : n < 100000) where
+module _ (n : ℕ) (many : Small n) where
   arcs-right : (m line i : ℕ) (l : List TextArc) → i + length l ≡ m → TextArcsFit n l
       → arcsWrong n m line i (map ended (map arcText l)) ≡ 0
   unfolding arcsWrong
@@ -140,24 +149,26 @@ module _ (n : ℕ) (many : n < 100000) where
   arcs-read (a ∷ l) f = rw (arc-back n many a (f .0)) (ap (λ (t : List TextArc). a ∷ t) (arcs-read l (f .1)))
 
 -- no line holds a line feed before its end
-words-free : (freeb 10 problemWord ≡ true) × (freeb 10 arcWord ≡ true)
+words-free : (freeb feed problemWord ≡ true) × (freeb feed arcWord ≡ true)
 unfolding freeb
 words-free = (refl, refl)
 
-problem-line : (n m : ℕ) → Free 10 (problemText n m)
+problem-line : (n m : ℕ) → Free feed (problemText n m)
 problem-line n m =
-    free-append 10 problemWord (num n ++ (blankWord ++ num m)) (free-word 10 problemWord (words-free .0))
-    (free-append 10 (num n) (blankWord ++ num m) (num-line n) (refl, num-line m))
+    free-append feed problemWord (num n ++ (blankWord ++ num m)) (free-word feed problemWord (words-free .0))
+    (free-append feed (num n) (blankWord ++ num m) (num-line n) (refl, num-line m))
 
-weight-line : (w : ℤ) → Free 10 (weightText w)
+weight-line : (w : ℤ) → Free feed (weightText w)
 weight-line (pos n) = num-line n
 weight-line (negsuc n) = (refl, num-line (suc n))
 
-arc-line : (a : TextArc) → Free 10 (arcText a)
+arc-line : (a : TextArc) → Free feed (arcText a)
 arc-line a =
-    free-append 10 arcWord (num (a .from) ++ (blankWord ++ (num (a .to) ++ (blankWord ++ weightText (a .weight))))) (free-word 10 arcWord (words-free .1))
-    (free-append 10 (num (a .from)) (blankWord ++ (num (a .to) ++ (blankWord ++ weightText (a .weight)))) (num-line (a .from))
-    (refl, free-append 10 (num (a .to)) (blankWord ++ weightText (a .weight)) (num-line (a .to)) (refl, weight-line (a .weight))))
+    let weight = blankWord ++ weightText (a .weight) in
+    let target = blankWord ++ (num (a .to) ++ weight) in
+    let last = free-append feed (num (a .to)) weight (num-line (a .to)) (refl, weight-line (a .weight)) in
+    free-append feed arcWord (num (a .from) ++ target) (free-word feed arcWord (words-free .1))
+    (free-append feed (num (a .from)) target (num-line (a .from)) (refl, last))
 
 arc-lines : (l : List TextArc) → FreeAll (map arcText l)
 arc-lines [] = tt

@@ -7,7 +7,9 @@ use native.Mathlib.Omega.{arith}
 use lib.Dec.{eqb}
 use lib.ListN.{length, getD, drop}
 use borrow.Author.Tests.{eq-eqb, ne-eqb}
+use Rattle.fields.specs.Bytes.{feed, minus}
 use Rattle.fields.specs.Fields.{numberOf}
+use Rattle.dimacs.specs.Words.{commentLetter}
 use Rattle.dimacs.specs.Lines.{isComment, isNegative, unsigned, signed, signedOf, partsOf}
 
 pub comment-none : (l : List ℕ) → length l ≡ 0 → isComment l ≡ false
@@ -25,23 +27,23 @@ unfolding unsigned
 unsigned-none [] e = refl
 unsigned-none (x ∷ l) e = absurd (omega (arith, e))
 
-pub unsigned-minus : (l : List ℕ) → (length l ≡ 0 → ⊥) → getD l 0 0 ≡ 45 → unsigned l ≡ drop 1 l
+pub unsigned-minus : (l : List ℕ) → (length l ≡ 0 → ⊥) → getD l 0 0 ≡ minus → unsigned l ≡ drop 1 l
 unfolding unsigned
 unsigned-minus [] h e = absurd (h refl)
-unsigned-minus (x ∷ l) h e = rw (eq-eqb x 45 e)
+unsigned-minus (x ∷ l) h e = rw (eq-eqb x minus e)
 
-pub unsigned-other : (l : List ℕ) → (length l ≡ 0 → ⊥) → (getD l 0 0 ≡ 45 → ⊥) → unsigned l ≡ l
+pub unsigned-other : (l : List ℕ) → (length l ≡ 0 → ⊥) → (getD l 0 0 ≡ minus → ⊥) → unsigned l ≡ l
 unfolding unsigned
 unsigned-other [] h e = refl
-unsigned-other (x ∷ l) h e = rw (ne-eqb x 45 e)
+unsigned-other (x ∷ l) h e = rw (ne-eqb x minus e)
 
-pub comment-other : (l : List ℕ) → (getD l 0 0 ≡ 99 → ⊥) → isComment l ≡ false
+pub comment-other : (l : List ℕ) → (getD l 0 0 ≡ commentLetter → ⊥) → isComment l ≡ false
 unfolding isComment
-comment-other l e = rw (ne-eqb (getD l 0 0) 99 e)
+comment-other l e = rw (ne-eqb (getD l 0 0) commentLetter e)
 
-pub comment-first : (l : List ℕ) → getD l 0 0 ≡ 99 → isComment l ≡ eqb (getD l (length l - 1) 0) 10
+pub comment-first : (l : List ℕ) → getD l 0 0 ≡ commentLetter → isComment l ≡ eqb (getD l (length l - 1) 0) feed
 unfolding isComment
-comment-first l e = rw (eq-eqb (getD l 0 0) 99 e)
+comment-first l e = rw (eq-eqb (getD l 0 0) commentLetter e)
 
 -- what a weight with a minus means, and one without
 minus-parts : (x : ℕ) → record { draw = x; gain = 0 } ≡ partsOf (signed true x)

@@ -1,8 +1,9 @@
 -- DIMACS text: the first line outside the forms, and the numbers and arcs of a text that has none. Document 02, Ask 1.
 use mathlib.Core.Path.{_≡_}
-use mathlib.Core.Bool.{_&&_, cond}
+use mathlib.Core.Bool.{true, _&&_, cond}
 use mathlib.Core.List.{List, [], _∷_, map}
-use Prim.Native.Nat.{ℕ, suc, _≤_}
+use mathlib.Core.Logic.{_⊎_}
+use Prim.Native.Nat.{ℕ, suc, _+_, _≤_, _<_}
 use lib.Dec.{ltb, eqb}
 use lib.IntN.{ℤ}
 use lib.ListN.{length, drop}
@@ -46,6 +47,20 @@ arcsWrong n m line i (l ∷ ls) = cond (ltb i m && isArc n l) (arcsWrong n m (su
 unfoldable pub dimacsWrong : List (List ℕ) → ℕ
 dimacsWrong ls =
     cond (isProblem (problemLine ls)) (arcsWrong (modesOf ls) (countOf ls) (suc (comments ls)) 0 (arcLines ls)) (suc (comments ls))
+
+-- line j, from 0, is in the forms: a comment before the `p` line, the `p` line, or one of m arcs' lines after it
+abbrev pub InForms : List (List ℕ) → ℕ → Type 0
+InForms ls j =
+    ((j < comments ls) × (isComment (lineOf ls j) ≡ true))
+    ⊎ ((j ≡ comments ls) × (isProblem (lineOf ls j) ≡ true))
+    ⊎ ((comments ls < j) × (j ≤ comments ls + countOf ls) × (isArc (modesOf ls) (lineOf ls j) ≡ true))
+
+-- line d, from 0, is the first that is not, or, where it is one past the last, is missing
+pub record FirstWrong (ls : List (List ℕ)) (d : ℕ) : Type 0 where
+  pub earlier : (j : ℕ) → j < d → InForms ls j
+  pub here : InForms ls d → ⊥
+  pub within : d ≤ length ls
+  pub missing : d ≡ length ls → d ≤ comments ls + countOf ls
 
 -- an arc of the text, its modes counted from 1
 pub record TextArc : Type 0 where

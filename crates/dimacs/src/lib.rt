@@ -160,7 +160,7 @@ pub fn parts_on(line: &[u8]) -> Parts
 fn is_mode(n: u32, x: u32) -> bool
     ensures { λ r. ⌜ r ≡ isMode n x ⌝ }
 {
-    if x == 0 {
+    if x < 1 {
         return false;
     }
     x <= n

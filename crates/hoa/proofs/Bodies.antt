@@ -1,53 +1,92 @@
 -- The body, line by line. Assumes nothing.
-use mathlib.Core.Path.{_≡_}
-use mathlib.Core.Bool.{true, false}
+use mathlib.Core.Path.{_≡_, refl, sym, _∙_}
+use mathlib.Core.Bool.{Bool, true, false}
 use mathlib.Core.List.{List, [], _∷_}
 use Prim.Native.Nat.{ℕ, suc, _+_, _-_, _≤_, _<_}
+use native.Mathlib.Numerals.{add-one}
 use native.Mathlib.Omega.{arith}
 use lib.ListN.{length, take, drop, length-drop}
 use lib.Seq.{length-take-le, take-all}
 use borrow.Author.Tests.{lt-ltb, le-ltb, eq-eqb, ne-eqb}
 use Rattle.fields.specs.Bytes.{feed}
-use Rattle.fields.specs.Fields.{LineAt, linesOf}
-use Rattle.fields.proofs.Pieces.{split-first}
-use Rattle.fields.proofs.Places.{Begins, split-end}
-use Rattle.hoa.specs.Text.{mayStand, isEnd, bodyWrong, headWrong, hoaWrong, modesOf, coloursOf}
+use Rattle.fields.specs.Fields.{linesOf, pieceLength, LineAt}
+use Rattle.fields.proofs.Pieces.{split-first, split-at, end-bounds}
+use Rattle.fields.proofs.Places.{Begins, split-end, at-first, line-here, line-next, line-none}
+use Rattle.hoa.specs.Lines.{isState, stateOf}
+use Rattle.hoa.specs.Text.{BlocksBelow, mayStand, isEnd, bodyWrong, headWrong, hoaWrong, modesOf, coloursOf}
+use Rattle.hoa.proofs.Blocks.{blocks-none, blocks-more}
 
 -- lines are left where bytes are
-pub lines-left : (s : List ℕ) (e : ℕ) → e < length s → 0 < length (linesOf (drop e s))
+lines-left : (s : List ℕ) (e : ℕ) → e < length s → 0 < length (linesOf (drop e s))
 lines-left s e h =
     let some : 0 < length (drop e s) = rw (length-drop e s) (omega arith) in
     rw (split-first feed (drop e s) some) (omega arith)
 
-pub lines-over : (s : List ℕ) (e : ℕ) → length s ≤ e → length (linesOf (drop e s)) ≡ 0
+lines-over : (s : List ℕ) (e : ℕ) → length s ≤ e → length (linesOf (drop e s)) ≡ 0
 lines-over s e h = rw (split-end feed s e h)
 
-module _ (n k j : ℕ) (ls : List (List ℕ)) (within : j ≤ length ls) where
+-- The body's first j lines may stand, they end at this place, and from top on no mode has a block in them.
+pub record Walked (s : List ℕ) (n k at j top : ℕ) : Type 0 where
+  pub few : j ≤ at
+  pub count : j ≤ length (linesOf s)
+  pub place : LineAt s at j
+  pub blocks : BlocksBelow top (take j (linesOf s))
+  pub same : bodyWrong n k [] (linesOf s) ≡ bodyWrong n k (take j (linesOf s)) (drop j (linesOf s))
+
+pub walked-first : (s : List ℕ) (n k : ℕ) → Walked s n k 0 0 0
+walked-first s n k = record { few = omega arith; count = omega arith; place = at-first s; blocks = blocks-none; same = refl }
+
+module _ (s : List ℕ) (n k at j top : ℕ) (w : Walked s n k at j top) where
   -- the text ends early
-  pub body-ends : drop j ls ≡ [] → bodyWrong n k (take j ls) (drop j ls) ≡ j + 7
+  pub walked-ends : length s ≤ at → bodyWrong n k [] (linesOf s) ≡ j + 7
   unfolding bodyWrong
-  body-ends e = rw (e, length-take-le j ls within)
+  walked-ends h = w .same ∙ rw (line-none s at j (w .place) h, length-take-le j (linesOf s) (w .count))
 
-  module _ (l : List ℕ) (t : List (List ℕ)) (here : drop j ls ≡ l ∷ t) where
-    -- the last line, with lines after it and without
-    pub body-more : isEnd l ≡ true → 0 < length t → bodyWrong n k (take j ls) (drop j ls) ≡ j + 8
-    unfolding bodyWrong
-    body-more e h = rw (here, e, lt-ltb 0 (length t) h, length-take-le j ls within)
+  -- a line that begins at this place and ends before e; end: whether it is the last, stands: whether it may stand
+  module _ (e : ℕ) (left : at < length s) (size : e ≡ at + pieceLength feed (drop at s)) where
+    abbrev line : List ℕ
+    line = take (e - at) (drop at s)
 
-    pub body-done : isEnd l ≡ true → length t ≡ 0 → bodyWrong n k (take j ls) (drop j ls) ≡ 0
-    unfolding bodyWrong
-    body-done e h = rw (here, e, le-ltb 0 (length t) (omega arith))
+    here : drop j (linesOf s) ≡ line ∷ linesOf (drop e s)
+    here = sym (w .place .lines) ∙ split-at feed s at e left size
 
-    -- a line that may not stand here
-    pub body-stops : isEnd l ≡ false → mayStand n k (take j ls) l ≡ false → bodyWrong n k (take j ls) (drop j ls) ≡ j + 7
-    unfolding bodyWrong
-    body-stops e m = rw (here, e, m, length-take-le j ls within)
+    module _ (end : Bool) (end-is : end ≡ isEnd line) where
+      -- the last line, with lines after it and without
+      pub walked-more : end ≡ true → e < length s → bodyWrong n k [] (linesOf s) ≡ j + 8
+      unfolding bodyWrong
+      walked-more z h =
+          let more = lt-ltb 0 (length (linesOf (drop e s))) (lines-left s e h) in
+          w .same ∙ rw (here, ← end-is, z, more, length-take-le j (linesOf s) (w .count))
 
-    -- one that may
-    pub body-goes : isEnd l ≡ false → mayStand n k (take j ls) l ≡ true → Begins [] ls j l t
-        → bodyWrong n k (take j ls) (drop j ls) ≡ bodyWrong n k (take (suc j) ls) (drop (suc j) ls)
-    unfolding bodyWrong
-    body-goes e m b = rw (here, e, m, b .so-far, b .next)
+      pub walked-done : end ≡ true → length s ≤ e → bodyWrong n k [] (linesOf s) ≡ 0
+      unfolding bodyWrong
+      walked-done z h =
+          let over = le-ltb 0 (length (linesOf (drop e s))) (omega (arith, lines-over s e h)) in
+          w .same ∙ rw (here, ← end-is, z, over)
+
+      module _ (other : end ≡ false) (stands : Bool) (stands-is : stands ≡ mayStand n k (take j (linesOf s)) line) where
+        -- a line that may not stand here
+        pub walked-stops : stands ≡ false → bodyWrong n k [] (linesOf s) ≡ j + 7
+        unfolding bodyWrong
+        walked-stops z = w .same ∙ rw (here, ← end-is, other, ← stands-is, z, length-take-le j (linesOf s) (w .count))
+
+        -- one that may
+        goes : stands ≡ true → Begins [] (linesOf s) j line (linesOf (drop e s))
+            → bodyWrong n k (take j (linesOf s)) (drop j (linesOf s)) ≡ bodyWrong n k (take (suc j) (linesOf s)) (drop (suc j) (linesOf s))
+        unfolding bodyWrong
+        goes z b = rw (here, ← end-is, other, ← stands-is, z, b .so-far, b .next)
+
+        pub walked-goes : stands ≡ true → (r : ℕ) → top ≤ r → (isState line ≡ true → stateOf line < r) → Walked s n k e (j + 1) r
+        walked-goes z r low above =
+            let b = line-here s at j e (w .place) left size in
+            rw (add-one j)
+            (record {
+              few = omega (arith, w .few, end-bounds feed s at e left size);
+              count = omega (arith, b .within);
+              place = line-next s at j e (w .place) left size;
+              blocks = rw (b .so-far) (blocks-more top r (take j (linesOf s)) line (w .blocks) low above);
+              same = w .same ∙ goes z b;
+            })
 
 -- the whole text: its head is wrong, or its body says
 pub text-head : (ls : List (List ℕ)) (h : ℕ) → h ≡ headWrong ls → (h ≡ 0 → ⊥) → h ≡ hoaWrong ls

@@ -1,64 +1,18 @@
 -- The edges of a text that is right: below n and k, and each as its line and its block say. Assumes nothing.
 use mathlib.Core.Path.{_≡_, refl, sym, ap, subst, _∙_}
-use mathlib.Core.Bool.{Bool, true, false, cond, not, _&&_, _||_}
+use mathlib.Core.Bool.{Bool, true, false, cond}
 use mathlib.Core.List.{List, [], _∷_, _++_}
 use Prim.Native.Nat.{ℕ, zero, suc, _+_, _-_, _≤_, _<_}
 use native.Mathlib.Decide.{decLe}
 use native.Mathlib.Nat.{zero-add}
 use native.Mathlib.Omega.{arith}
-use lib.Dec.{ltb, eqb}
 use lib.ListN.{length, getD, drop, length-drop}
-use borrow.Author.Tests.{ltb-true, eqb-false, lt-ltb}
 use Rattle.fields.specs.Fields.{lineOf}
-use Rattle.fields.proofs.Places.{Begins, begins}
-use Rattle.hoa.specs.Lines.{isState, stateOf, targetOf, isEdge}
-use Rattle.hoa.specs.Text.{Edge, hasBlock, isNewBlock, mayStand, isEnd, bodyWrong, headWrong, hoaWrong, modesOf, coloursOf, coloursSaid, edgesFrom, edgesOf}
+use Rattle.hoa.specs.Lines.{isState, stateOf, targetOf}
+use Rattle.hoa.specs.Text.{Edge, isEnd, bodyWrong, hoaWrong, modesOf, coloursOf, coloursSaid, edgesFrom, edgesOf}
 use Rattle.hoa.specs.Edges.{EdgesFit, noEdge, edgeLines, EdgeAt}
-use Rattle.hoa.proofs.EdgeLines.{conflict, both, and-false, edge-below, state-no-edge}
-
--- The ways a line stands in a body that is right: the last line, a new block, an edge's line after some other.
-data Stands (n k : ℕ) (before : List (List ℕ)) (l : List ℕ) (t : List (List ℕ)) : Type 0 where
-  last : isEnd l ≡ true → t ≡ [] → Stands n k before l t
-  block : isEnd l ≡ false → isState l ≡ true → stateOf l < n → bodyWrong n k (before ++ l ∷ []) t ≡ 0 → Stands n k before l t
-  edge : isEnd l ≡ false → isState l ≡ false → 0 < length before → isEdge n k l ≡ true → bodyWrong n k (before ++ l ∷ []) t ≡ 0
-      → Stands n k before l t
-
-module _ (n k : ℕ) (before : List (List ℕ)) (l : List ℕ) (t : List (List ℕ)) where
-  may-edge : isState l ≡ false → mayStand n k before l ≡ true → (0 < length before) × (isEdge n k l ≡ true)
-  unfolding mayStand isNewBlock
-  may-edge s e =
-      let (some, right) = both (ltb 0 (length before)) (isEdge n k l) (rw s at e) in
-      (ltb-true 0 (length before) some, right)
-
-  may-block : isState l ≡ true → mayStand n k before l ≡ true → stateOf l < n
-  unfolding mayStand isNewBlock
-  may-block s e = go (ltb (stateOf l) n) refl (rw (s, state-no-edge n k l s, and-false (ltb 0 (length before))) at e)
-    where
-      go : (t : Bool) → ltb (stateOf l) n ≡ t → (t && not (hasBlock (stateOf l) before) || false) ≡ true → stateOf l < n
-      go true z r = ltb-true (stateOf l) n z
-      go false z r = conflict (sym r)
-
-  over : (ls : List (List ℕ)) → cond (ltb 0 (length ls)) (length before + 8) 0 ≡ 0 → ls ≡ []
-  over [] e = refl
-  over (x ∷ ls) e = absurd (let z : length before + 8 ≡ 0 = rw (lt-ltb 0 (suc (length ls)) (omega arith)) at e in omega (arith, z))
-
-  stands : bodyWrong n k before (l ∷ t) ≡ 0 → Stands n k before l t
-  unfolding bodyWrong
-  stands e = go (isEnd l) refl (mayStand n k before l) refl (isState l) refl e
-    where
-      go : (a : Bool) → isEnd l ≡ a → (b : Bool) → mayStand n k before l ≡ b → (c : Bool) → isState l ≡ c
-          → cond a (cond (ltb 0 (length t)) (length before + 8) 0) (cond b (bodyWrong n k (before ++ l ∷ []) t) (length before + 7)) ≡ 0
-          → Stands n k before l t
-      go true x b y c z e = last x (over t e)
-      go false x false y c z e = absurd (omega (arith, e))
-      go false x true y true z e = block x z (may-block z y) e
-      go false x true y false z e = let (some, right) = may-edge z y in edge x z some right e
-
--- a body that is right has a line
-pub some-line : (n k : ℕ) (before rest : List (List ℕ)) → bodyWrong n k before rest ≡ 0 → 0 < length rest
-unfolding bodyWrong
-some-line n k before [] e = absurd (omega (arith, e))
-some-line n k before (l ∷ t) e = omega arith
+use Rattle.hoa.proofs.EdgeLines.{edge-below}
+use Rattle.hoa.proofs.Stands.{Stands, last, block, edge, stands, some-line, right-body, at-line, next-line}
 
 -- the edge on a line where the block of mode s is open
 abbrev edgeOn : ℕ → List ℕ → Edge
@@ -92,19 +46,10 @@ edges-fit n k s before (l ∷ t) h e = go (stands n k before l t e) (λ s b. edg
         → ((s : ℕ) (b : List (List ℕ)) → (0 < length b → s < n) → bodyWrong n k b t ≡ 0 → EdgesFit n k (edgesFrom s t))
         → EdgesFit n k (edgesFrom s (l ∷ t))
     go (last x y) ih = rw (y, edges-last s l x) tt
-    go (block x y low r) ih = rw (edges-block s l t y) (ih (stateOf l) (before ++ l ∷ []) (λ z. low) r)
+    go (block x y low new r) ih = rw (edges-block s l t y) (ih (stateOf l) (before ++ l ∷ []) (λ z. low) r)
     go (edge x y some right r) ih =
         let (low, few) = edge-below n k l right in
         rw (edges-edge s l t y x) (record { source = h some; target = low; colours = few }, ih s (before ++ l ∷ []) (λ z. h some) r)
-
-right-body : (ls : List (List ℕ)) → hoaWrong ls ≡ 0 → bodyWrong (modesOf ls) (coloursOf ls) [] (drop 6 ls) ≡ 0
-unfolding hoaWrong
-right-body ls e = go (eqb (headWrong ls) 0) refl e
-  where
-    go : (t : Bool) → eqb (headWrong ls) 0 ≡ t → cond t (bodyWrong (modesOf ls) (coloursOf ls) [] (drop 6 ls)) (headWrong ls) ≡ 0
-        → bodyWrong (modesOf ls) (coloursOf ls) [] (drop 6 ls) ≡ 0
-    go true z r = r
-    go false z r = absurd (eqb-false (headWrong ls) 0 z r)
 
 -- "Every mode but the start is below its own text's n", and each colour below its k
 pub edges-right : (ls : List (List ℕ)) → hoaWrong ls ≡ 0 → EdgesFit (modesOf ls) (coloursOf ls) (edgesOf ls)
@@ -129,12 +74,6 @@ module _ (ls : List (List ℕ)) (n k : ℕ) where
   lines-edge j e = rw e (omega arith)
 
   module _ (j s : ℕ) (l : List ℕ) (t : List (List ℕ)) (here : drop (6 + j) ls ≡ l ∷ t) where
-    at-line : Begins [] ls (6 + j) l t
-    at-line = begins [] ls (6 + j) l t here
-
-    next-line : drop (6 + suc j) ls ≡ t
-    next-line = let same : 6 + suc j ≡ suc (6 + j) = omega arith in rw same (at-line .next)
-
     -- the block that line j opens
     opened : isState l ≡ true → Open (suc j) (stateOf l)
     opened z =
@@ -142,15 +81,15 @@ module _ (ls : List (List ℕ)) (n k : ℕ) where
           at = 6 + j;
           body = omega arith;
           earlier = omega arith;
-          opens = rw (at-line .here) z;
+          opens = rw (at-line ls j l t here .here) z;
           within = λ x h g. absurd (omega (arith, h, g));
-          source = rw (at-line .here);
+          source = rw (at-line ls j l t here .here);
         }
 
     no-state : isState l ≡ false → (o : Open j s) (x : ℕ) → o .at < x → x ≤ 6 + j → isState (lineOf ls x) ≡ false
     no-state z o x h g =
         elim (decLe (6 + j) x) [
-          | yes r ↦ let same : x ≡ 6 + j = omega arith in rw (same, at-line .here) z
+          | yes r ↦ let same : x ≡ 6 + j = omega arith in rw (same, at-line ls j l t here .here) z
           | no r ↦ o .within x h (omega arith)
         ]
 
@@ -169,7 +108,7 @@ module _ (ls : List (List ℕ)) (n k : ℕ) where
     more-lines : 0 < length t → suc (6 + j) < length ls
     more-lines h =
         let left : length (drop (suc (6 + j)) ls) ≡ length ls - suc (6 + j) = length-drop (suc (6 + j)) ls in
-        let same : length (drop (suc (6 + j)) ls) ≡ length t = ap length (at-line .next) in
+        let same : length (drop (suc (6 + j)) ls) ≡ length t = ap length (at-line ls j l t here .next) in
         omega arith
 
     -- what is said of the edge on line j
@@ -184,8 +123,8 @@ module _ (ls : List (List ℕ)) (n k : ℕ) where
           opens = o .opens;
           within = no-state z o;
           source = o .source;
-          target = rw (at-line .here);
-          colours = rw (at-line .here);
+          target = rw (at-line ls j l t here .here);
+          colours = rw (at-line ls j l t here .here);
           before = ap (edgeLines ls) (omega arith);
         }
 
@@ -194,23 +133,23 @@ module _ (ls : List (List ℕ)) (n k : ℕ) where
       → i < length (edgesFrom s rest) → EdgeAt ls (edgeLines ls j + i) (getD (edgesFrom s rest) i noEdge)
   said j s i before [] here e o h = absurd (omega (arith, some-line n k before [] e))
   said j s i before (l ∷ t) here e o h =
-      go (stands n k before l t e) (λ s i b. said (suc j) s i b t (next-line j s l t here)) i h
+      go (stands n k before l t e) (λ s i b. said (suc j) s i b t (next-line ls j l t here)) i h
     where
       go : Stands n k before l t
           → ((s i : ℕ) (b : List (List ℕ)) → bodyWrong n k b t ≡ 0 → (0 < length b → Open (suc j) s) → i < length (edgesFrom s t)
           → EdgeAt ls (edgeLines ls (suc j) + i) (getD (edgesFrom s t) i noEdge))
           → (i : ℕ) → i < length (edgesFrom s (l ∷ t)) → EdgeAt ls (edgeLines ls j + i) (getD (edgesFrom s (l ∷ t)) i noEdge)
       go (last x y) ih i h = absurd (let z : i < length (edgesFrom s (l ∷ [])) = rw y at h in omega (arith, z, ap length (edges-last s l x)))
-      go (block x y low r) ih i h =
+      go (block x y low new r) ih i h =
           let same = edges-block s l t y in
-          rw (same, ← (lines-block j (rw (at-line j s l t here .here) y)))
+          rw (same, ← (lines-block j (rw (at-line ls j l t here .here) y)))
           (ih (stateOf l) i (before ++ l ∷ []) r (λ z. opened j s l t here y) (rw same at h))
       go (edge x y some right r) ih zero h =
           let none : edgeLines ls j + 0 ≡ edgeLines ls j = omega arith in
           rw (edges-edge s l t y x, none) (said-here j s l t here y (some-line n k (before ++ l ∷ []) t r) (o some))
       go (edge x y some right r) ih (suc i) h =
           let same = edges-edge s l t y x in
-          let one = lines-edge j (rw (at-line j s l t here .here) y) in
+          let one = lines-edge j (rw (at-line ls j l t here .here) y) in
           let next : edgeLines ls j + suc i ≡ edgeLines ls (suc j) + i = omega (arith, one) in
           let left : suc i < suc (length (edgesFrom s t)) = rw same at h in
           rw (same, next) (ih s i (before ++ l ∷ []) r (λ z. stays j s l t here y (o some)) (omega arith))
@@ -218,7 +157,7 @@ module _ (ls : List (List ℕ)) (n k : ℕ) where
   counted : (j s : ℕ) (before rest : List (List ℕ)) → drop (6 + j) ls ≡ rest → bodyWrong n k before rest ≡ 0
       → edgeLines ls j + length (edgesFrom s rest) ≡ edgeLines ls (length ls - 7)
   counted j s before [] here e = absurd (omega (arith, some-line n k before [] e))
-  counted j s before (l ∷ t) here e = go (stands n k before l t e) (λ s b. counted (suc j) s b t (next-line j s l t here))
+  counted j s before (l ∷ t) here e = go (stands n k before l t e) (λ s b. counted (suc j) s b t (next-line ls j l t here))
     where
       go : Stands n k before l t
           → ((s : ℕ) (b : List (List ℕ)) → bodyWrong n k b t ≡ 0 → edgeLines ls (suc j) + length (edgesFrom s t) ≡ edgeLines ls (length ls - 7))
@@ -228,10 +167,10 @@ module _ (ls : List (List ℕ)) (n k : ℕ) where
           let one : length (drop (6 + j) ls) ≡ 1 = rw (here, y) in
           let end : length ls - 7 ≡ j = omega arith in
           rw (y, edges-last s l x, end) (omega arith)
-      go (block x y low r) ih =
-          rw (edges-block s l t y, ← (lines-block j (rw (at-line j s l t here .here) y))) (ih (stateOf l) (before ++ l ∷ []) r)
+      go (block x y low new r) ih =
+          rw (edges-block s l t y, ← (lines-block j (rw (at-line ls j l t here .here) y))) (ih (stateOf l) (before ++ l ∷ []) r)
       go (edge x y some right r) ih =
-          let one = lines-edge j (rw (at-line j s l t here .here) y) in
+          let one = lines-edge j (rw (at-line ls j l t here .here) y) in
           let rest = ih s (before ++ l ∷ []) r in
           rw (edges-edge s l t y x) (omega (arith, one, rest))
 

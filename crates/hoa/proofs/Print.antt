@@ -40,7 +40,13 @@ split-lone c =
 pub colours-back : (k c : ℕ) (cs : List ℕ) → k ≤ 100000 → c < k → Below k cs → areColours k (split blank (ended (inner c cs))) ≡ true
 unfolding areColours isOnly afterWord
 colours-back k c [] few h f =
-    rw (last-piece c, split-lone c, number-num c (125 ∷ feed ∷ []) (omega arith) brace-ends, after-num c (125 ∷ feed ∷ []) (omega arith) brace-ends, lt-ltb c k h)
+    rw (
+      last-piece c,
+      split-lone c,
+      number-num c (125 ∷ feed ∷ []) (omega arith) brace-ends,
+      after-num c (125 ∷ feed ∷ []) (omega arith) brace-ends,
+      lt-ltb c k h,
+    )
 colours-back k c (d ∷ cs) few h f =
     rw (
       more-piece c d cs,
@@ -54,7 +60,11 @@ colours-back k c (d ∷ cs) few h f =
 pub colours-said : (c : ℕ) (cs : List ℕ) → Small c → Below 100000 cs → map numberOf (split blank (ended (inner c cs))) ≡ c ∷ cs
 colours-said c [] low f = rw (last-piece c, split-lone c) (ap (λ (x : ℕ). x ∷ []) (number-num c (125 ∷ feed ∷ []) low brace-ends))
 colours-said c (d ∷ cs) low f =
-    rw (more-piece c d cs, split-piece blank (num c) (ended (inner d cs)) (num-free blank c (omega arith)), number-num c (blank ∷ []) low (blank-ends []))
+    rw (
+      more-piece c d cs,
+      split-piece blank (num c) (ended (inner d cs)) (num-free blank c (omega arith)),
+      number-num c (blank ∷ []) low (blank-ends []),
+    )
     (ap (λ (l : List ℕ). c ∷ l) (colours-said d cs (f .0) (f .1)))
 
 -- what stands in the braces, with the closing brace
@@ -143,8 +153,9 @@ inf-free b j h f =
 pub infs-back : (k j r : ℕ) → k ≤ 100000 → j + suc r ≡ k → areInfs k j (split ampersand (ended (infs j r))) ≡ true
 unfolding areInfs isOnly
 infs-back k j zero few e =
+    let free = inf-free ampersand j (omega arith) (refl, (refl, (refl, (refl, tt)))) in
     rw (
-      split-one ampersand (inf j ++ feed ∷ []) (free-append ampersand (inf j) (feed ∷ []) (inf-free ampersand j (omega arith) (refl, (refl, (refl, (refl, tt))))) (refl, tt)) (omega arith),
+      split-one ampersand (inf j ++ feed ∷ []) (free-append ampersand (inf j) (feed ∷ []) free (refl, tt)) (omega arith),
       inf-number j (feed ∷ []) (omega arith),
       inf-tail j (feed ∷ []) (omega arith),
       eq-eqb j j refl,
@@ -175,9 +186,12 @@ pub accepting-count : (k : ℕ) → Small k → colourCount (ended (accepting k)
 accepting-count k low = rw (accepting-ended k) (number-back acceptWord k (blankWord ++ ended (goals k)) low (blank-ends _))
 
 accepting-rest : (k : ℕ) → Small k → condition (ended (accepting k)) ≡ ended (goals k)
-accepting-rest k low = rw (accepting-ended k, tail-back acceptWord k (blankWord ++ ended (goals k)) low (blank-ends _)) (after-word blankWord (ended (goals k)))
+accepting-rest k low =
+    rw (accepting-ended k, tail-back acceptWord k (blankWord ++ ended (goals k)) low (blank-ends _)) (after-word blankWord (ended (goals k)))
 
 pub accepting-back : (k : ℕ) → Small k → isAcceptance (ended (accepting k)) ≡ true
 unfolding isAcceptance isOnly afterWord
 accepting-back zero low = rw (accepting-count 0 low, accepting-rest 0 low)
-accepting-back (suc r) low = rw (accepting-count (suc r) low, accepting-rest (suc r) low, ne-eqb (suc r) 0 (λ e. absurd (omega (arith, e)))) (infs-back (suc r) 0 r (omega arith) (omega arith))
+accepting-back (suc r) low =
+    rw (accepting-count (suc r) low, accepting-rest (suc r) low, ne-eqb (suc r) 0 (λ e. absurd (omega (arith, e))))
+    (infs-back (suc r) 0 r (omega arith) (omega arith))

@@ -14,6 +14,7 @@ use Rattle.hoa.specs.Words.{stateWord, endWord}
 use Rattle.hoa.specs.Lines.{isState}
 use Rattle.hoa.specs.Text.{Edge, contains, edgesFrom, opensBlock, hasBlock, isNewBlock, mayStand, isEnd, bodyWrong}
 use Rattle.hoa.specs.Edges.{Below, EdgeFits, EdgesFit}
+use Rattle.hoa.proofs.Blocks.{block-more}
 use Rattle.hoa.proofs.Print.{edged, edge-back, edge-target, edge-colours}
 
 abbrev pub stated : ℕ → List ℕ
@@ -65,20 +66,6 @@ edge-no-state t cs = refl
 state-no-end : (i : ℕ) → isEnd (ended (stated i)) ≡ false
 unfolding afterWord isOnly
 state-no-end i = refl
-
--- blocks of one line more
-block-more : (m : ℕ) (ls : List (List ℕ)) (l : List ℕ) → hasBlock m (ls ++ l ∷ []) ≡ (hasBlock m ls || opensBlock m l)
-unfolding hasBlock
-block-more m [] l = last (opensBlock m l)
-  where
-    last : (t : Bool) → (t || false) ≡ t
-    last true = refl
-    last false = refl
-block-more m (x ∷ ls) l = rw (block-more m ls l) (assoc (opensBlock m x))
-  where
-    assoc : (t : Bool) → (t || (hasBlock m ls || opensBlock m l)) ≡ (t || hasBlock m ls || opensBlock m l)
-    assoc true = refl
-    assoc false = refl
 
 opens-edge : (m t : ℕ) (cs : List ℕ) → opensBlock m (ended (edged t cs)) ≡ false
 unfolding opensBlock
@@ -147,7 +134,8 @@ module _ (n k : ℕ) (many : n ≤ 100000) (few : k ≤ 100000) where
     where
       go : (t : Bool) → eqb (e .source) s ≡ t
           → ((b : List (List ℕ)) → (0 < length b) × OnlyThese (e .source ∷ v) b → bodyWrong n k b (map ended (bodyFrom (e .source) es)) ≡ 0)
-          → bodyWrong n k before (map ended (cond t (edgeText e ∷ bodyFrom (e .source) es) (stated (e .source) ∷ edgeText e ∷ bodyFrom (e .source) es))) ≡ 0
+          → bodyWrong n k before
+          (map ended (cond t (edgeText e ∷ bodyFrom (e .source) es) (stated (e .source) ∷ edgeText e ∷ bodyFrom (e .source) es))) ≡ 0
       go true z ih =
           edge-goes before (map ended (bodyFrom (e .source) es)) e (q .0) h
           ∙ ih (before ++ ended (edgeText e) ∷ []) (more before (ended (edgeText e)), these-edge v before (e .source) (e .target) (e .colours) f)
@@ -200,7 +188,8 @@ module _ (n k : ℕ) (many : n ≤ 100000) (few : k ≤ 100000) where
   edges-back s (e ∷ es) q = go (eqb (e .source) s) refl (edges-back (e .source) es (q .1))
     where
       go : (t : Bool) → eqb (e .source) s ≡ t → edgesFrom (e .source) (map ended (bodyFrom (e .source) es)) ≡ es
-          → edgesFrom s (map ended (cond t (edgeText e ∷ bodyFrom (e .source) es) (stated (e .source) ∷ edgeText e ∷ bodyFrom (e .source) es))) ≡ e ∷ es
+          → edgesFrom s (map ended (cond t (edgeText e ∷ bodyFrom (e .source) es) (stated (e .source) ∷ edgeText e ∷ bodyFrom (e .source) es)))
+          ≡ e ∷ es
       go true z ih =
           let same : e .source ≡ s = eqb-true (e .source) s z in
           edge-read s (map ended (bodyFrom (e .source) es)) e (q .0) same

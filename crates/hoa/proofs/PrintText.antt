@@ -37,7 +37,8 @@ edged-line t cs =
 
 inf-line : (j : ℕ) → Free feed (inf j)
 inf-line j =
-    free-append feed infWord (num j ++ closeWord) (free-word feed infWord (words-free .9)) (free-append feed (num j) closeWord (num-line j) (refl, tt))
+    free-append feed infWord (num j ++ closeWord) (free-word feed infWord (words-free .9))
+    (free-append feed (num j) closeWord (num-line j) (refl, tt))
 
 infs-line : (j r : ℕ) → Free feed (infs j r)
 infs-line j zero = inf-line j

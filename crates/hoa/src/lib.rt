@@ -1,8 +1,8 @@
 // HOA text: its lines, and the first that is outside the forms.
 ghost use mathlib.Core.Path.{_≡_};
-ghost use mathlib.Core.Bool.{cond};
+ghost use mathlib.Core.Bool.{true, cond};
 ghost use mathlib.Core.List.{[], map};
-ghost use Prim.Native.Nat.{_≤_};
+ghost use Prim.Native.Nat.{_≤_, _<_};
 ghost use lib.ListN.{length, take};
 ghost use Rattle.fields.specs.Bytes.{blank, ampersand};
 ghost use Rattle.fields.specs.Fields.{numberOf, split, linesOf, isWord};
@@ -11,7 +11,6 @@ ghost use Rattle.hoa.specs.Lines.{
   isState,
   stateOf,
   targetOf,
-  targetTail,
   inside,
   areColours,
   isBraces,
@@ -31,6 +30,7 @@ ghost use Rattle.hoa.specs.Text.{
   opensBlock,
   hasBlock,
   isNewBlock,
+  BlocksBelow,
   mayStand,
   isEnd,
   bodyWrong,
@@ -62,18 +62,11 @@ pub fn target_of(line: &[u8]) -> u32
     fields::number_after(line, b"[t] ")
 }
 
-// What follows the target of an edge's line.
-fn target_tail(line: &[u8]) -> &[u8]
-    ensures { λ r. ⌜ now r ≡ targetTail (now (line .entry)) ⌝ }
-{
-    fields::tail_after(line, b"[t] ")
-}
-
 // What follows the opening brace of an edge's line.
-pub fn inside_of(line: &[u8]) -> &[u8]
+fn inside_of(line: &[u8]) -> &[u8]
     ensures { λ r. ⌜ now r ≡ inside (now (line .entry)) ⌝ }
 {
-    fields::after_word(target_tail(line), b" {")
+    fields::after_word(fields::tail_after(line, b"[t] "), b" {")
 }
 
 // Whether a list ends a pair of braces.
@@ -117,16 +110,18 @@ fn is_braces(s: &[u8], k: u32) -> bool
 }
 
 // Whether a line is an edge's line.
-pub fn is_edge(line: &[u8], n: u32, k: u32) -> bool
+fn is_edge(line: &[u8], n: u32, k: u32) -> bool
     ensures { λ r. ⌜ r ≡ isEdge n k (now (line .entry)) ⌝ }
 {
-    if target_of(line) >= n {
+    let rest = fields::after_word(line, b"[t] ");
+    if fields::number_of(rest) >= n {
         return false;
     }
-    if fields::is_only(target_tail(line), Bytes::FEED) {
+    let tail = fields::after_number(rest);
+    if fields::is_only(tail, Bytes::FEED) {
         return true;
     }
-    is_braces(inside_of(line), k)
+    is_braces(fields::after_word(tail, b" {"), k)
 }
 
 // The number of colours on an `Acceptance:` line.
@@ -270,8 +265,10 @@ fn has_block(body: &[u8], count: usize, mode: u32) -> bool
     false
 }
 
-// Whether a line opens the block of a mode that has none in the first lines of a body.
-fn is_new_block(body: &[u8], count: usize, line: &[u8], n: u32) -> bool
+// Whether a line opens the block of a mode that has none in the first lines of a body. No mode from top on has one there, so that a text whose
+// blocks stand in rising order is read in linear time.
+fn is_new_block(body: &[u8], count: usize, top: u64, line: &[u8], n: u32) -> bool
+    requires { ⌜ BlocksBelow top (take count (linesOf (now body))) ⌝ }
     ensures { λ r. ⌜ r ≡ isNewBlock n (take count (linesOf (now (body .entry)))) (now (line .entry)) ⌝ }
 {
     if !is_state(line) {
@@ -281,21 +278,38 @@ fn is_new_block(body: &[u8], count: usize, line: &[u8], n: u32) -> bool
     if mode >= n {
         return false;
     }
+    if (mode as u64) >= top {
+        return true;
+    }
     !has_block(body, count, mode)
 }
 
-// Whether a line may stand after the first lines of a body.
-fn may_stand(body: &[u8], count: usize, line: &[u8], n: u32, k: u32) -> bool
-    requires { ⌜ count ≤ length (linesOf (now body)) ⌝ }
+// Whether a line may stand after the first lines of a body, where no mode from top on has a block.
+fn may_stand(body: &[u8], count: usize, top: u64, line: &[u8], n: u32, k: u32) -> bool
+    requires { ⌜ (count ≤ length (linesOf (now body))) × BlocksBelow top (take count (linesOf (now body))) ⌝ }
     ensures { λ r. ⌜ r ≡ mayStand n k (take count (linesOf (now (body .entry)))) (now (line .entry)) ⌝ }
 {
-    if is_new_block(body, count, line, n) {
+    if is_new_block(body, count, top, line, n) {
         return true;
     }
     if count == 0 {
         return false;
     }
     is_edge(line, n, k)
+}
+
+// The top with one line more: above the line's mode too, where it opens a block.
+fn top_after(top: u64, line: &[u8]) -> u64
+    ensures { λ r. ⌜ (top ≤ r) × (isState (now (line .entry)) ≡ true → stateOf (now (line .entry)) < r) ⌝ }
+{
+    if !is_state(line) {
+        return top;
+    }
+    let mode = state_of(line) as u64;
+    if mode < top {
+        return top;
+    }
+    mode + 1
 }
 
 // Whether a line is the last.
@@ -311,6 +325,7 @@ fn body_wrong(body: &[u8], n: u32, k: u32) -> usize
 {
     let mut at = 0;
     let mut j = 0;
+    let mut top: u64 = 0;
     while at < body.len() {
         let e = fields::piece_end(body, at, Bytes::FEED);
         let line = &body[at..e];
@@ -320,9 +335,10 @@ fn body_wrong(body: &[u8], n: u32, k: u32) -> usize
             }
             return 0;
         }
-        if !may_stand(body, j, line, n, k) {
+        if !may_stand(body, j, top, line, n, k) {
             return j + 7;
         }
+        top = top_after(top, line);
         at = e;
         j += 1;
     }
@@ -358,34 +374,37 @@ fn in_pieces(s: &[u8], colour: u32) -> bool
     false
 }
 
-// Whether an edge's line has a colour.
-fn has_colour(line: &[u8], colour: u32) -> bool
-    ensures { λ r. ⌜ r ≡ contains colour (coloursSaid (now (line .entry))) ⌝ }
+// A bit where a colour stands among the pieces of a list, else 0.
+fn colour_bit(s: &[u8], colour: u32, bit: u8) -> u8
+    ensures { λ r. ⌜ (r ≡ cond (contains colour (map numberOf (split blank (now (s .entry))))) bit 0) × (r ≤ bit) ⌝ }
 {
-    let rest = inside_of(line);
-    if closes(rest) {
-        return false;
-    }
-    in_pieces(rest, colour)
-}
-
-// A bit where an edge's line has a colour, else 0.
-fn colour_bit(line: &[u8], colour: u32, bit: u8) -> u8
-    ensures { λ r. ⌜ (r ≡ cond (contains colour (coloursSaid (now (line .entry)))) bit 0) × (r ≤ bit) ⌝ }
-{
-    if has_colour(line, colour) {
+    if in_pieces(s, colour) {
         return bit;
     }
     0
+}
+
+// The colour byte of the pieces of a list.
+fn pieces_byte(s: &[u8]) -> u8
+    ensures { λ r. ⌜ r ≡ colourByte (map numberOf (split blank (now (s .entry)))) ⌝ }
+{
+    let a = colour_bit(s, 0, 1);
+    let b = colour_bit(s, 1, 2);
+    let c = colour_bit(s, 2, 4);
+    let d = colour_bit(s, 3, 8);
+    a + b + c + d
 }
 
 // The colour byte of an edge's line.
 pub fn colour_byte(line: &[u8]) -> u8
     ensures { λ r. ⌜ r ≡ colourByte (coloursSaid (now (line .entry))) ⌝ }
 {
-    let a = colour_bit(line, 0, 1);
-    let b = colour_bit(line, 1, 2);
-    let c = colour_bit(line, 2, 4);
-    let d = colour_bit(line, 3, 8);
-    a + b + c + d
+    let rest = inside_of(line);
+    if rest.len() == 0 {
+        return 0;
+    }
+    if closes(rest) {
+        return 0;
+    }
+    pieces_byte(rest)
 }

@@ -1,4 +1,4 @@
--- `dimacs::count_on` meets its contract. Assumes nothing.
+-- `dimacs::count_on` meets its contract: what its calls ensure, one after the other. Assumes nothing.
 use mathlib.Core.Path.{ap, _∙_}
 use borrow.Author.Needs.{needs}
 use Rattle.fields.specs.Fields.{numberOf}

@@ -22,7 +22,8 @@ is-mode-requires : tie.Need-is-mode-requires
 is-mode-requires c κs = search needs
 
 -- the first test is of the source
-from-test : (d : tie.After-is-mode) → let a = d .before .before .before .before .before .args in d .is-mode .result ≡ isMode (a .n) (fromOn (a .line .now))
+from-test : (d : tie.After-is-mode)
+    → let a = d .before .before .before .before .before .args in d .is-mode .result ≡ isMode (a .n) (fromOn (a .line .now))
 from-test d =
     d .is-mode .ensures ∙ ap {B = Bool} (isMode _) (d .before .number-of .ensures ∙ ap numberOf (d .before .before .after-word .ensures))
 

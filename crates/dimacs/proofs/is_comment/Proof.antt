@@ -1,4 +1,4 @@
--- `dimacs::is_comment` meets its contract. Assumes nothing.
+-- `dimacs::is_comment` meets its contract: its first byte, then its last. Assumes nothing.
 use mathlib.Core.Path.{sym}
 use borrow.Author.Needs.{needs}
 use Rattle.dimacs.proofs.Signs.{comment-other, comment-first, comment-none}

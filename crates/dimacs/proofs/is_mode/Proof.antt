@@ -1,4 +1,4 @@
--- `dimacs::is_mode` meets its contract. Assumes nothing.
+-- `dimacs::is_mode` meets its contract: its two tests are the two sides of the definition. Assumes nothing.
 use native.Mathlib.Omega.{arith}
 use borrow.Author.Tests.{le-ltb, lt-ltb}
 use Rattle.dimacs.proofs.is_mode.Statement.{statement}

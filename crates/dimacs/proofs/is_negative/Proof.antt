@@ -1,4 +1,4 @@
--- `dimacs::is_negative` meets its contract. Assumes nothing.
+-- `dimacs::is_negative` meets its contract: the first byte, where there is one. Assumes nothing.
 use mathlib.Core.Path.{sym}
 use borrow.Author.Needs.{needs}
 use Rattle.dimacs.specs.Lines.{isNegative}

@@ -1,6 +1,7 @@
--- `dimacs::is_problem` meets its contract. Assumes nothing.
+-- `dimacs::is_problem` meets its contract: what its calls ensure, one after the other. Assumes nothing.
 use mathlib.Core.Path.{ap, _∙_}
 use borrow.Author.Needs.{needs}
+use Rattle.fields.specs.Bytes.{feed}
 use Rattle.fields.specs.Fields.{isOnly, afterNumber}
 use Rattle.dimacs.proofs.is_problem.Statement.{statement}
 use Rattle.dimacs.proofs.is_problem.Tie as tie
@@ -15,7 +16,8 @@ is-only-requires : tie.Need-is-only-requires
 is-only-requires c κs = search needs
 
 returns : tie.Need-returns
-returns c = c .is-only .ensures ∙ ap (isOnly 10) (c .before .after-number .ensures ∙ ap afterNumber (c .before .before .count-field .ensures))
+returns c =
+    c .is-only .ensures ∙ ap (isOnly feed) (c .before .after-number .ensures ∙ ap afterNumber (c .before .before .count-field .ensures))
 
 pub is-problem-spec : {M : Type 1} → statement M
 is-problem-spec =

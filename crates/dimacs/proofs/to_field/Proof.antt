@@ -1,4 +1,4 @@
--- `dimacs::to_field` meets its contract. Assumes nothing.
+-- `dimacs::to_field` meets its contract: what its calls ensure, one after the other. Assumes nothing.
 use mathlib.Core.Path.{ap, _∙_}
 use borrow.Author.Needs.{needs}
 use Rattle.fields.specs.Fields.{afterWord}

@@ -1,4 +1,4 @@
--- `dimacs::unsigned_of` meets its contract. Assumes nothing.
+-- `dimacs::unsigned_of` meets its contract: the field from its second byte on where the first is a minus, else the field. Assumes nothing.
 use mathlib.Core.Path.{sym, _∙_}
 use Prim.Native.Nat.{_-_}
 use native.Mathlib.Omega.{arith}
@@ -26,9 +26,9 @@ part-result-end c = search needs
 
 returns-2 : tie.Need-returns-2
 returns-2 c =
-    let s = c .before .before .before .before .args .field .now in
-    take-all (length s - 1) (drop 1 s) (simp length-drop (omega arith))
-    ∙ sym (unsigned-minus s (c .before .before .before .if1 .left) (c .before .if2 .taken))
+    let some = c .before .before .before in
+    let s = some .before .args .field .now in
+    take-all (length s - 1) (drop 1 s) (simp length-drop (omega arith)) ∙ sym (unsigned-minus s (some .if1 .left) (c .before .if2 .taken))
 
 returns-3 : tie.Need-returns-3
 returns-3 c = sym (unsigned-other _ (c .before .before .if1 .left) (c .if2 .left))

@@ -1,4 +1,4 @@
--- `dimacs::weight_field` meets its contract. Assumes nothing.
+-- `dimacs::weight_field` meets its contract: what its calls ensure, one after the other. Assumes nothing.
 use mathlib.Core.Path.{ap, _∙_}
 use borrow.Author.Needs.{needs}
 use Rattle.fields.specs.Fields.{afterWord, afterNumber}
@@ -19,7 +19,9 @@ after-word-requires : tie.Need-after-word-requires
 after-word-requires c κs = search needs
 
 returns : tie.Need-returns
-returns c = c .after-word .ensures ∙ ap (afterWord blankWord) (c .before .before .after-number .ensures ∙ ap afterNumber (c .before .before .before .to-field .ensures))
+returns c =
+    let to = c .before .before in
+    c .after-word .ensures ∙ ap (afterWord blankWord) (to .after-number .ensures ∙ ap afterNumber (to .before .to-field .ensures))
 
 pub weight-field-spec : {M : Type 1} → statement M
 weight-field-spec =

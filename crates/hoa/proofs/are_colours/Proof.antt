@@ -1,4 +1,4 @@
--- `hoa::are_colours` meets its contract. Assumes nothing.
+-- `hoa::are_colours` meets its contract: at every turn the pieces are right where those that are left are. Assumes nothing.
 use mathlib.Core.Path.{_≡_, refl, sym, _∙_}
 use Prim.Native.Nat.{_-_, _≤_}
 use native.Mathlib.Omega.{arith}
@@ -33,8 +33,8 @@ part-piece-start c = search needs
 
 part-piece-end : tie.Need-part-piece-end Inv-loop μ-loop
 part-piece-end c =
-    let a = c .before .before .before .before .args in
-    omega (arith, end-bounds blank (a .s .now) (c .before .before .loop .at) (c .piece-end .result) (omega arith) (c .piece-end .ensures))
+    let d = c .before .before in
+    omega (arith, end-bounds blank (d .before .before .args .s .now) (d .loop .at) (c .piece-end .result) (omega arith) (c .piece-end .ensures))
 
 number-of-requires : tie.Need-number-of-requires Inv-loop μ-loop
 number-of-requires c κs = search needs
@@ -75,7 +75,9 @@ is-only-requires c κs = search needs
 
 returns-3 : tie.Need-returns-3 Inv-loop μ-loop
 returns-3 c =
-    let g = c .before .before .before .before .before in
+    let o = c .before .before in
+    let t = o .before .before in
+    let g = t .before in
     let f = g .before .before .before in
     let d = f .before .before in
     let a = d .before .before .args in
@@ -83,14 +85,16 @@ returns-3 c =
     let at = d .loop .at in
     let e = f .piece-end .result in
     let p = take (e - at) (drop at s) in
-    let tail = c .before .before .before .before .after-number .ensures in
+    let tail = t .after-number .ensures in
     sym (d .loop .inv .1 ∙ colours-at (a .k) s at e (omega arith) (f .piece-end .ensures)
-    ∙ turn-wrong (a .k) p _ (omega arith) (rw tail at (sym (c .before .before .before .closes .ensures) ∙ c .before .before .if2 .left))
+    ∙ turn-wrong (a .k) p _ (omega arith) (rw tail at (sym (o .before .closes .ensures) ∙ o .if2 .left))
     (rw tail at (sym (c .before .is-only .ensures) ∙ not-true _ (c .if3 .taken))))
 
 loop-less : tie.Need-loop-less Inv-loop μ-loop
 loop-less c =
-    let g = c .before .before .before .before .before in
+    let o = c .before .before in
+    let t = o .before .before in
+    let g = t .before in
     let f = g .before .before .before in
     let d = f .before .before in
     let a = d .before .before .args in
@@ -98,7 +102,9 @@ loop-less c =
 
 loop-again : tie.Need-loop-again Inv-loop μ-loop
 loop-again c =
-    let g = c .before .before .before .before .before in
+    let o = c .before .before in
+    let t = o .before .before in
+    let g = t .before in
     let f = g .before .before .before in
     let d = f .before .before in
     let a = d .before .before .args in
@@ -106,10 +112,10 @@ loop-again c =
     let at = d .loop .at in
     let e = f .piece-end .result in
     let p = take (e - at) (drop at s) in
-    let tail = c .before .before .before .before .after-number .ensures in (
+    let tail = t .after-number .ensures in (
       omega (arith, end-bounds blank (a .s .now) (d .loop .at) (f .piece-end .result) (omega arith) (f .piece-end .ensures)),
       d .loop .inv .1 ∙ colours-at (a .k) s at e (omega arith) (f .piece-end .ensures)
-          ∙ turn-more (a .k) p _ (omega arith) (rw tail at (sym (c .before .before .before .closes .ensures) ∙ c .before .before .if2 .left))
+          ∙ turn-more (a .k) p _ (omega arith) (rw tail at (sym (o .before .closes .ensures) ∙ o .if2 .left))
           (rw tail at (sym (c .before .is-only .ensures) ∙ not-false _ (c .if3 .left))),
     )
 

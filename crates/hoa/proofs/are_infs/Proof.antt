@@ -1,4 +1,4 @@
--- `hoa::are_infs` meets its contract. Assumes nothing.
+-- `hoa::are_infs` meets its contract: at every turn the pieces are right where those that are left are. Assumes nothing.
 use mathlib.Core.Path.{_≡_, refl, sym, _∙_}
 use Prim.Native.Nat.{_-_, _≤_}
 use native.Mathlib.Omega.{arith}
@@ -83,7 +83,9 @@ is-only-requires-2 c κs = search needs
 
 returns-3 : tie.Need-returns-3 Inv-loop μ-loop
 returns-3 c =
-    let g = c .before .before .before .before .before in
+    let o = c .before .before in
+    let t = o .before .before in
+    let g = t .before in
     let f = g .before .before .before in
     let d = f .before .before in
     let a = d .before .before .args in
@@ -91,10 +93,10 @@ returns-3 c =
     let at = d .loop .at in
     let e = f .piece-end .result in
     let p = take (e - at) (drop at s) in
-    let tail = c .before .before .before .before .inf-tail .ensures in
+    let tail = t .inf-tail .ensures in
     let j = d .loop .j in
     sym (d .loop .inv .2 ∙ infs-at (a .k) j s at e (omega arith) (f .piece-end .ensures)
-    ∙ turn-wrong (a .k) j p _ (sym (g .before .inf-number .ensures) ∙ g .if1 .left) (rw tail at (sym (c .before .before .before .is-only .ensures) ∙ c .before .before .if2 .left))
+    ∙ turn-wrong (a .k) j p _ (sym (g .before .inf-number .ensures) ∙ g .if1 .left) (rw tail at (sym (o .before .is-only .ensures) ∙ o .if2 .left))
     (rw tail at (sym (c .before .is-only2 .ensures) ∙ not-true _ (c .if3 .taken))))
 
 add-j : tie.Need-add-j Inv-loop μ-loop
@@ -102,13 +104,16 @@ add-j c = search needs
 
 loop-less : tie.Need-loop-less Inv-loop μ-loop
 loop-less c =
-    let f = c .before .before .before .before .before .before .before .before in
+    let g = c .before .before .before .before .before in
+    let f = g .before .before .before in
     let d = f .before .before in
     omega (arith, end-bounds ampersand (d .before .before .args .s .now) (d .loop .at) (f .piece-end .result) (omega arith) (f .piece-end .ensures))
 
 loop-again : tie.Need-loop-again Inv-loop μ-loop
 loop-again c =
-    let g = c .before .before .before .before .before in
+    let o = c .before .before in
+    let t = o .before .before in
+    let g = t .before in
     let f = g .before .before .before in
     let d = f .before .before in
     let a = d .before .before .args in
@@ -116,13 +121,14 @@ loop-again c =
     let at = d .loop .at in
     let e = f .piece-end .result in
     let p = take (e - at) (drop at s) in
-    let tail = c .before .before .before .before .inf-tail .ensures in
+    let tail = t .inf-tail .ensures in
     let j = d .loop .j in
     let (low, high) = end-bounds ampersand s at e (omega arith) (f .piece-end .ensures) in (
       high,
       omega arith,
       rw (add-one j) (d .loop .inv .2 ∙ infs-at (a .k) j s at e (omega arith) (f .piece-end .ensures)
-          ∙ turn-more (a .k) j p _ (sym (g .before .inf-number .ensures) ∙ g .if1 .left) (rw tail at (sym (c .before .before .before .is-only .ensures) ∙ c .before .before .if2 .left))
+          ∙ turn-more (a .k) j p _ (sym (g .before .inf-number .ensures) ∙ g .if1 .left)
+          (rw tail at (sym (o .before .is-only .ensures) ∙ o .if2 .left))
           (rw tail at (sym (c .before .is-only2 .ensures) ∙ not-false _ (c .if3 .left)))),
     )
 

@@ -1,32 +1,27 @@
--- `hoa::body_wrong` meets its contract. Assumes nothing.
-use mathlib.Core.List.{[]}
-use mathlib.Core.Path.{_≡_, refl, sym, _∙_}
-use Prim.Native.Nat.{_-_, _≤_}
+-- `hoa::body_wrong` meets its contract: line by line, by `Walked`. Assumes nothing.
+use mathlib.Core.Path.{sym}
+use Prim.Native.Nat.{_-_}
 use native.Mathlib.Omega.{arith}
-use native.Mathlib.Numerals.{add-one}
-use lib.ListN.{length, take, drop}
+use lib.ListN.{length}
 use borrow.Author.Tests.{not-true, not-false}
 use borrow.Author.Needs.{needs}
-use Rattle.fields.proofs.Places.{at-first, line-here, line-next, line-none}
-use Rattle.fields.proofs.Pieces.{end-bounds, split-at}
 use Rattle.fields.specs.Bytes.{feed}
-use Rattle.fields.specs.Fields.{LineAt, linesOf}
-use Rattle.hoa.specs.Text.{bodyWrong}
-use Rattle.hoa.proofs.Bodies.{lines-left, lines-over, body-ends, body-more, body-done, body-stops, body-goes}
+use Rattle.fields.proofs.Pieces.{end-bounds}
+use Rattle.hoa.proofs.Bodies.{Walked, walked-first, walked-ends, walked-more, walked-done, walked-stops, walked-goes}
 use Rattle.hoa.proofs.body_wrong.Statement.{statement}
 use Rattle.hoa.proofs.body_wrong.Tie as tie
 
 abbrev Inv-loop : tie.InvT-loop
-Inv-loop body n k at₀ j₀ at j = (j ≤ at) × (j ≤ length (linesOf body)) × LineAt body at j × (bodyWrong n k [] (linesOf body) ≡ bodyWrong n k (take j (linesOf body)) (drop j (linesOf body)))
+Inv-loop body n k at₀ j₀ top₀ at j top = Walked body n k at j top
 
 abbrev μ-loop : tie.MeasureT-loop
-μ-loop body n k at₀ j₀ at j = length body - at
+μ-loop body n k at₀ j₀ top₀ at j top = length body - at
 
 loop-holds : tie.Need-loop-holds Inv-loop μ-loop
-loop-holds c = (omega arith, omega arith, at-first (c .before .args .body .now), refl)
+loop-holds c = walked-first _ _ _
 
 piece-end-requires : tie.Need-piece-end-requires Inv-loop μ-loop
-piece-end-requires c κs = search needs
+piece-end-requires c κs = c .before .loop .inv .place .within
 
 sub-line : tie.Need-sub-line Inv-loop μ-loop
 sub-line c = search needs
@@ -43,86 +38,90 @@ is-end-requires : tie.Need-is-end-requires Inv-loop μ-loop
 is-end-requires c κs = search needs
 
 add-result : tie.Need-add-result Inv-loop μ-loop
-add-result c = search needs
+add-result c =
+    let f = c .before .before .before .before in
+    let w = f .before .before .loop .inv in
+    let few = w .few in
+    let within = w .place .within in
+    search needs
 
 returns : tie.Need-returns Inv-loop μ-loop
 returns c =
-    let f = c .before .before .before .before in
+    let g = c .before in
+    let f = g .before .before .before in
     let d = f .before .before in
-    let a = d .before .before .args in
-    let s = a .body .now in
-    let inv = d .loop .inv in
-    let here = sym (inv .2 .lines) ∙ split-at feed s (d .loop .at) (f .piece-end .result) (omega arith) (f .piece-end .ensures) in
-    sym (inv .3 ∙ body-more (a .n) (a .k) (d .loop .j) (linesOf s) (inv .1) _ _ here (sym (c .before .before .is-end .ensures) ∙ c .before .if1 .taken)
-    (lines-left s (f .piece-end .result) (c .if2 .taken)))
+    sym (walked-more _ _ _ _ _ _ (d .loop .inv) _ (omega arith) (f .piece-end .ensures) _ (g .before .is-end .ensures) (g .if1 .taken)
+    (c .if2 .taken))
 
 returns-2 : tie.Need-returns-2 Inv-loop μ-loop
 returns-2 c =
-    let f = c .before .before .before .before in
+    let g = c .before in
+    let f = g .before .before .before in
     let d = f .before .before in
-    let a = d .before .before .args in
-    let s = a .body .now in
-    let inv = d .loop .inv in
-    let here = sym (inv .2 .lines) ∙ split-at feed s (d .loop .at) (f .piece-end .result) (omega arith) (f .piece-end .ensures) in
-    sym (inv .3 ∙ body-done (a .n) (a .k) (d .loop .j) (linesOf s) (inv .1) _ _ here (sym (c .before .before .is-end .ensures) ∙ c .before .if1 .taken)
-    (lines-over s (f .piece-end .result) (c .if2 .left)))
+    sym (walked-done _ _ _ _ _ _ (d .loop .inv) _ (omega arith) (f .piece-end .ensures) _ (g .before .is-end .ensures) (g .if1 .taken)
+    (c .if2 .left))
 
 may-stand-requires : tie.Need-may-stand-requires Inv-loop μ-loop
-may-stand-requires c κs = search needs
+may-stand-requires c κs =
+    let f = c .before .before .before in
+    let w = f .before .before .loop .inv in
+    (w .count, w .blocks)
 
 add-result-2 : tie.Need-add-result-2 Inv-loop μ-loop
-add-result-2 c = search needs
+add-result-2 c =
+    let g = c .before .before in
+    let f = g .before .before .before in
+    let w = f .before .before .loop .inv in
+    let few = w .few in
+    let within = w .place .within in
+    search needs
 
 returns-3 : tie.Need-returns-3 Inv-loop μ-loop
 returns-3 c =
     let g = c .before .before in
     let f = g .before .before .before in
     let d = f .before .before in
-    let a = d .before .before .args in
-    let s = a .body .now in
-    let inv = d .loop .inv in
-    let here = sym (inv .2 .lines) ∙ split-at feed s (d .loop .at) (f .piece-end .result) (omega arith) (f .piece-end .ensures) in
-    sym (inv .3 ∙ body-stops (a .n) (a .k) (d .loop .j) (linesOf s) (inv .1) _ _ here (sym (g .before .is-end .ensures) ∙ g .if1 .left)
-    (sym (c .before .may-stand .ensures) ∙ not-true _ (c .if3 .taken)))
+    sym (walked-stops _ _ _ _ _ _ (d .loop .inv) _ (omega arith) (f .piece-end .ensures) _ (g .before .is-end .ensures) (g .if1 .left)
+    _ (c .before .may-stand .ensures) (not-true _ (c .if3 .taken)))
+
+top-after-requires : tie.Need-top-after-requires Inv-loop μ-loop
+top-after-requires c κs = search needs
 
 add-j : tie.Need-add-j Inv-loop μ-loop
-add-j c = search needs
+add-j c =
+    let g = c .before .before .before in
+    let f = g .before .before .before in
+    let w = f .before .before .loop .inv in
+    let few = w .few in
+    let within = w .place .within in
+    search needs
 
 loop-less : tie.Need-loop-less Inv-loop μ-loop
 loop-less c =
-    let f = c .before .before .before .before .before in
+    let g = c .before .before .before in
+    let f = g .before .before .before in
     let d = f .before .before in
     omega (arith, end-bounds feed (d .before .before .args .body .now) (d .loop .at) (f .piece-end .result) (omega arith) (f .piece-end .ensures))
 
 loop-again : tie.Need-loop-again Inv-loop μ-loop
 loop-again c =
-    let g = c .before .before in
+    let h = c .before in
+    let g = h .before .before in
     let f = g .before .before .before in
     let d = f .before .before in
-    let a = d .before .before .args in
-    let s = a .body .now in
-    let inv = d .loop .inv in
-    let j = d .loop .j in
-    let e = f .piece-end .result in
-    let here = sym (inv .2 .lines) ∙ split-at feed s (d .loop .at) e (omega arith) (f .piece-end .ensures) in
-    let b = line-here s (d .loop .at) j e (inv .2) (omega arith) (f .piece-end .ensures) in (
-      omega (arith, end-bounds feed s (d .loop .at) e (omega arith) (f .piece-end .ensures)),
-      omega (arith, b .within),
-      rw (add-one j) (line-next s (d .loop .at) j e (inv .2) (omega arith) (f .piece-end .ensures)),
-      rw (add-one j) (inv .3 ∙ body-goes (a .n) (a .k) j (linesOf s) (inv .1) _ _ here (sym (g .before .is-end .ensures) ∙ g .if1 .left)
-          (sym (c .before .may-stand .ensures) ∙ not-false _ (c .if3 .left)) b),
-    )
+    let top = c .top-after .ensures in
+    walked-goes _ _ _ _ _ _ (d .loop .inv) _ (omega arith) (f .piece-end .ensures) _ (g .before .is-end .ensures) (g .if1 .left)
+    _ (h .before .may-stand .ensures) (not-false _ (h .if3 .left)) _ (top .0) (top .1)
 
 add-result-3 : tie.Need-add-result-3 Inv-loop μ-loop
-add-result-3 c = search needs
+add-result-3 c =
+    let w = c .before .loop .inv in
+    let few = w .few in
+    let within = w .place .within in
+    search needs
 
 returns-4 : tie.Need-returns-4 Inv-loop μ-loop
-returns-4 c =
-    let d = c .before in
-    let a = d .before .before .args in
-    let s = a .body .now in
-    let inv = d .loop .inv in
-    sym (inv .3 ∙ body-ends (a .n) (a .k) (d .loop .j) (linesOf s) (inv .1) (line-none s (d .loop .at) (d .loop .j) (inv .2) (omega arith)))
+returns-4 c = sym (walked-ends _ _ _ _ _ _ (c .before .loop .inv) (omega arith))
 
 pub body-wrong-spec : {M : Type 1} → statement M
 body-wrong-spec =
@@ -142,6 +141,7 @@ body-wrong-spec =
     may-stand-requires
     add-result-2
     returns-3
+    top-after-requires
     add-j
     loop-less
     loop-again

@@ -1,49 +1,34 @@
--- `hoa::colour_byte` meets its contract. Assumes nothing.
-use native.Mathlib.Omega.{arith}
+-- `hoa::colour_byte` meets its contract: the three ways that braces stand. Assumes nothing.
+use mathlib.Core.Path.{sym, _∙_}
 use borrow.Author.Needs.{needs}
-use Rattle.hoa.specs.Text.{colourByte}
+use Rattle.hoa.proofs.Colours.{byte-bare, byte-closed, byte-pieces}
 use Rattle.hoa.proofs.colour_byte.Statement.{statement}
 use Rattle.hoa.proofs.colour_byte.Tie as tie
 
-colour-bit-requires : tie.Need-colour-bit-requires
-colour-bit-requires c κs = search needs
-
-colour-bit-requires-2 : tie.Need-colour-bit-requires-2
-colour-bit-requires-2 c κs = search needs
-
-colour-bit-requires-3 : tie.Need-colour-bit-requires-3
-colour-bit-requires-3 c κs = search needs
-
-colour-bit-requires-4 : tie.Need-colour-bit-requires-4
-colour-bit-requires-4 c κs = search needs
-
-add-result : tie.Need-add-result
-add-result c = search needs
-
-add-result-2 : tie.Need-add-result-2
-add-result-2 c = search needs
-
-add-result-3 : tie.Need-add-result-3
-add-result-3 c = search needs
+inside-of-requires : tie.Need-inside-of-requires
+inside-of-requires c κs = search needs
 
 returns : tie.Need-returns
-unfolding colourByte
-returns c =
-    let e = c .before .before .before .colour-bit .ensures .0 in
-    let f = c .before .before .colour-bit2 .ensures .0 in
-    let g = c .before .colour-bit3 .ensures .0 in
-    let h = c .colour-bit4 .ensures .0 in
-    omega (arith, e, f, g, h)
+returns c = byte-bare _ _ (c .before .inside-of .ensures) (c .if1 .taken)
+
+closes-requires : tie.Need-closes-requires
+closes-requires c κs = search needs
+
+returns-2 : tie.Need-returns-2
+returns-2 c =
+    let d = c .before in
+    byte-closed _ _ (d .before .before .inside-of .ensures) (sym (d .closes .ensures) ∙ c .if2 .taken)
+
+pieces-byte-requires : tie.Need-pieces-byte-requires
+pieces-byte-requires c κs = search needs
+
+returns-3 : tie.Need-returns-3
+returns-3 c =
+    let g = c .before in
+    let d = g .before in
+    c .pieces-byte .ensures ∙ byte-pieces _ _ (d .before .before .inside-of .ensures) (sym (d .closes .ensures) ∙ g .if2 .left)
 
 pub colour-byte-spec : {M : Type 1} → statement M
 colour-byte-spec =
     tie.close
-    (tie.spec
-    colour-bit-requires
-    colour-bit-requires-2
-    colour-bit-requires-3
-    colour-bit-requires-4
-    add-result
-    add-result-2
-    add-result-3
-    returns)
+    (tie.spec inside-of-requires returns closes-requires returns-2 pieces-byte-requires returns-3)

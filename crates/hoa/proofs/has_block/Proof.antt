@@ -1,4 +1,4 @@
--- `hoa::has_block` meets its contract. Assumes nothing.
+-- `hoa::has_block` meets its contract: at every turn the block is in the lines that are left. Assumes nothing.
 use mathlib.Core.Path.{_≡_, refl, sym, _∙_}
 use Prim.Native.Nat.{_-_, _≤_}
 use native.Mathlib.Omega.{arith}
@@ -15,7 +15,9 @@ use Rattle.hoa.proofs.has_block.Statement.{statement}
 use Rattle.hoa.proofs.has_block.Tie as tie
 
 abbrev Inv-loop : tie.InvT-loop
-Inv-loop body count mode at₀ j₀ at j = (j ≤ count) × LineAt body at j × (hasBlock mode (take count (linesOf body)) ≡ hasBlock mode (drop j (take count (linesOf body))))
+Inv-loop body count mode at₀ j₀ at j =
+    (j ≤ count) × LineAt body at j
+    × (hasBlock mode (take count (linesOf body)) ≡ hasBlock mode (drop j (take count (linesOf body))))
 
 abbrev μ-loop : tie.MeasureT-loop
 μ-loop body count mode at₀ j₀ at j = count - j
@@ -28,7 +30,8 @@ returns c =
     let d = c .before .before in
     let a = d .before .before .args in
     let s = a .body .now in
-    sym (d .loop .inv .2 ∙ block-spent (a .mode) (a .count) (d .loop .j) (linesOf s) (lines-spent s (d .loop .at) (d .loop .j) (d .loop .inv .1) (omega arith)))
+    let spent = lines-spent s (d .loop .at) (d .loop .j) (d .loop .inv .1) (omega arith) in
+    sym (d .loop .inv .2 ∙ block-spent (a .mode) (a .count) (d .loop .j) (linesOf s) spent)
 
 piece-end-requires : tie.Need-piece-end-requires Inv-loop μ-loop
 piece-end-requires c κs = search needs
@@ -54,7 +57,8 @@ returns-2 c =
     let a = d .before .before .args in
     let s = a .body .now in
     let here = line-here s (d .loop .at) (d .loop .j) (f .piece-end .result) (d .loop .inv .1) (omega arith) (f .piece-end .ensures) in
-    sym (d .loop .inv .2 ∙ block-turn (a .mode) (a .count) (d .loop .j) (linesOf s) _ _ (omega arith) here ∙ simp (sym (c .before .opens .ensures) ∙ c .if2 .taken))
+    sym (d .loop .inv .2 ∙ block-turn (a .mode) (a .count) (d .loop .j) (linesOf s) _ _ (omega arith) here
+    ∙ simp (sym (c .before .opens .ensures) ∙ c .if2 .taken))
 
 add-j : tie.Need-add-j Inv-loop μ-loop
 add-j c = search needs
@@ -72,7 +76,8 @@ loop-again c =
     let here = line-here s (d .loop .at) j (f .piece-end .result) (d .loop .inv .1) (omega arith) (f .piece-end .ensures) in (
       omega arith,
       rw (add-one j) (line-next s (d .loop .at) j (f .piece-end .result) (d .loop .inv .1) (omega arith) (f .piece-end .ensures)),
-      rw (add-one j) (d .loop .inv .2 ∙ block-turn (a .mode) (a .count) j (linesOf s) _ _ (omega arith) here ∙ simp (sym (c .before .opens .ensures) ∙ c .if2 .left)),
+      rw (add-one j) (d .loop .inv .2 ∙ block-turn (a .mode) (a .count) j (linesOf s) _ _ (omega arith) here
+          ∙ simp (sym (c .before .opens .ensures) ∙ c .if2 .left)),
     )
 
 returns-3 : tie.Need-returns-3 Inv-loop μ-loop

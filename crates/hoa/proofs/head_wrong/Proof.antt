@@ -1,4 +1,4 @@
--- `hoa::head_wrong` meets its contract. Assumes nothing.
+-- `hoa::head_wrong` meets its contract: each way out is one of the six lines, after those before it. Assumes nothing.
 use mathlib.Core.Path.{sym, ap, _∙_}
 use borrow.Author.Tests.{not-true, not-false}
 use borrow.Author.Needs.{needs}
@@ -27,7 +27,10 @@ returns-2 : tie.Need-returns-2
 unfolding headWrong
 returns-2 c =
     let e1 = c .before .before .before in
-    simp (sym (e1 .before .is-word-line .ensures) ∙ not-false _ (e1 .if1 .left), sym (c .before .is-numbered-line .ensures) ∙ not-true _ (c .if2 .taken))
+    simp (
+      sym (e1 .before .is-word-line .ensures) ∙ not-false _ (e1 .if1 .left),
+      sym (c .before .is-numbered-line .ensures) ∙ not-true _ (c .if2 .taken),
+    )
 
 slice-aggregate-is-numbered-line-2 : tie.Need-slice-aggregate-is-numbered-line-2
 slice-aggregate-is-numbered-line-2 c = search needs
@@ -40,7 +43,11 @@ unfolding headWrong
 returns-3 c =
     let e2 = c .before .before .before in
     let e1 = e2 .before .before .before in
-    simp (sym (e1 .before .is-word-line .ensures) ∙ not-false _ (e1 .if1 .left), sym (e2 .before .is-numbered-line .ensures) ∙ not-false _ (e2 .if2 .left), sym (c .before .is-numbered-line2 .ensures) ∙ not-true _ (c .if3 .taken))
+    simp (
+      sym (e1 .before .is-word-line .ensures) ∙ not-false _ (e1 .if1 .left),
+      sym (e2 .before .is-numbered-line .ensures) ∙ not-false _ (e2 .if2 .left),
+      sym (c .before .is-numbered-line2 .ensures) ∙ not-true _ (c .if3 .taken),
+    )
 
 slice-aggregate-is-word-line-2 : tie.Need-slice-aggregate-is-word-line-2
 slice-aggregate-is-word-line-2 c = search needs
@@ -54,7 +61,12 @@ returns-4 c =
     let e3 = c .before .before .before in
     let e2 = e3 .before .before .before in
     let e1 = e2 .before .before .before in
-    simp (sym (e1 .before .is-word-line .ensures) ∙ not-false _ (e1 .if1 .left), sym (e2 .before .is-numbered-line .ensures) ∙ not-false _ (e2 .if2 .left), sym (e3 .before .is-numbered-line2 .ensures) ∙ not-false _ (e3 .if3 .left), sym (c .before .is-word-line2 .ensures) ∙ not-true _ (c .if4 .taken))
+    simp (
+      sym (e1 .before .is-word-line .ensures) ∙ not-false _ (e1 .if1 .left),
+      sym (e2 .before .is-numbered-line .ensures) ∙ not-false _ (e2 .if2 .left),
+      sym (e3 .before .is-numbered-line2 .ensures) ∙ not-false _ (e3 .if3 .left),
+      sym (c .before .is-word-line2 .ensures) ∙ not-true _ (c .if4 .taken),
+    )
 
 line-of-requires : tie.Need-line-of-requires
 line-of-requires c κs = search needs
@@ -69,7 +81,13 @@ returns-5 c =
     let e3 = e4 .before .before .before in
     let e2 = e3 .before .before .before in
     let e1 = e2 .before .before .before in
-    simp (sym (e1 .before .is-word-line .ensures) ∙ not-false _ (e1 .if1 .left), sym (e2 .before .is-numbered-line .ensures) ∙ not-false _ (e2 .if2 .left), sym (e3 .before .is-numbered-line2 .ensures) ∙ not-false _ (e3 .if3 .left), sym (e4 .before .is-word-line2 .ensures) ∙ not-false _ (e4 .if4 .left), sym (c .before .is-acceptance .ensures ∙ ap isAcceptance (c .before .before .line-of .ensures)) ∙ not-true _ (c .if5 .taken))
+    simp (
+      sym (e1 .before .is-word-line .ensures) ∙ not-false _ (e1 .if1 .left),
+      sym (e2 .before .is-numbered-line .ensures) ∙ not-false _ (e2 .if2 .left),
+      sym (e3 .before .is-numbered-line2 .ensures) ∙ not-false _ (e3 .if3 .left),
+      sym (e4 .before .is-word-line2 .ensures) ∙ not-false _ (e4 .if4 .left),
+      sym (c .before .is-acceptance .ensures ∙ ap isAcceptance (c .before .before .line-of .ensures)) ∙ not-true _ (c .if5 .taken),
+    )
 
 slice-aggregate-is-word-line-3 : tie.Need-slice-aggregate-is-word-line-3
 slice-aggregate-is-word-line-3 c = search needs
@@ -85,7 +103,14 @@ returns-6 c =
     let e3 = e4 .before .before .before in
     let e2 = e3 .before .before .before in
     let e1 = e2 .before .before .before in
-    simp (sym (e1 .before .is-word-line .ensures) ∙ not-false _ (e1 .if1 .left), sym (e2 .before .is-numbered-line .ensures) ∙ not-false _ (e2 .if2 .left), sym (e3 .before .is-numbered-line2 .ensures) ∙ not-false _ (e3 .if3 .left), sym (e4 .before .is-word-line2 .ensures) ∙ not-false _ (e4 .if4 .left), sym (e5 .before .is-acceptance .ensures ∙ ap isAcceptance (e5 .before .before .line-of .ensures)) ∙ not-false _ (e5 .if5 .left), sym (c .before .is-word-line3 .ensures) ∙ not-true _ (c .if6 .taken))
+    simp (
+      sym (e1 .before .is-word-line .ensures) ∙ not-false _ (e1 .if1 .left),
+      sym (e2 .before .is-numbered-line .ensures) ∙ not-false _ (e2 .if2 .left),
+      sym (e3 .before .is-numbered-line2 .ensures) ∙ not-false _ (e3 .if3 .left),
+      sym (e4 .before .is-word-line2 .ensures) ∙ not-false _ (e4 .if4 .left),
+      sym (e5 .before .is-acceptance .ensures ∙ ap isAcceptance (e5 .before .before .line-of .ensures)) ∙ not-false _ (e5 .if5 .left),
+      sym (c .before .is-word-line3 .ensures) ∙ not-true _ (c .if6 .taken),
+    )
 
 returns-7 : tie.Need-returns-7
 unfolding headWrong
@@ -95,7 +120,14 @@ returns-7 c =
     let e3 = e4 .before .before .before in
     let e2 = e3 .before .before .before in
     let e1 = e2 .before .before .before in
-    simp (sym (e1 .before .is-word-line .ensures) ∙ not-false _ (e1 .if1 .left), sym (e2 .before .is-numbered-line .ensures) ∙ not-false _ (e2 .if2 .left), sym (e3 .before .is-numbered-line2 .ensures) ∙ not-false _ (e3 .if3 .left), sym (e4 .before .is-word-line2 .ensures) ∙ not-false _ (e4 .if4 .left), sym (e5 .before .is-acceptance .ensures ∙ ap isAcceptance (e5 .before .before .line-of .ensures)) ∙ not-false _ (e5 .if5 .left), sym (c .before .is-word-line3 .ensures) ∙ not-false _ (c .if6 .left))
+    simp (
+      sym (e1 .before .is-word-line .ensures) ∙ not-false _ (e1 .if1 .left),
+      sym (e2 .before .is-numbered-line .ensures) ∙ not-false _ (e2 .if2 .left),
+      sym (e3 .before .is-numbered-line2 .ensures) ∙ not-false _ (e3 .if3 .left),
+      sym (e4 .before .is-word-line2 .ensures) ∙ not-false _ (e4 .if4 .left),
+      sym (e5 .before .is-acceptance .ensures ∙ ap isAcceptance (e5 .before .before .line-of .ensures)) ∙ not-false _ (e5 .if5 .left),
+      sym (c .before .is-word-line3 .ensures) ∙ not-false _ (c .if6 .left),
+    )
 
 pub head-wrong-spec : {M : Type 1} → statement M
 head-wrong-spec =

@@ -1,4 +1,4 @@
--- `hoa::hoa_wrong` meets its contract. Assumes nothing.
+-- `hoa::hoa_wrong` meets its contract: the head says, else the body. Assumes nothing.
 use mathlib.Core.Path.{_∙_}
 use borrow.Author.Needs.{needs}
 use Rattle.hoa.proofs.Bodies.{text-head, text-body}

@@ -1,4 +1,4 @@
--- `hoa::in_pieces` meets its contract. Assumes nothing.
+-- `hoa::in_pieces` meets its contract: at every turn the colour is in the pieces that are left. Assumes nothing.
 use mathlib.Core.List.{map}
 use mathlib.Core.Path.{_≡_, refl, sym, _∙_}
 use Prim.Native.Nat.{_-_, _≤_}
@@ -15,7 +15,9 @@ use Rattle.hoa.proofs.in_pieces.Statement.{statement}
 use Rattle.hoa.proofs.in_pieces.Tie as tie
 
 abbrev Inv-loop : tie.InvT-loop
-Inv-loop s colour at₀ at = (at ≤ length s) × (contains colour (map numberOf (split blank s)) ≡ contains colour (map numberOf (split blank (drop at s))))
+Inv-loop s colour at₀ at =
+    (at ≤ length s)
+    × (contains colour (map numberOf (split blank s)) ≡ contains colour (map numberOf (split blank (drop at s))))
 
 abbrev μ-loop : tie.MeasureT-loop
 μ-loop s colour at₀ at = length s - at

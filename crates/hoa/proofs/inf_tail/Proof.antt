@@ -1,4 +1,4 @@
--- `hoa::inf_tail` meets its contract. Assumes nothing.
+-- `hoa::inf_tail` meets its contract: what follows a word, of what follows a number. Assumes nothing.
 use mathlib.Core.Path.{ap, _∙_}
 use borrow.Author.Needs.{needs}
 use Rattle.fields.specs.Fields.{afterWord}

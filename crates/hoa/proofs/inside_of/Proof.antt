@@ -1,4 +1,4 @@
--- `hoa::inside_of` meets its contract. Assumes nothing.
+-- `hoa::inside_of` meets its contract: what follows a word, of what follows a number. Assumes nothing.
 use mathlib.Core.Path.{ap, _∙_}
 use borrow.Author.Needs.{needs}
 use Rattle.fields.specs.Fields.{afterWord}
@@ -6,8 +6,11 @@ use Rattle.hoa.specs.Words.{openBrace}
 use Rattle.hoa.proofs.inside_of.Statement.{statement}
 use Rattle.hoa.proofs.inside_of.Tie as tie
 
-target-tail-requires : tie.Need-target-tail-requires
-target-tail-requires c κs = search needs
+slice-aggregate-tail-after : tie.Need-slice-aggregate-tail-after
+slice-aggregate-tail-after c = search needs
+
+tail-after-requires : tie.Need-tail-after-requires
+tail-after-requires c κs = search needs
 
 slice-aggregate-after-word : tie.Need-slice-aggregate-after-word
 slice-aggregate-after-word c = search needs
@@ -16,9 +19,14 @@ after-word-requires : tie.Need-after-word-requires
 after-word-requires c κs = search needs
 
 returns : tie.Need-returns
-returns c = c .after-word .ensures ∙ ap (afterWord openBrace) (c .before .before .target-tail .ensures)
+returns c = c .after-word .ensures ∙ ap (afterWord openBrace) (c .before .before .tail-after .ensures)
 
 pub inside-of-spec : {M : Type 1} → statement M
 inside-of-spec =
     tie.close
-    (tie.spec target-tail-requires slice-aggregate-after-word after-word-requires returns)
+    (tie.spec
+    slice-aggregate-tail-after
+    tail-after-requires
+    slice-aggregate-after-word
+    after-word-requires
+    returns)

@@ -1,4 +1,4 @@
--- `hoa::is_acceptance` meets its contract. Assumes nothing.
+-- `hoa::is_acceptance` meets its contract: by whether k is 0. Assumes nothing.
 use mathlib.Core.List.{List}
 use mathlib.Core.Path.{ap, _∙_}
 use Prim.Native.Nat.{ℕ}
@@ -27,7 +27,8 @@ returns : tie.Need-returns
 unfolding isAcceptance
 returns c =
     let d = c .before .before in
-    simp (← (d .before .before .colour-count .ensures), eq-eqb _ _ (d .if1 .taken)) (c .is-word .ensures ∙ ap (isWord trueWord) (d .before .condition-of .ensures))
+    simp (← (d .before .before .colour-count .ensures), eq-eqb _ _ (d .if1 .taken))
+    (c .is-word .ensures ∙ ap (isWord trueWord) (d .before .condition-of .ensures))
 
 are-infs-requires : tie.Need-are-infs-requires
 are-infs-requires c κs = search needs
@@ -36,7 +37,9 @@ returns-2 : tie.Need-returns-2
 unfolding isAcceptance
 returns-2 c =
     let d = c .before in
-    simp (← (d .before .before .colour-count .ensures), ne-eqb _ _ (d .if1 .left)) (c .are-infs .ensures ∙ ap (λ (l : List ℕ). areInfs (d .before .before .colour-count .result) 0 (split ampersand l)) (d .before .condition-of .ensures))
+    let k = d .before .before .colour-count in
+    simp (← (k .ensures), ne-eqb _ _ (d .if1 .left))
+    (c .are-infs .ensures ∙ ap (λ (l : List ℕ). areInfs (k .result) 0 (split ampersand l)) (d .before .condition-of .ensures))
 
 pub is-acceptance-spec : {M : Type 1} → statement M
 is-acceptance-spec =

@@ -1,4 +1,4 @@
--- `hoa::is_braces` meets its contract. Assumes nothing.
+-- `hoa::is_braces` meets its contract: empty, else colours. Assumes nothing.
 use mathlib.Core.Path.{sym, _∙_}
 use borrow.Author.Needs.{needs}
 use Rattle.hoa.specs.Lines.{isBraces}

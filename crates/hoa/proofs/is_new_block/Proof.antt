@@ -1,5 +1,6 @@
--- `hoa::is_new_block` meets its contract. Assumes nothing.
+-- `hoa::is_new_block` meets its contract: each way out is one of the tests, after those before it. Assumes nothing.
 use mathlib.Core.Path.{sym, _∙_}
+use native.Mathlib.Omega.{arith}
 use borrow.Author.Tests.{not-true, not-false, le-ltb, lt-ltb}
 use borrow.Author.Needs.{needs}
 use Rattle.hoa.specs.Text.{isNewBlock}
@@ -20,19 +21,44 @@ returns-2 : tie.Need-returns-2
 unfolding isNewBlock
 returns-2 c =
     let d = c .before .before in
-    simp (sym (d .before .is-state .ensures) ∙ not-false _ (d .if1 .left), ← (c .before .state-of .ensures), le-ltb _ _ (c .if2 .taken))
+    let start = d .before .before .before .before in
+    let high = le-ltb (c .before .state-of .result) (start .args .n) (omega arith) in
+    simp (sym (d .before .is-state .ensures) ∙ not-false _ (d .if1 .left), ← (c .before .state-of .ensures), high)
 
-has-block-requires : tie.Need-has-block-requires
-has-block-requires c κs = search needs
+cast-if3 : tie.Need-cast-if3
+cast-if3 c = search needs
 
 returns-3 : tie.Need-returns-3
 unfolding isNewBlock
 returns-3 c =
     let g = c .before in
     let d = g .before .before in
-    simp (sym (d .before .is-state .ensures) ∙ not-false _ (d .if1 .left), ← (g .before .state-of .ensures), lt-ltb _ _ (g .if2 .left), c .has-block .ensures)
+    let start = d .before .before .before .before in
+    let low = lt-ltb (g .before .state-of .result) (start .args .n) (omega arith) in
+    let none = start .pre (g .before .state-of .result) (c .if3 .taken) in
+    simp (sym (d .before .is-state .ensures) ∙ not-false _ (d .if1 .left), ← (g .before .state-of .ensures), low, none)
+
+has-block-requires : tie.Need-has-block-requires
+has-block-requires c κs = search needs
+
+returns-4 : tie.Need-returns-4
+unfolding isNewBlock
+returns-4 c =
+    let g = c .before .before in
+    let d = g .before .before in
+    let start = d .before .before .before .before in
+    let low = lt-ltb (g .before .state-of .result) (start .args .n) (omega arith) in
+    simp (sym (d .before .is-state .ensures) ∙ not-false _ (d .if1 .left), ← (g .before .state-of .ensures), low, c .has-block .ensures)
 
 pub is-new-block-spec : {M : Type 1} → statement M
 is-new-block-spec =
     tie.close
-    (tie.spec is-state-requires returns state-of-requires returns-2 has-block-requires returns-3)
+    (tie.spec
+    is-state-requires
+    returns
+    state-of-requires
+    returns-2
+    cast-if3
+    returns-3
+    has-block-requires
+    returns-4)

@@ -1,4 +1,4 @@
--- `hoa::opens` meets its contract. Assumes nothing.
+-- `hoa::opens` meets its contract: each way out is one of the tests. Assumes nothing.
 use mathlib.Core.Path.{sym, _∙_}
 use borrow.Author.Tests.{not-true, not-false}
 use borrow.Author.Needs.{needs}
