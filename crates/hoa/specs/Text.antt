@@ -10,6 +10,7 @@ use Rattle.fields.specs.Fields.{numberOf, isWord, isNumbered, numberAfter, spli
 use Rattle.hoa.specs.Words.{hoaWord, statesWord, startWord, apWord, bodyWord, endWord, closeBrace}
 use Rattle.hoa.specs.Lines.{isState, stateOf, targetOf, inside, isEdge, isAcceptance, colourCount}
 
+-- n, the start mode and k, from the lines of the head: "one to a line: `HOA: v1`, `States:`, `Start:`, `AP: 0`, `Acceptance:` .."
 abbrev pub modesOf : List (List ℕ) → ℕ
 modesOf ls = numberAfter statesWord (lineOf ls 1)
 
@@ -51,6 +52,7 @@ BlocksBelow top ls = (mode : ℕ) → top ≤ mode → hasBlock mode ls ≡ fals
 unfoldable pub mayStand : ℕ → ℕ → List (List ℕ) → List ℕ → Bool
 mayStand n k before l = isNewBlock n before l || (ltb 0 (length before) && isEdge n k l)
 
+-- the last line, `--END--`
 abbrev pub isEnd : List ℕ → Bool
 isEnd l = isWord endWord l
 
