@@ -10,7 +10,11 @@ use Rattle.gauge.specs.Gauge.{startedOf, steppedOf}
 use Rattle.planwalk.specs.Walked.{walkOf}
 use Rattle.search.specs.declared.Searched.{Searched}
 use Rattle.search.specs.Search.{SearchOf}
+use Rattle.refusals.specs.declared.Answer.{Answer}
+use Rattle.reading.specs.declared.Reading.{Reading}
+use Rattle.reading.specs.Reading.{readOf, readAnswer}
 use Rattle.desk.specs.declared.Started.{Started}
+use Rattle.desk.specs.declared.Read.{Read}
 use Rattle.desk.specs.Packing.{verdictWord, searchWord, walkWord}
 
 -- what judging answers, in one word
@@ -36,3 +40,10 @@ pub record DeskStepped (n s k : ℕ) (l : Lists) (b a : ℕ) (x y : Gauge) (r : 
 -- what the walk answers, in one word
 abbrev pub deskWalked : ℕ → ℕ → ℕ → Lists → ℕ → ℕ → ℕ → ℕ → List ℕ → ℕ → ℕ → ℕ
 deskWalked n s k l b c p q w j t = walkWord (walkOf n s k l b c p q w j t)
+
+-- what reading answers: number and detail, and the numbers of the model read, "0 for n, start mode, k and m" where it is refused
+abbrev pub readBy : Answer → Reading → Read
+readBy a x = record { number = a .number; detail = a .detail; n = x .modes; start = x .start; k = x .colours; m = x .count }
+
+abbrev pub deskRead : List ℕ → List ℕ → Lists → Read
+deskRead hoa dimacs l = readBy (readAnswer hoa dimacs l) (readOf hoa dimacs l)

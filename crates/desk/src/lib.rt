@@ -1,13 +1,15 @@
-// The fitting desk's entries: judging, search, gauge and walk, to be called from C. include/chargeplan.h declares and explains them.
+// The fitting desk's entries: judging, search, gauge, walk and reading, to be called from C. include/chargeplan.h declares and explains them.
 // C passes a slice as two arguments, a pointer and a length, and a `&mut` as a pointer.
 ghost use mathlib.Core.Path.{_≡_};
 ghost use Rattle.model.specs.Lists.{lists};
 ghost use Rattle.desk.specs.Packing.{packed, Fields};
-ghost use Rattle.desk.specs.Desk.{deskJudged, deskStarted, deskWalked, DeskSearched, DeskStepped};
+ghost use Rattle.reading.specs.Reading.{listsRead};
+ghost use Rattle.desk.specs.Desk.{deskJudged, deskStarted, deskWalked, deskRead, DeskSearched, DeskStepped};
 use gauge::Gauge;
 use judge::judge;
 use lent_gauge::step;
 use planwalk::walk;
+use reading::read;
 use refusals::Answer;
 use search::search;
 
@@ -23,6 +25,17 @@ const SECOND: u64 = 281474976710656;
 pub struct Started {
     pub answer: u64,
     pub gauge: Gauge,
+}
+
+// What reading answers: number and detail, which may be a line beyond 24 bits, and the numbers of the model read.
+#[repr(C)]
+pub struct Read {
+    pub number: u8,
+    pub detail: u64,
+    pub n: u32,
+    pub start: u32,
+    pub k: u32,
+    pub m: u32,
 }
 
 // An answer in one word, with the two numbers that go with it.
@@ -221,4 +234,32 @@ pub extern "C" fn chargeplan_walk(
     let steps = told.steps as u32;
     let met = told.met as u32;
     pack(answer, steps, met)
+}
+
+// Reading: number 0 with n, the start mode, k and m, and the model's arcs in the lent lists, from place 0 of each on; or the first of 19, 20, 21 and 1
+// to 5 that applies, four zeros, and the lists as they were. For all texts and lists.
+#[no_mangle]
+pub extern "C" fn chargeplan_read(
+    hoa: &[u8],
+    dimacs: &[u8],
+    sources: &mut [u8],
+    targets: &mut [u8],
+    draws: &mut [u16],
+    gains: &mut [u16],
+    colours: &mut [u8],
+) -> Read
+    ensures answer { λ r. ⌜ r ≡ deskRead (now (hoa .entry)) (now (dimacs .entry)) (lists (now (sources .entry)) (now (targets .entry)) (now (draws .entry)) (now (gains .entry)) (now (colours .entry))) ⌝ }
+    ensures lists { λ _. ⌜ lists (now (sources .exit)) (now (targets .exit)) (now (draws .exit)) (now (gains .exit)) (now (colours .exit)) ≡ listsRead (now (hoa .entry)) (now (dimacs .entry)) (lists (now (sources .entry)) (now (targets .entry)) (now (draws .entry)) (now (gains .entry)) (now (colours .entry))) ⌝ }
+{
+    let reading = read(hoa, dimacs, sources, targets, draws, gains, colours);
+    let verdict = reading.verdict;
+    let answer = verdict.answer();
+    Read {
+        number: answer.number,
+        detail: answer.detail,
+        n: reading.modes,
+        start: reading.start,
+        k: reading.colours,
+        m: reading.count,
+    }
 }
