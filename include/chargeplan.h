@@ -1,6 +1,6 @@
 /*
- * chargeplan.h: judging, searching and walking charge plans for a knee joint, from C99 or C++ on Linux for 64-bit x86 (System V
- * calls).
+ * chargeplan.h: judging, searching and walking charge plans for a knee joint, and reading its model from texts, from C99 or C++ on
+ * Linux for 64-bit x86 (System V calls).
  *
  * Link with target/staticlib/libdesk.a, which `rt staticlib desk` writes once the code is proved. There is no set-up, no
  * state between calls and no heap: calls on different buffers may run at the same time, and no input traps or hangs a call.
@@ -25,23 +25,41 @@
  * cycle ends in the mode where it began. It is feasible where every step is possible in any number of rounds, and accepted
  * where each of the k colours stands on some arc of the cycle.
  *
- * LISTS, BUFFERS AND THE GAUGE. A list or buffer is a pointer, and a call is told the number of its elements. The caller sees to
- * three things: the memory is as long as the call is told, it is aligned as its type asks, and no two lists or buffers of one call,
- * nor a gauge, share memory. A list or buffer without elements may be a null pointer; a gauge may not. The lists are only read.
+ * THE TEXTS. A model can be read from two texts: one in HOA, version 1, and one in the DIMACS shortest-path form. Their lines, in this
+ * order, are
+ *   HOA: v1                                    c..         any lines that begin with c
+ *   States: N                                  p sp N M    the numbers of modes and of arcs
+ *   Start: START                               a U V W     M times: modes counted from 1, and the arc's weight
+ *   AP: 0
+ *   Acceptance: K Inf(0)&Inf(1)&..             to Inf(K-1), or: Acceptance: 0 t
+ *   --BODY--
+ *   State: MODE                                at most once for each mode, in any order, and behind it the mode's arcs:
+ *   [t] TARGET {COLOUR COLOUR..}               or [t] TARGET {} or [t] TARGET; a colour may be repeated
+ *   --END--
+ * A line feed ends every line, the last one too; one blank stands between fields, and none elsewhere. A number has one to nine digits,
+ * zeros in front among them; a minus may stand before W alone. MODE and TARGET are below N, U and V from 1 to N, a COLOUR is below K.
+ * The i-th line [t] and the i-th line a are arc i, both counted from 0: the first has its source (of the line State before it),
+ * target and colours, the second source and target again and its weight. A negative weight W is a draw of -W, any other a gain of W.
+ *
+ * LISTS, BUFFERS AND THE GAUGE. A list, buffer or text is a pointer, and a call is told the number of its elements. The caller sees to
+ * three things: the memory is as long as the call is told, it is aligned as its type asks, and no two lists, buffers or texts of one
+ * call, nor a gauge, share memory. One without elements may be a null pointer; a gauge may not. Reading writes to the lists, every
+ * other call only reads them. No text needs a NUL byte at its end.
  *
  * THE ANSWER. One word of 64 bits: bits 0 to 7 the number, 8 to 31 the detail; with a plan found 32 to 47 p, 48 to 63 q; with a
- * walk 32 to 47 the steps made, 48 whether the colour was met. (Starting a gauge answers a struct with that word and the gauge.)
- * Number 0 is yes; every other number is a refusal (below), the first that applies, top to bottom. The detail is 0 where none is
- * named below, and all bits that are not named are 0.
+ * walk 32 to 47 the steps made, 48 whether the colour was met. (Starting a gauge answers a struct with that word and the gauge,
+ * reading a struct with number and detail in fields of their own.) Number 0 is yes; every other number is a refusal (below), the
+ * first that applies, top to bottom. The detail is 0 where none is named below, and all bits that are not named are 0.
  *
  * THE CALLS. First the calls over a struct chargeplan_model, which have the model in one argument. They are inline functions over the
  * library's own entries, which come after them and take each list with a length of its own.
  *
  * COST. Stack, with the arguments on it: up to 15,000 bytes for judging and for search, 8,500 for starting a gauge, 10,600 for a
- * step of one, 17,100 for the walk. Every call reads the five lists once. Judging then looks at 2 * p + 4 * q places of the plan at
- * most, and the walk at p + q more. Search tries arcs at most m * (b + 1) * ((k + 1) * (n + 1) + 2) times, where there are m of them:
- * 25 million times at the ceilings. The slowest search that was found takes some 35 ms, one of a random model of 64 modes 0.1 ms.
- * docs/C-API.md says how this was counted and measured.
+ * step of one, 17,100 for the walk, TODO-STACK for reading. Every call but reading reads the five lists once. Judging then looks at
+ * 2 * p + 4 * q places of the plan at most, and the walk at p + q more. Search tries arcs at most
+ * m * (b + 1) * ((k + 1) * (n + 1) + 2) times, where there are m of them: 25 million times at the ceilings. The slowest search that was
+ * found takes some 35 ms, one of a random model of 64 modes 0.1 ms. The time of reading grows in proportion to the texts, where the
+ * model is fit. docs/C-API.md says how this was counted and measured.
  */
 #ifndef CHARGEPLAN_H
 #define CHARGEPLAN_H
@@ -78,17 +96,22 @@ extern "C" {
 
 /*
  * The numbers. Search answers 0 to 10; judging 0 to 6 and 11 to 17; starting a gauge 0 to 6; a step of a gauge 0 to 6, 22, 12, 13
- * and 15, the last four with detail 0; the walk 0 to 6 and 11 to 18.
+ * and 15, the last four with detail 0; the walk 0 to 6 and 11 to 18; reading 0, 19 to 21 and 1 to 5.
  */
 enum {
     CHARGEPLAN_YES = 0,              /* judging: the plan is feasible and accepted; search: a plan is in the buffer; gauge: it is
-                                        started, or has moved on; walk: the steps are made */
+                                        started, or has moved on; walk: the steps are made; reading: the lists are filled */
+    CHARGEPLAN_HOA_LINE = 19,        /* reading: a line of the HOA text is outside the forms above, or missing; detail: the first
+                                        such line, counted from 1, one past the last line where the text ends early */
+    CHARGEPLAN_DIMACS_LINE = 20,     /* the same of the DIMACS text */
+    CHARGEPLAN_TEXTS_DISAGREE = 21,  /* reading: the two texts have another n, number of arcs, source or target */
     CHARGEPLAN_MODE_COUNT = 1,       /* n is 0 or above 64 */
     CHARGEPLAN_START_MODE = 2,       /* the start mode is not below n */
-    CHARGEPLAN_ARC_LISTS = 3,        /* the five arc lists are of unequal length, or longer than 255 */
+    CHARGEPLAN_ARC_LISTS = 3,        /* the five arc lists are of unequal length, or longer than 255; reading: the texts have more
+                                        arcs than 255 or than the shortest of the lists takes */
     CHARGEPLAN_COLOUR_COUNT = 4,     /* k is above 4 */
     CHARGEPLAN_UNFIT_ARC = 5,        /* a source or target not below n, a draw or gain above 10,000, or a colour bit at or
-                                        above k; detail: the lowest such arc */
+                                        above k; reading: a weight outside -10,000 to 10,000; detail: the lowest such arc */
     CHARGEPLAN_LEVELS = 6,           /* b is above 8,191, or c is above b; a step reads the gauge's own charge in place of c */
     CHARGEPLAN_MIXED_GAUGE = 22,     /* a step of a gauge: n, the number of arcs or b is not the one that it was started with */
     CHARGEPLAN_PRODUCT = 7,          /* n * (b + 1) is above 8,192 */
@@ -127,6 +150,13 @@ struct chargeplan_started {
     struct chargeplan_gauge gauge;
 };
 
+/* What reading answers: number and detail, and the model's n, start mode, k and number of arcs, which are 0 where it is refused. */
+struct chargeplan_reading {
+    uint8_t number;
+    uint64_t detail;
+    uint32_t n, start, k, m;
+};
+
 /* A model: its numbers, and its arcs as five lists of one length. */
 struct chargeplan_model {
     uint32_t n, start, k;
@@ -134,6 +164,14 @@ struct chargeplan_model {
     const uint16_t *draws, *gains;
     const uint8_t *colours;
     size_t arcs;
+};
+
+/* Five lists to be filled by reading, each with room for so many arcs; CHARGEPLAN_ARCS_MOST are enough for every model. */
+struct chargeplan_lists {
+    uint8_t *sources, *targets;
+    uint16_t *draws, *gains;
+    uint8_t *colours;
+    size_t room;
 };
 
 /*
@@ -203,6 +241,22 @@ static inline uint64_t chargeplan_model_gauge_step(struct chargeplan_gauge *gaug
 static inline uint64_t chargeplan_model_walk(const struct chargeplan_model *m, uint32_t c, uint32_t b, uint32_t p, uint32_t q,
     const uint8_t *plan, uint32_t j, uint16_t allowance);
 
+/*
+ * Reading: the model that two texts define (THE TEXTS, above).
+ *
+ * m        is given the model that was read; its lists are those of `lists`
+ * lists    the lists to be filled
+ * hoa      the HOA text
+ * dimacs   the DIMACS text
+ *
+ * Answers number 0 and the model's numbers, and writes one place of each list per arc, from place 0; later places are as they were. Else
+ * answers the first of 19, 20, 21 and 1 to 5, in this order, that applies, and leaves all lists as they were; m then has n 0 and no
+ * arcs, which every call refuses by 1. Equal texts and an equal room give an equal answer, whatever stands in the lists. The texts may
+ * be of any length. A model that was read is fit.
+ */
+static inline struct chargeplan_reading chargeplan_model_read(struct chargeplan_model *m, const struct chargeplan_lists *lists,
+    const uint8_t *hoa, size_t hoa_length, const uint8_t *dimacs, size_t dimacs_length);
+
 /* The library's entry for judging: each list, and the plan, with its own length. */
 uint64_t chargeplan_judge(
     uint32_t n, uint32_t start, uint32_t k,
@@ -260,6 +314,16 @@ uint64_t chargeplan_walk(
     uint32_t p, uint32_t q,
     const uint8_t *plan, size_t plan_length,
     uint32_t j, uint16_t allowance);
+
+/* The library's entry for reading. The lists may be of any lengths, also unequal ones: the shortest decides how many arcs they take. */
+struct chargeplan_reading chargeplan_read(
+    const uint8_t *hoa, size_t hoa_length,
+    const uint8_t *dimacs, size_t dimacs_length,
+    uint8_t *sources, size_t sources_length,
+    uint8_t *targets, size_t targets_length,
+    uint16_t *draws, size_t draws_length,
+    uint16_t *gains, size_t gains_length,
+    uint8_t *colours, size_t colours_length);
 
 /* The number of an answer. */
 static inline uint32_t chargeplan_number(uint64_t answer)
@@ -363,6 +427,24 @@ static inline uint64_t chargeplan_model_walk(const struct chargeplan_model *m, u
 {
     return chargeplan_walk(m->n, m->start, m->k, m->sources, m->arcs, m->targets, m->arcs, m->draws, m->arcs, m->gains, m->arcs,
         m->colours, m->arcs, c, b, p, q, plan, (size_t)p + q, j, allowance);
+}
+
+static inline struct chargeplan_reading chargeplan_model_read(struct chargeplan_model *m, const struct chargeplan_lists *lists,
+    const uint8_t *hoa, size_t hoa_length, const uint8_t *dimacs, size_t dimacs_length)
+{
+    struct chargeplan_reading reading = chargeplan_read(hoa, hoa_length, dimacs, dimacs_length, lists->sources, lists->room,
+        lists->targets, lists->room, lists->draws, lists->room, lists->gains, lists->room, lists->colours, lists->room);
+
+    m->n = reading.n;
+    m->start = reading.start;
+    m->k = reading.k;
+    m->sources = lists->sources;
+    m->targets = lists->targets;
+    m->draws = lists->draws;
+    m->gains = lists->gains;
+    m->colours = lists->colours;
+    m->arcs = reading.m;
+    return reading;
 }
 
 #ifdef __cplusplus
