@@ -1,9 +1,11 @@
-/* The types of the two entries, which the library and the reference share. */
+/* The types of the three entries, which the library and the reference share. */
 #ifndef REFERENCE_H
 #define REFERENCE_H
 
 #include <stddef.h>
 #include <stdint.h>
+
+#include "chargeplan.h"
 
 typedef uint64_t search_entry(uint32_t n, uint32_t start, uint32_t k, const uint8_t *sources, size_t sources_len,
                               const uint8_t *targets, size_t targets_len, const uint16_t *draws, size_t draws_len,
@@ -15,8 +17,14 @@ typedef uint64_t judge_entry(uint32_t n, uint32_t start, uint32_t k, const uint8
                              const uint16_t *gains, size_t gains_len, const uint8_t *colours, size_t colours_len,
                              uint32_t c, uint32_t b, uint32_t p, uint32_t q, const uint8_t *plan, size_t plan_len);
 
-/* bench/reference.c, compiled with -O2 and with -O3. */
+typedef struct chargeplan_reading read_entry(const uint8_t *hoa, size_t hoa_len, const uint8_t *dimacs, size_t dimacs_len,
+                                             uint8_t *sources, size_t sources_len, uint8_t *targets, size_t targets_len,
+                                             uint16_t *draws, size_t draws_len, uint16_t *gains, size_t gains_len,
+                                             uint8_t *colours, size_t colours_len);
+
+/* bench/reference.c and bench/reader.c, compiled with -O2 and with -O3. */
 search_entry reference_o2_search, reference_o3_search;
 judge_entry reference_o2_judge, reference_o3_judge;
+read_entry reference_o2_read, reference_o3_read;
 
 #endif
