@@ -7,9 +7,6 @@
 
 unsigned long checks, failures;
 
-/* Of many failures only the first are printed. */
-enum { PRINTED_MOST = 100 };
-
 void check(int holds, const char *what)
 {
     checks++;
@@ -78,7 +75,7 @@ void *copied(const void *from, size_t bytes)
     return to;
 }
 
-static int same(const void *x, const void *y, size_t bytes)
+int same(const void *x, const void *y, size_t bytes)
 {
     return bytes == 0 || memcmp(x, y, bytes) == 0;
 }

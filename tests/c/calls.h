@@ -7,8 +7,12 @@
 
 #include "chargeplan.h"
 #include "plain.h"
+#include "plain_reader.h"
 
 extern unsigned long checks, failures;
+
+/* Of many failures only the first are printed. */
+enum { PRINTED_MOST = 100 };
 
 /* Counts a check, and prints what failed. */
 void check(int holds, const char *what);
@@ -24,6 +28,9 @@ void check_gauge(const char *what, struct gauge g, struct gauge expected);
 
 /* A block of its own with the same content, or without one where `from` is null; null where it has no bytes. */
 void *copied(const void *from, size_t bytes);
+
+/* Whether so many bytes are the same; there may be none. */
+int same(const void *x, const void *y, size_t bytes);
 
 /* The lists of a model in blocks of their own. */
 struct lent {
@@ -130,11 +137,6 @@ struct lists {
     uint16_t draws[CHARGEPLAN_ARCS_MOST], gains[CHARGEPLAN_ARCS_MOST];
 };
 
-/* An arc. */
-struct arc {
-    uint32_t source, target, draw, gain, colours;
-};
-
 /* Writes an arc to a place of the lists. What they cannot hold is cut off. */
 void put(struct lists *to, size_t at, struct arc arc);
 
@@ -235,6 +237,19 @@ void test_examples_by_weights(void);
 void test_weight_steps(void);
 void test_unfit_weights(void);
 void test_equal_plans(void);
+void test_read_pairs(void);
+void test_read_variations(void);
+void test_read_hoa_lines(void);
+void test_read_dimacs_lines(void);
+void test_read_blocks(void);
+void test_read_disagreements(void);
+void test_read_unfit(void);
+void test_read_lists(void);
+void test_read_order(void);
+void test_read_damaged_bytes(void);
+void test_read_damaged_lines(void);
+void test_read_cut_texts(void);
+void test_read_long_texts(unsigned long lines);
 void test_random(unsigned long models);
 void test_random_large(unsigned long models);
 void test_random_draws(unsigned long models);
@@ -246,5 +261,9 @@ void test_random_weights(unsigned long models);
 void test_random_large_weights(unsigned long models);
 void test_random_cases(unsigned long moves);
 void test_random_equal_plans(unsigned long models);
+void test_random_readings(unsigned long models);
+void test_random_large_readings(unsigned long models);
+void test_random_damages(unsigned long texts);
+void test_random_texts(unsigned long texts);
 
 #endif

@@ -67,6 +67,31 @@ static void test_random_plans_again(void)
     test_random_equal_plans(random_models / 40);
 }
 
+static void test_read_texts_of_any_length(void)
+{
+    test_read_long_texts(random_models * 84ul);
+}
+
+static void test_random_models_read_back(void)
+{
+    test_random_readings(random_models / 10);
+}
+
+static void test_random_large_models_read_back(void)
+{
+    test_random_large_readings(random_models / 200);
+}
+
+static void test_random_damaged_texts(void)
+{
+    test_random_damages(random_models / 2);
+}
+
+static void test_random_lines(void)
+{
+    test_random_texts(random_models / 4);
+}
+
 static const struct {
     const char *name;
     void (*run)(void);
@@ -113,6 +138,19 @@ static const struct {
     {"one of 255 arcs alone draws, at every place", test_lone_draw},
     {"one of 255 arcs alone gains, at every place", test_lone_gain},
     {"one of 255 arcs alone is unfit, at every place", test_lone_unfit},
+    {"reading, pairs of texts", test_read_pairs},
+    {"reading, lines written otherwise", test_read_variations},
+    {"reading, 19: lines of the HOA text", test_read_hoa_lines},
+    {"reading, 20: lines of the DIMACS text", test_read_dimacs_lines},
+    {"reading, 19: blocks", test_read_blocks},
+    {"reading, 21: texts that disagree", test_read_disagreements},
+    {"reading, 1, 2, 4 and 5", test_read_unfit},
+    {"reading, 3: lists of any lengths", test_read_lists},
+    {"reading, the order of the refusals", test_read_order},
+    {"reading, texts damaged at every byte", test_read_damaged_bytes},
+    {"reading, texts damaged at every line", test_read_damaged_lines},
+    {"reading, texts cut at every byte", test_read_cut_texts},
+    {"reading, long texts", test_read_texts_of_any_length},
     {"header", test_header},
     {"random models and plans", test_random_models},
     {"random models with many arcs", test_random_large_models},
@@ -125,6 +163,10 @@ static const struct {
     {"random models with many arcs and every weight, by weights", test_random_large_models_by_weights},
     {"random steps where the case changes", test_random_cases_of_a_step},
     {"random searches, equal inputs give equal plans", test_random_plans_again},
+    {"random models printed and read back", test_random_models_read_back},
+    {"random models of any size printed and read back", test_random_large_models_read_back},
+    {"random damages of texts", test_random_damaged_texts},
+    {"random lines of texts", test_random_lines},
 };
 
 int main(int argc, char **argv)
