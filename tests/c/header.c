@@ -2,25 +2,24 @@
  * What the header alone has: version, numbers, layout of the structs, parts of an answer, and the functions over a struct
  * chargeplan_model. Draw and gain of a weight are in weights.c.
  */
-#include "calls.h"
+#include "texts.h"
 
 #include <stdlib.h>
 #include <string.h>
 
-/* The numbers of document 01's table, in its order, and the one of Ask 3. */
+/* The numbers of document 01's table, in its order, and those of Asks 1 and 3. */
 static void test_constants(void)
 {
     static const unsigned numbers[] = {CHARGEPLAN_YES, CHARGEPLAN_MODE_COUNT, CHARGEPLAN_START_MODE, CHARGEPLAN_ARC_LISTS,
         CHARGEPLAN_COLOUR_COUNT, CHARGEPLAN_UNFIT_ARC, CHARGEPLAN_LEVELS, CHARGEPLAN_PRODUCT, CHARGEPLAN_WORKING_SPACE,
         CHARGEPLAN_PLAN_BUFFER, CHARGEPLAN_NO_PLAN, CHARGEPLAN_PLAN_LENGTH, CHARGEPLAN_ARC_NUMBER, CHARGEPLAN_OTHER_MODE,
         CHARGEPLAN_OPEN_CYCLE, CHARGEPLAN_IMPOSSIBLE_STEP, CHARGEPLAN_FALLING_CYCLE, CHARGEPLAN_MISSING_COLOUR,
-        CHARGEPLAN_NO_SUCH_COLOUR};
+        CHARGEPLAN_NO_SUCH_COLOUR, CHARGEPLAN_HOA_LINE, CHARGEPLAN_DIMACS_LINE, CHARGEPLAN_TEXTS_DISAGREE, CHARGEPLAN_MIXED_GAUGE};
     unsigned i;
 
-    check(sizeof numbers / sizeof numbers[0] == 19, "the numbers 0 to 18");
+    check(sizeof numbers / sizeof numbers[0] == 23, "the numbers 0 to 22");
     for (i = 0; i < sizeof numbers / sizeof numbers[0]; i++)
         check(numbers[i] == i, "a number of the header");
-    check(CHARGEPLAN_MIXED_GAUGE == 22, "the number of a mixed-up gauge");
     check(CHARGEPLAN_VERSION == 2, "the version with draws and gains");
 }
 
@@ -33,6 +32,10 @@ static void test_layout(void)
             && offsetof(struct chargeplan_gauge, bound) == 18, "what a gauge was started with");
     check(sizeof(struct chargeplan_started) == 32 && offsetof(struct chargeplan_started, answer) == 0
             && offsetof(struct chargeplan_started, gauge) == 8, "what a start hands back");
+    check(sizeof(struct chargeplan_reading) == 32 && offsetof(struct chargeplan_reading, number) == 0
+            && offsetof(struct chargeplan_reading, detail) == 8 && offsetof(struct chargeplan_reading, n) == 16
+            && offsetof(struct chargeplan_reading, start) == 20 && offsetof(struct chargeplan_reading, k) == 24
+            && offsetof(struct chargeplan_reading, m) == 28, "what reading hands back");
 }
 
 /* The functions that take an answer apart: each reads its own bits. */
@@ -172,10 +175,52 @@ static void test_model_functions(void)
     same_calls("5: colour bit k", &g, 0, 5, 6, 1, plan_i);
 }
 
+/* Whether two lists to be filled, which hold so many arcs, have the same content. */
+static int same_lists(const struct lists *x, const struct lists *y, size_t arcs)
+{
+    return same(x->sources, y->sources, arcs) && same(x->targets, y->targets, arcs) && same(x->draws, y->draws, arcs * sizeof x->draws[0])
+        && same(x->gains, y->gains, arcs * sizeof x->gains[0]) && same(x->colours, y->colours, arcs);
+}
+
+/* Reading into lists with room for so many arcs: answer and lists are those of the entry, and the model is made of them. */
+static void same_reading(const char *what, const char *hoa, const char *dimacs, size_t room)
+{
+    struct lists of_entry, of_model;
+    struct chargeplan_lists lent = {of_model.sources, of_model.targets, of_model.draws, of_model.gains, of_model.colours, room};
+    struct text h = words(hoa), d = words(dimacs);
+    struct chargeplan_reading entry, reading;
+    struct chargeplan_model m;
+
+    memset(&of_entry, 0x5a, sizeof of_entry);
+    memset(&of_model, 0x5a, sizeof of_model);
+    entry = chargeplan_read(h.bytes, h.length, d.bytes, d.length, of_entry.sources, room, of_entry.targets, room, of_entry.draws, room,
+        of_entry.gains, room, of_entry.colours, room);
+    reading = chargeplan_model_read(&m, &lent, h.bytes, h.length, d.bytes, d.length);
+    check(reading.number == entry.number && reading.detail == entry.detail && reading.n == entry.n && reading.start == entry.start
+            && reading.k == entry.k && reading.m == entry.m, what);
+    check(same_lists(&of_entry, &of_model, CHARGEPLAN_ARCS_MOST), what);
+    check(m.n == entry.n && m.start == entry.start && m.k == entry.k && m.arcs == entry.m, what);
+    check(m.sources == of_model.sources && m.targets == of_model.targets && m.draws == of_model.draws && m.gains == of_model.gains
+            && m.colours == of_model.colours, what);
+    check(chargeplan_number(chargeplan_model_gauge_start(&m, 0, 0).answer) == (entry.number == 0 ? CHARGEPLAN_YES : CHARGEPLAN_MODE_COUNT),
+        what);
+}
+
+static void test_model_read(void)
+{
+    same_reading("a pair", knee_hoa, knee_dimacs, CHARGEPLAN_ARCS_MOST);
+    same_reading("a pair, as many places as arcs", knee_hoa, knee_dimacs, 4);
+    same_reading("3: a pair, one place too few", knee_hoa, knee_dimacs, 3);
+    same_reading("19: a pair", knee_dimacs, knee_dimacs, CHARGEPLAN_ARCS_MOST);
+    same_reading("20: a pair", knee_hoa, knee_hoa, CHARGEPLAN_ARCS_MOST);
+    same_reading("21: a pair", knee_hoa, "p sp 4 0\n", CHARGEPLAN_ARCS_MOST);
+}
+
 void test_header(void)
 {
     test_constants();
     test_layout();
     test_parts();
     test_model_functions();
+    test_model_read();
 }

@@ -41,7 +41,7 @@ static void read_body(const char *what, uint32_t n, const char *body, uint32_t m
     free_pair(&p);
 }
 
-/* Every pair of states below 66 that follow each other with some between them: a second block is refused at its line. */
+/* Blocks of all states, and then a second one of each in turn, which is refused at its line. */
 static void test_every_block(uint32_t n)
 {
     struct pair p = {{NULL, 0, 0}, {NULL, 0, 0}};
@@ -67,20 +67,22 @@ void test_read_blocks(void)
 {
     read_body("no block", 2, "", 0, "", CHARGEPLAN_YES, 0);
     read_body("empty blocks", 2, "State: 1\nState: 0\n", 0, "", CHARGEPLAN_YES, 0);
-    read_body("blocks in another order", 3, "State: 2\n[t] 0\nState: 0\n[t] 1\n[t] 2\n", 3, "a 3 1 1\na 1 2 2\na 1 3 3\n", CHARGEPLAN_YES, 0);
+    read_body("blocks in another order", 3, "State: 2\n[t] 0\nState: 0\n[t] 1\n[t] 2\n", 3, "a 3 1 1\na 1 2 2\na 1 3 3\n",
+        CHARGEPLAN_YES, 0);
     read_body("19: an edge before the blocks", 2, "[t] 0\nState: 0\n", 1, "a 1 1 1\n", CHARGEPLAN_HOA_LINE, 7);
     read_body("19: an edge and no block", 2, "[t] 0\n", 1, "a 1 1 1\n", CHARGEPLAN_HOA_LINE, 7);
     read_body("19: a second block at once", 2, "State: 1\nState: 1\n", 0, "", CHARGEPLAN_HOA_LINE, 8);
-    read_body("19: a second block later", 3, "State: 1\n[t] 0\nState: 2\n[t] 1\nState: 001\n", 2, "a 2 1 1\na 3 2 2\n", CHARGEPLAN_HOA_LINE, 11);
+    read_body("19: a second block later", 3, "State: 1\n[t] 0\nState: 2\n[t] 1\nState: 001\n", 2, "a 2 1 1\na 3 2 2\n",
+        CHARGEPLAN_HOA_LINE, 11);
     read_body("19: a second block before a wrong line", 2, "State: 1\nState: 1\nx\n", 0, "", CHARGEPLAN_HOA_LINE, 8);
     read_body("19: a wrong line before a second block", 2, "State: 1\nx\nState: 1\n", 0, "", CHARGEPLAN_HOA_LINE, 8);
     read_body("19: no mode is below 0", 0, "State: 0\n", 0, "", CHARGEPLAN_HOA_LINE, 7);
     read_body("19: a second block above 64", 100, "State: 64\nState: 0\nState: 64\n", 0, "", CHARGEPLAN_HOA_LINE, 9);
     read_body("19: a second block of another state above 64", 300, "State: 99\nState: 0\nState: 255\n[t] 0\nState: 99\n", 1, "a 256 1 0\n",
         CHARGEPLAN_HOA_LINE, 11);
-    read_body("1: states that are equal modulo 64", 200, "State: 0\nState: 64\nState: 128\nState: 192\n", 0, "", CHARGEPLAN_MODE_COUNT, 0);
-    read_body("1: states that are equal modulo 256", 999, "State: 1\nState: 257\nState: 513\nState: 769\n", 0, "", CHARGEPLAN_MODE_COUNT, 0);
-    read_body("1: states that are equal modulo 65536", 999999999, "State: 1\nState: 65537\nState: 131073\n", 0, "", CHARGEPLAN_MODE_COUNT, 0);
+    read_body("1: states that are equal modulo 64", 200, "State: 0\nState: 64\nState: 128\n", 0, "", CHARGEPLAN_MODE_COUNT, 0);
+    read_body("1: states that are equal modulo 256", 999, "State: 1\nState: 257\nState: 513\n", 0, "", CHARGEPLAN_MODE_COUNT, 0);
+    read_body("1: states that are equal modulo 65536", 999999999, "State: 1\nState: 65537\n", 0, "", CHARGEPLAN_MODE_COUNT, 0);
     read_body("19: the greatest state again", 999999999, "State: 999999998\nState: 0\nState: 999999998\n", 0, "", CHARGEPLAN_HOA_LINE, 9);
     read_body("19: a state that is not below the greatest n", 999999999, "State: 999999999\n", 0, "", CHARGEPLAN_HOA_LINE, 7);
     test_every_block(64);
@@ -93,26 +95,40 @@ void test_read_disagreements(void)
     static const struct {
         const char *hoa_n, *body, *dimacs_n, *m, *arcs;
     } pairs[] = {
-        {"2", "", "3", "0", ""}, {"3", "", "2", "0", ""}, {"0", "", "1", "0", ""}, {"64", "", "65", "0", ""}, {"999999999", "", "999999998", "0", ""},
-        {"2", "State: 0\n[t] 1\n", "3", "1", "a 1 2 0\n"}, {"2", "State: 0\n[t] 1\n", "2", "0", ""}, {"2", "", "2", "1", "a 1 2 0\n"},
-        {"2", "State: 0\n[t] 1\n", "2", "2", "a 1 2 0\na 1 2 0\n"}, {"2", "State: 0\n[t] 1\n[t] 1\n", "2", "1", "a 1 2 0\n"},
-        {"2", "State: 0\n[t] 1\n", "2", "1", "a 1 1 0\n"}, {"2", "State: 0\n[t] 1\n", "2", "1", "a 2 2 0\n"}, {"2", "State: 0\n[t] 1\n", "2", "1", "a 2 1 0\n"},
-        {"2", "State: 0\n[t] 0\n[t] 1\n", "2", "2", "a 1 2 0\na 1 1 0\n"}, {"2", "State: 0\n[t] 0\nState: 1\n[t] 0\n", "2", "2", "a 2 1 0\na 1 1 0\n"},
-        {"2", "State: 1\n[t] 0\nState: 0\n[t] 0\n", "2", "2", "a 1 1 0\na 2 1 0\n"}, {"2", "State: 0\n[t] 0\nState: 1\n", "2", "1", "a 2 1 0\n"},
-        {"300", "State: 0\n[t] 256\n", "300", "1", "a 1 1 0\n"}, {"300", "State: 256\n[t] 0\n", "300", "1", "a 1 1 0\n"},
-        {"999999999", "State: 65536\n[t] 0\n", "999999999", "1", "a 1 1 0\n"}, {"999999999", "State: 0\n[t] 65536\n", "999999999", "1", "a 1 1 0\n"},
+        {"2", "", "3", "0", ""},
+        {"3", "", "2", "0", ""},
+        {"0", "", "1", "0", ""},
+        {"64", "", "65", "0", ""},
+        {"999999999", "", "999999998", "0", ""},
+        {"2", "State: 0\n[t] 1\n", "3", "1", "a 1 2 0\n"},
+        {"2", "State: 0\n[t] 1\n", "2", "0", ""},
+        {"2", "", "2", "1", "a 1 2 0\n"},
+        {"2", "State: 0\n[t] 1\n", "2", "2", "a 1 2 0\na 1 2 0\n"},
+        {"2", "State: 0\n[t] 1\n[t] 1\n", "2", "1", "a 1 2 0\n"},
+        {"2", "State: 0\n[t] 1\n", "2", "1", "a 1 1 0\n"},
+        {"2", "State: 0\n[t] 1\n", "2", "1", "a 2 2 0\n"},
+        {"2", "State: 0\n[t] 1\n", "2", "1", "a 2 1 0\n"},
+        {"2", "State: 0\n[t] 0\n[t] 1\n", "2", "2", "a 1 2 0\na 1 1 0\n"},
+        {"2", "State: 0\n[t] 0\nState: 1\n[t] 0\n", "2", "2", "a 2 1 0\na 1 1 0\n"},
+        {"2", "State: 1\n[t] 0\nState: 0\n[t] 0\n", "2", "2", "a 1 1 0\na 2 1 0\n"},
+        {"2", "State: 0\n[t] 0\nState: 1\n", "2", "1", "a 2 1 0\n"},
+        {"300", "State: 0\n[t] 256\n", "300", "1", "a 1 1 0\n"},
+        {"300", "State: 256\n[t] 0\n", "300", "1", "a 1 1 0\n"},
+        {"999999999", "State: 65536\n[t] 0\n", "999999999", "1", "a 1 1 0\n"},
+        {"999999999", "State: 0\n[t] 65536\n", "999999999", "1", "a 1 1 0\n"},
     };
     char hoa[200], dimacs[200];
     size_t i;
 
     for (i = 0; i < sizeof pairs / sizeof pairs[0]; i++) {
-        snprintf(hoa, sizeof hoa, "HOA: v1\nStates: %s\nStart: 0\nAP: 0\nAcceptance: 0 t\n--BODY--\n%s--END--\n", pairs[i].hoa_n, pairs[i].body);
+        snprintf(hoa, sizeof hoa, "HOA: v1\nStates: %s\nStart: 0\nAP: 0\nAcceptance: 0 t\n--BODY--\n%s--END--\n", pairs[i].hoa_n,
+            pairs[i].body);
         snprintf(dimacs, sizeof dimacs, "p sp %s %s\n%s", pairs[i].dimacs_n, pairs[i].m, pairs[i].arcs);
         read_as("21", words(hoa), words(dimacs), CHARGEPLAN_TEXTS_DISAGREE, 0);
     }
 }
 
-/* Two modes and so many arcs from mode 0 to mode 1 of weight 0, of which one may have other weight, in digits, and another target in one text. */
+/* So many arcs from mode 0 to mode 1 of weight 0; one has this weight and, where it is asked for, another target in one text. */
 struct many {
     uint32_t arcs, other;
     const char *weight;
@@ -154,8 +170,8 @@ static void read_many(const char *what, struct many many, size_t room, uint32_t 
 static void test_weights(void)
 {
     static const char *const fit[] = {"0", "-0", "1", "-1", "10000", "-10000", "000010000", "-000010000", "9999", "-9999"},
-                      *const unfit[] = {"10001", "-10001", "65536", "-65536", "32768", "-32768", "65535", "70000", "-70000", "000010001", "999999999",
-                          "-999999999", "75536", "-75536"};
+                      *const unfit[] = {"10001", "-10001", "65536", "-65536", "32768", "-32768", "65535", "70000", "-70000", "000010001",
+                          "999999999", "-999999999", "75536", "-75536"};
     struct many many = {4, 0, NULL, 0};
     size_t i;
 
@@ -171,7 +187,8 @@ static void test_weights(void)
     many.arcs = CHARGEPLAN_ARCS_MOST;
     for (many.other = 0; many.other < many.arcs; many.other++)
         read_many("5: each of 255 arcs", many, CHARGEPLAN_ARCS_MOST, CHARGEPLAN_UNFIT_ARC, many.other);
-    read_body("5: the lowest of two", 2, "State: 0\n[t] 0\n[t] 1\n[t] 1\n", 3, "a 1 1 1\na 1 2 -10001\na 1 2 10001\n", CHARGEPLAN_UNFIT_ARC, 1);
+    read_body("5: the lowest of two", 2, "State: 0\n[t] 0\n[t] 1\n[t] 1\n", 3, "a 1 1 1\na 1 2 -10001\na 1 2 10001\n",
+        CHARGEPLAN_UNFIT_ARC, 1);
 }
 
 /* n, start mode and k at their limits, in both texts. */
@@ -180,9 +197,10 @@ static void test_limits(void)
     static const struct {
         uint32_t n, start, k, number;
     } models[] = {
-        {0, 0, 0, 1}, {1, 0, 0, 0}, {64, 63, 4, 0}, {65, 0, 0, 1}, {65, 65, 5, 1}, {256, 0, 0, 1}, {257, 0, 0, 1}, {65537, 0, 0, 1}, {999999999, 0, 0, 1},
-        {1, 1, 0, 2}, {64, 64, 4, 2}, {64, 256, 0, 2}, {64, 257, 5, 2}, {64, 65536, 0, 2}, {64, 999999999, 0, 2}, {1, 0, 4, 0}, {1, 0, 5, 4}, {1, 0, 8, 4},
-        {1, 0, 9, 4}, {1, 0, 32, 4}, {1, 0, 33, 4}, {1, 0, 256, 4}, {1, 0, 260, 4}, {1, 0, 1000, 4}, {1, 0, 65536 + 4, 4},
+        {0, 0, 0, 1}, {1, 0, 0, 0}, {64, 63, 4, 0}, {65, 0, 0, 1}, {65, 65, 5, 1}, {256, 0, 0, 1}, {257, 0, 0, 1}, {65537, 0, 0, 1},
+        {999999999, 0, 0, 1}, {1, 1, 0, 2}, {64, 64, 4, 2}, {64, 256, 0, 2}, {64, 257, 5, 2}, {64, 65536, 0, 2}, {64, 999999999, 0, 2},
+        {1, 0, 4, 0}, {1, 0, 5, 4}, {1, 0, 8, 4}, {1, 0, 9, 4}, {1, 0, 32, 4}, {1, 0, 33, 4}, {1, 0, 256, 4}, {1, 0, 260, 4},
+        {1, 0, 1000, 4}, {1, 0, 65536 + 4, 4},
     };
     struct pair p = {{NULL, 0, 0}, {NULL, 0, 0}};
     size_t i;
@@ -205,24 +223,42 @@ void test_read_unfit(void)
     test_weights();
 }
 
-/* The knee's four arcs in lists of any lengths, each of them in turn one place too short, or without places. */
+/* The knee's four arcs in lists of these lengths, but for one list, which has so many places. */
+static void read_short(size_t list, size_t places, size_t others, uint32_t number)
+{
+    static const char what[] = "one list of another length";
+    struct rooms rooms = equal_rooms(others);
+
+    rooms.of[list] = places;
+    check(read_texts(what, words(knee_hoa), words(knee_dimacs), rooms, NULL).number == number, what);
+}
+
+/* Each list in turn is as long as it must be, one place too short, or without places. */
 static void test_rooms(void)
 {
-    static const size_t longer[] = {4, 5, 255, 256, 1000};
-    struct text hoa = words(knee_hoa), dimacs = words(knee_dimacs);
+    static const size_t others[] = {4, 5, 255, 256, 1000};
     size_t list, i;
 
     for (list = 0; list < 5; list++)
-        for (i = 0; i < sizeof longer / sizeof longer[0]; i++) {
-            struct rooms rooms = equal_rooms(longer[i]);
-
-            rooms.of[list] = 4;
-            check(read_texts("a list as long as it must be", hoa, dimacs, rooms, NULL).number == CHARGEPLAN_YES, "a list as long as it must be");
-            rooms.of[list] = 3;
-            check(read_texts("3: a list too short", hoa, dimacs, rooms, NULL).number == CHARGEPLAN_ARC_LISTS, "3: a list too short");
-            rooms.of[list] = 0;
-            check(read_texts("3: a list without places", hoa, dimacs, rooms, NULL).number == CHARGEPLAN_ARC_LISTS, "3: a list without places");
+        for (i = 0; i < sizeof others / sizeof others[0]; i++) {
+            read_short(list, 4, others[i], CHARGEPLAN_YES);
+            read_short(list, 3, others[i], CHARGEPLAN_ARC_LISTS);
+            read_short(list, 0, others[i], CHARGEPLAN_ARC_LISTS);
         }
+}
+
+/* About as many arcs as are taken at most, in lists that are too short, as long as they must be, and longer. */
+static void test_most_arcs(void)
+{
+    struct many many = {0, 0, "0", 0};
+
+    for (many.arcs = 253; many.arcs <= 258; many.arcs++) {
+        uint32_t number = many.arcs > CHARGEPLAN_ARCS_MOST ? CHARGEPLAN_ARC_LISTS : CHARGEPLAN_YES;
+
+        read_many("3: one place too few", many, many.arcs - 1, CHARGEPLAN_ARC_LISTS, 0);
+        read_many("as many places as arcs", many, many.arcs, number, 0);
+        read_many("more places than arcs", many, 300, number, 0);
+    }
 }
 
 void test_read_lists(void)
@@ -230,14 +266,10 @@ void test_read_lists(void)
     struct many many = {0, 0, "0", 0};
 
     test_rooms();
+    test_most_arcs();
     read_many("no arcs, no places", many, 0, CHARGEPLAN_YES, 0);
     many.arcs = 1;
     read_many("3: an arc, no places", many, 0, CHARGEPLAN_ARC_LISTS, 0);
-    for (many.arcs = 253; many.arcs <= 258; many.arcs++) {
-        read_many("3: one place too few", many, many.arcs - 1, CHARGEPLAN_ARC_LISTS, 0);
-        read_many("as many places as arcs", many, many.arcs, many.arcs > CHARGEPLAN_ARCS_MOST ? CHARGEPLAN_ARC_LISTS : CHARGEPLAN_YES, 0);
-        read_many("more places than arcs", many, 300, many.arcs > CHARGEPLAN_ARCS_MOST ? CHARGEPLAN_ARC_LISTS : CHARGEPLAN_YES, 0);
-    }
     many.arcs = 300;
     read_many("3: 300 arcs", many, 300, CHARGEPLAN_ARC_LISTS, 0);
     many.other_target = 1;
@@ -281,21 +313,31 @@ static void print_faults(struct pair *p, unsigned faults)
         add(&p->dimacs, "a 1 1 0\n");
 }
 
+/* The first of some faults; FAULTS where there is none. */
+static unsigned first_of(unsigned faults)
+{
+    unsigned first = 0;
+
+    while (first < FAULTS && !(faults >> first & 1))
+        first++;
+    return first;
+}
+
 /* Every set of faults: the first in the order decides. */
 void test_read_order(void)
 {
+    static const char what[] = "the order of the refusals";
     struct pair p = {{NULL, 0, 0}, {NULL, 0, 0}};
-    unsigned faults, first;
+    unsigned faults;
 
     for (faults = 0; faults < 1u << FAULTS; faults++) {
+        unsigned first = first_of(faults);
         struct reading r;
 
         print_faults(&p, faults);
-        for (first = 0; first < FAULTS && !(faults >> first & 1); first++)
-            ;
-        r = read_texts("the order of the refusals", text_of(&p.hoa), text_of(&p.dimacs), equal_rooms(faults >> LISTS & 1 ? 1 : 2), NULL);
-        check(r.number == (first < FAULTS ? fault_numbers[first] : 0), "the order of the refusals");
-        check(r.detail == (first == HOA ? 7u : first == DIMACS ? 3u : 0u), "the order of the refusals, detail");
+        r = read_texts(what, text_of(&p.hoa), text_of(&p.dimacs), equal_rooms(faults >> LISTS & 1 ? 1 : 2), NULL);
+        check(r.number == (first < FAULTS ? fault_numbers[first] : 0), what);
+        check(r.detail == (first == HOA ? 7u : first == DIMACS ? 3u : 0u), what);
     }
     free_pair(&p);
 }
