@@ -4,6 +4,7 @@
  * a walk tells at which step each colour is first met.
  *
  *     desk MISSION
+ *     desk NAME.hoa BOUND CREDIT
  *     desk -h
  *
  * A mission is a text of lines, in any order: "modes N", "start MODE", "colours K", "bound B" and "credit C", each once, and for
@@ -12,6 +13,10 @@
  * but "-5 3" can, as a draw of 5 and colour 3. What follows a '#' is a comment. A line has at most 250 characters and ends with LF, with
  * CR LF or with the file. A NUL byte cannot be read, nor a CR elsewhere, not even in a comment. Of the first line that cannot be read
  * stderr has the number and what is wrong in it.
+ *
+ * In place of a mission the model may stand in two texts, NAME.hoa and beside it NAME.dimacs, with the battery size BOUND and the charge
+ * on arrival CREDIT. The planner reads them, and include/chargeplan.h has their forms (THE TEXTS). A damaged text is refused with its
+ * name and its line.
  * Exit status: 0 a plan, or -h; 1 no plan exists; 2 refused; 3 the mission cannot be read, the answer cannot be written, or there is no
  * memory.
  */
@@ -61,6 +66,9 @@ static const struct {
     const char *detail;
 } meanings[] = {
     [CHARGEPLAN_YES] = {"yes", NULL},
+    [CHARGEPLAN_HOA_LINE] = {"a line is outside the forms of a HOA text, or missing", "line"},
+    [CHARGEPLAN_DIMACS_LINE] = {"a line is outside the forms of a DIMACS text, or missing", "line"},
+    [CHARGEPLAN_TEXTS_DISAGREE] = {"the two texts disagree in the number of modes or arcs, or in the ends of an arc", NULL},
     [CHARGEPLAN_MODE_COUNT] = {"the number of modes is 0 or above 64", NULL},
     [CHARGEPLAN_START_MODE] = {"the start mode is not below the number of modes", NULL},
     [CHARGEPLAN_ARC_LISTS] = {"the five arc lists are of unequal length, or longer than 255", NULL},
@@ -83,19 +91,17 @@ static const struct {
 };
 
 /* A refusal in words: its number, its sentence and its detail. */
-static void print_refusal(const char *call, uint64_t answer)
+static void print_refusal(const char *call, uint32_t number, uint64_t detail)
 {
-    uint32_t number = chargeplan_number(answer);
-    uint32_t detail = chargeplan_detail(answer);
     size_t known = sizeof meanings / sizeof meanings[0];
 
     if (number >= known || meanings[number].sentence == NULL) {
-        printf("%s: %u, detail %u\n", call, (unsigned)number, (unsigned)detail);
+        printf("%s: %u, detail %" PRIu64 "\n", call, (unsigned)number, detail);
         return;
     }
-    printf("%s: %u, detail %u: %s", call, (unsigned)number, (unsigned)detail, meanings[number].sentence);
+    printf("%s: %u, detail %" PRIu64 ": %s", call, (unsigned)number, detail, meanings[number].sentence);
     if (meanings[number].detail != NULL)
-        printf(" (%s %u)", meanings[number].detail, (unsigned)detail);
+        printf(" (%s %" PRIu64 ")", meanings[number].detail, detail);
     printf("\n");
 }
 
@@ -104,11 +110,11 @@ static int is_yes(const char *call, uint64_t answer)
 {
     if (chargeplan_number(answer) == CHARGEPLAN_YES)
         return 1;
-    print_refusal(call, answer);
+    print_refusal(call, chargeplan_number(answer), chargeplan_detail(answer));
     return 0;
 }
 
-/* A text that is being read, and the number of the line that was read last. */
+/* A text that is being read, and the number of the line that was read last; 0 where there are no lines. */
 struct text {
     const char *name;
     FILE *file;
@@ -120,7 +126,9 @@ static int wrong(const struct text *t, const char *reason, ...)
 {
     va_list parts;
 
-    fprintf(stderr, "%s: line %u: ", t->name, t->line);
+    fprintf(stderr, "%s: ", t->name);
+    if (t->line > 0)
+        fprintf(stderr, "line %u: ", t->line);
     va_start(parts, reason);
     vfprintf(stderr, reason, parts);
     va_end(parts);
@@ -368,6 +376,125 @@ static int read_mission(const char *name, struct mission *m)
     return fine;
 }
 
+/* The bytes of a file. */
+struct bytes {
+    uint8_t *at;
+    size_t length;
+};
+
+/* Reads what is left of a file, however long it is; the answer is 0 where there is no memory. */
+static int fill_bytes(struct bytes *to, FILE *file)
+{
+    size_t room = 0, got;
+
+    do {
+        if (to->length == room) {
+            uint8_t *longer = realloc(to->at, room = 2 * room + 4096);
+
+            if (longer == NULL)
+                return 0;
+            to->at = longer;
+        }
+        got = fread(to->at + to->length, 1, room - to->length, file);
+        to->length += got;
+    } while (got > 0);
+    return 1;
+}
+
+/* The bytes of a file; the answer is 0 where it cannot be read, with the reason printed. */
+static int read_bytes(const char *name, struct bytes *to)
+{
+    FILE *file = fopen(name, "rb");
+    int fine;
+
+    if (file == NULL)
+        return wrong_file(name, "opened");
+    fine = fill_bytes(to, file);
+    if (!fine)
+        fprintf(stderr, "%s: no memory for it\n", name);
+    else if (ferror(file))
+        fine = wrong_file(name, "read");
+    fclose(file);
+    return fine;
+}
+
+/* Prints a refused reading; where it is a line that is refused, after the text's name without its directories. */
+static void print_unread(const char *hoa, const char *dimacs, const struct chargeplan_reading *reading)
+{
+    const char *name = reading->number == CHARGEPLAN_HOA_LINE ? hoa : reading->number == CHARGEPLAN_DIMACS_LINE ? dimacs : NULL;
+    const char *slash = name == NULL ? NULL : strrchr(name, '/');
+
+    if (name != NULL)
+        printf("%s: ", slash == NULL ? name : slash + 1);
+    print_refusal("reading refuses", reading->number, reading->detail);
+}
+
+/* Reads the model of a mission from two texts. The answer is an exit status: PLAN where it is read, REFUSED with the reason printed. */
+static int read_model(const char *hoa, const struct bytes *h, const char *dimacs, const struct bytes *d, struct mission *m)
+{
+    struct chargeplan_lists lists = {m->sources, m->targets, m->draws, m->gains, m->met, ARCS_KEPT};
+    struct chargeplan_model model;
+    struct chargeplan_reading reading = chargeplan_model_read(&model, &lists, h->at, h->length, d->at, d->length);
+
+    if (reading.number != CHARGEPLAN_YES) {
+        print_unread(hoa, dimacs, &reading);
+        return REFUSED;
+    }
+    m->numbers[MODES] = model.n;
+    m->numbers[START] = model.start;
+    m->numbers[COLOURS] = model.k;
+    m->arcs = model.arcs;
+    return PLAN;
+}
+
+/* The same from two files; FAILED where one cannot be read, with the reason printed. */
+static int read_files(const char *hoa, const char *dimacs, struct mission *m)
+{
+    struct bytes h = {NULL, 0}, d = {NULL, 0};
+    int status = FAILED;
+
+    if (read_bytes(hoa, &h) && read_bytes(dimacs, &d))
+        status = read_model(hoa, &h, dimacs, &d, m);
+    free(h.at);
+    free(d.at);
+    return status;
+}
+
+/* How the name of a HOA text ends. */
+static const char hoa_end[] = ".hoa";
+
+static int is_hoa(const char *name)
+{
+    size_t length = strlen(name), end = strlen(hoa_end);
+
+    return length >= end && strcmp(name + length - end, hoa_end) == 0;
+}
+
+/* The mission of a HOA text, the DIMACS text beside it, a bound and a credit. The answer is an exit status, as before. */
+static int read_pair(const char *hoa, char *bound, char *credit, struct mission *m)
+{
+    static const char dimacs_end[] = ".dimacs";
+    struct text arguments = {"desk", NULL, 0};
+    size_t stem = strlen(hoa) - strlen(hoa_end);
+    char *dimacs;
+    int status;
+
+    memset(m, 0, sizeof *m);
+    if (!read_value(&arguments, number_words[BOUND], bound, UINT32_MAX, &m->numbers[BOUND])
+        || !read_value(&arguments, number_words[CREDIT], credit, UINT32_MAX, &m->numbers[CREDIT]))
+        return FAILED;
+    dimacs = malloc(stem + sizeof dimacs_end);
+    if (dimacs == NULL) {
+        fprintf(stderr, "no memory for a name\n");
+        return FAILED;
+    }
+    memcpy(dimacs, hoa, stem);
+    memcpy(dimacs + stem, dimacs_end, sizeof dimacs_end);
+    status = read_files(hoa, dimacs, m);
+    free(dimacs);
+    return status;
+}
+
 /* The mission's model, whose lists stay in the mission. */
 static struct chargeplan_model model_of(const struct mission *m)
 {
@@ -502,6 +629,7 @@ static int answer_mission(const struct mission *m)
 static void print_help(void)
 {
     printf("usage: desk MISSION\n"
+           "       desk NAME.hoa BOUND CREDIT\n"
            "\n"
            "Searches a plan for a mission, judges it and runs it on the bench. A mission is a text of lines, in any order:\n"
            "\n"
@@ -513,6 +641,9 @@ static void print_help(void)
            "    arc SOURCE TARGET MOVE COLOUR..    one for each arc, with the numbers of the colours that it meets\n"
            "\n"
            "MOVE is -DRAW, GAIN, +GAIN or -DRAW+GAIN. What follows a '#' is a comment. A line has at most %d characters.\n"
+           "\n"
+           "In place of a mission the model may stand in two texts: NAME.hoa, in HOA version 1, and beside it NAME.dimacs, in the DIMACS\n"
+           "shortest-path form. include/chargeplan.h says which lines they have.\n"
            "\n"
            "Exit status: 0 a plan, 1 no plan exists, 2 refused, 3 the mission cannot be read, the answer cannot be written, or there is\n"
            "no memory.\n",
@@ -530,17 +661,28 @@ static int close_output(int status)
     return FAILED;
 }
 
+/* The mission that the arguments name. The answer is an exit status: PLAN where it is read. */
+static int read_arguments(int argc, char **argv, struct mission *m)
+{
+    if (argc == 2 && !is_hoa(argv[1]))
+        return read_mission(argv[1], m) ? PLAN : FAILED;
+    if (argc == 4 && is_hoa(argv[1]))
+        return read_pair(argv[1], argv[2], argv[3], m);
+    fprintf(stderr, "usage: desk MISSION, or desk NAME.hoa BOUND CREDIT (desk -h says what they are)\n");
+    return FAILED;
+}
+
 int main(int argc, char **argv)
 {
     struct mission m;
+    int status;
 
-    if (argc != 2) {
-        fprintf(stderr, "usage: desk MISSION (desk -h says what a mission is)\n");
-        return FAILED;
-    }
-    if (strcmp(argv[1], "-h") == 0 || strcmp(argv[1], "--help") == 0) {
+    if (argc == 2 && (strcmp(argv[1], "-h") == 0 || strcmp(argv[1], "--help") == 0)) {
         print_help();
         return close_output(EXIT_SUCCESS);
     }
-    return read_mission(argv[1], &m) ? close_output(answer_mission(&m)) : FAILED;
+    status = read_arguments(argc, argv, &m);
+    if (status == PLAN)
+        status = answer_mission(&m);
+    return status == FAILED ? FAILED : close_output(status);
 }
