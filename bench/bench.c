@@ -28,49 +28,80 @@ struct version {
     const char *name;
     search_entry *search;
     judge_entry *judge;
+    read_entry *read;
 };
 
-/* A set of inputs of one kind that have the same number as answer. Plans to be judged have `length` arcs; 0 is for search. */
+/*
+ * A set of inputs of one kind that have the same number as answer. Plans to be judged have `length` arcs. Texts to be read have `comments`
+ * comments and the colours of each arc `times` times. Where both length and times are 0, it is for search.
+ */
 struct family {
     const char *name;
     void (*make)(struct input *in);
     size_t count;
     uint32_t number;
     uint32_t length;
+    size_t comments;
+    size_t times;
 };
 
 static const struct version versions[VERSIONS] = {
-    {"library", chargeplan_search, chargeplan_judge},
-    {"C -O2", reference_o2_search, reference_o2_judge},
-    {"C -O3", reference_o3_search, reference_o3_judge},
+    {"library", chargeplan_search, chargeplan_judge, chargeplan_read},
+    {"C -O2", reference_o2_search, reference_o2_judge, reference_o2_read},
+    {"C -O3", reference_o3_search, reference_o3_judge, reference_o3_read},
 };
 
 static const struct family families[] = {
-    {"search, random, 64 modes, 255 arcs, b 127, with a plan", make_64_modes, 16, 0, 0},
-    {"search, random, 64 modes, 255 arcs, b 127, without", make_64_modes, 16, 10, 0},
-    {"search, chain of 64 modes with +1 loops, b 127, without", make_chain, 1, 10, 0},
-    {"search, document 001's figure 6, b 60, with a plan", make_figure_6, 1, 0, 0},
-    {"search, ring of 64 modes, 255 arcs, b 127, without", make_ring, 1, 10, 0},
-    {"search, random, 8 modes, 64 arcs, b 1,023, with a plan", make_8_modes, 16, 0, 0},
-    {"search, random, 8 modes, 64 arcs, b 1,023, without", make_8_modes, 16, 10, 0},
-    {"search, 1 mode, 255 arcs, b 8,191, k 0, with a plan", make_one_mode, 16, 0, 0},
-    {"search, 1 mode, 255 arcs, b 8,191, k 4, with a plan", make_one_mode_colours, 16, 0, 0},
-    {"search, 1 mode, 255 arcs, b 8,191, k 1, without", make_one_mode_climb, 4, 10, 0},
-    {"judging, 1 arc", make_plan, 16, 0, 1},
-    {"judging, 255 arcs", make_plan, 16, 0, 255},
-    {"judging, 4,000 arcs", make_plan, 16, 0, 4000},
-    {"judging, 65,000 arcs", make_plan, 16, 0, 65000},
-    {"judging, 65,000 arcs, many steps cut off at the bound", make_steep_plan, 16, 0, 65000},
-    {"search, 64 modes, 255 arcs with both parts, with a plan", make_64_modes_both, 16, 0, 0},
-    {"judging, 65,000 arcs with both parts", make_plan_both, 16, 0, 65000},
-    {"judging, 65,000 arcs, below, exactly and above the bound", make_low_bound_plan, 16, 0, 65000},
+    {"search, random, 64 modes, 255 arcs, b 127, with a plan", make_64_modes, 16, 0, 0, 0, 0},
+    {"search, random, 64 modes, 255 arcs, b 127, without", make_64_modes, 16, 10, 0, 0, 0},
+    {"search, chain of 64 modes with +1 loops, b 127, without", make_chain, 1, 10, 0, 0, 0},
+    {"search, document 001's figure 6, b 60, with a plan", make_figure_6, 1, 0, 0, 0, 0},
+    {"search, ring of 64 modes, 255 arcs, b 127, without", make_ring, 1, 10, 0, 0, 0},
+    {"search, random, 8 modes, 64 arcs, b 1,023, with a plan", make_8_modes, 16, 0, 0, 0, 0},
+    {"search, random, 8 modes, 64 arcs, b 1,023, without", make_8_modes, 16, 10, 0, 0, 0},
+    {"search, 1 mode, 255 arcs, b 8,191, k 0, with a plan", make_one_mode, 16, 0, 0, 0, 0},
+    {"search, 1 mode, 255 arcs, b 8,191, k 4, with a plan", make_one_mode_colours, 16, 0, 0, 0, 0},
+    {"search, 1 mode, 255 arcs, b 8,191, k 1, without", make_one_mode_climb, 4, 10, 0, 0, 0},
+    {"judging, 1 arc", make_plan, 16, 0, 1, 0, 0},
+    {"judging, 255 arcs", make_plan, 16, 0, 255, 0, 0},
+    {"judging, 4,000 arcs", make_plan, 16, 0, 4000, 0, 0},
+    {"judging, 65,000 arcs", make_plan, 16, 0, 65000, 0, 0},
+    {"judging, 65,000 arcs, many steps cut off at the bound", make_steep_plan, 16, 0, 65000, 0, 0},
+    {"search, 64 modes, 255 arcs with both parts, with a plan", make_64_modes_both, 16, 0, 0, 0, 0},
+    {"judging, 65,000 arcs with both parts", make_plan_both, 16, 0, 65000, 0, 0},
+    {"judging, 65,000 arcs, below, exactly and above the bound", make_low_bound_plan, 16, 0, 65000, 0, 0},
+    {"reading, 64 modes, 255 arcs", make_model_with_texts, 16, 0, 0, 0, 1},
+    {"reading, the same with 1,000 comments of 64 bytes", make_model_with_texts, 4, 0, 0, 1000, 1},
+    {"reading, the same with 2,000 comments", make_model_with_texts, 4, 0, 0, 2000, 1},
+    {"reading, the same with 4,000 comments", make_model_with_texts, 4, 0, 0, 4000, 1},
+    {"reading, the same with each colour 100 times", make_model_with_texts, 4, 0, 0, 0, 100},
+    {"reading, the same with each colour 200 times", make_model_with_texts, 4, 0, 0, 0, 200},
+    {"reading, the same with each colour 400 times", make_model_with_texts, 4, 0, 0, 0, 400},
 };
 
-/* Allocated once: the inputs of a family, their plans to be judged, the buffers of search, and what the library left in those. */
+/* The lists that reading fills, and the numbers that it answers. */
+struct filled {
+    uint8_t sources[CHARGEPLAN_ARCS_MOST];
+    uint8_t targets[CHARGEPLAN_ARCS_MOST];
+    uint8_t colours[CHARGEPLAN_ARCS_MOST];
+    uint16_t draws[CHARGEPLAN_ARCS_MOST];
+    uint16_t gains[CHARGEPLAN_ARCS_MOST];
+    uint32_t n;
+    uint32_t start;
+    uint32_t k;
+    uint32_t m;
+};
+
+/*
+ * Allocated once: the inputs of a family, their plans to be judged, their texts, the buffers of search, the lists of reading, and what the
+ * library left in these.
+ */
 static struct input inputs[SET_MOST];
 static uint8_t judged[SET_MOST][CHARGEPLAN_PLAN_MOST];
+static char hoa[SET_MOST][TEXT_MOST], dimacs[SET_MOST][TEXT_MOST];
 static uint16_t work[WORK_WORDS], library_work[WORK_WORDS];
 static uint8_t plan[PLAN_BYTES], library_plan[PLAN_BYTES];
+static struct filled filled, library_filled;
 
 static void fail(const struct family *family, const char *what)
 {
@@ -92,8 +123,25 @@ static uint64_t call_judge(const struct version *version, const struct input *in
                           (size_t)in->p + in->q);
 }
 
+/* The number and the detail of reading, as the other calls have them. */
+static uint64_t call_read(const struct version *version, const struct input *in)
+{
+    enum { ROOM = CHARGEPLAN_ARCS_MOST };
+    struct filled *f = &filled;
+    struct chargeplan_reading reading =
+        version->read((const uint8_t *)in->hoa, in->hoa_length, (const uint8_t *)in->dimacs, in->dimacs_length, f->sources, ROOM, f->targets,
+                      ROOM, f->draws, ROOM, f->gains, ROOM, f->colours, ROOM);
+    f->n = reading.n;
+    f->start = reading.start;
+    f->k = reading.k;
+    f->m = reading.m;
+    return reading.number | reading.detail << 8;
+}
+
 static uint64_t call(const struct family *family, const struct version *version, const struct input *in)
 {
+    if (family->times > 0)
+        return call_read(version, in);
     return family->length > 0 ? call_judge(version, in) : call_search(version, in);
 }
 
@@ -104,6 +152,7 @@ static void fill_buffers(void)
         work[i] = (uint16_t)(i * 40503 + 1);
     for (size_t i = 0; i < PLAN_BYTES; i++)
         plan[i] = (uint8_t)(i * 167 + 1);
+    memset(&filled, 0xa5, sizeof filled);
 }
 
 /* Makes each input until the answer is the family's. */
@@ -115,21 +164,26 @@ static void make_inputs(const struct family *family)
         in->p = family->length / 4;
         in->q = family->length - in->p;
         in->plan = judged[i];
+        in->hoa = hoa[i];
+        in->dimacs = dimacs[i];
         do {
             if (tries++ == TRIES_MOST)
                 fail(family, "no such input was made");
             family->make(in);
+            if (family->times > 0)
+                print_texts(in, family->comments, family->times);
         } while (chargeplan_number(call(family, &versions[0], in)) != family->number);
     }
 }
 
-/* Compares answers, plan buffers and working spaces of the references with the library's. */
+/* Compares answers, plan buffers, working spaces and filled lists of the references with the library's. */
 static void compare(const struct family *family, const struct input *in)
 {
     fill_buffers();
     uint64_t answer = call(family, &versions[0], in);
     memcpy(library_work, work, sizeof work);
     memcpy(library_plan, plan, sizeof plan);
+    memcpy(&library_filled, &filled, sizeof filled);
     for (size_t v = 1; v < VERSIONS; v++) {
         fill_buffers();
         if (call(family, &versions[v], in) != answer)
@@ -138,6 +192,8 @@ static void compare(const struct family *family, const struct input *in)
             fail(family, "working spaces differ");
         if (memcmp(library_plan, plan, sizeof plan) != 0)
             fail(family, "plan buffers differ");
+        if (memcmp(&library_filled, &filled, sizeof filled) != 0)
+            fail(family, "what was read differs");
     }
 }
 

@@ -1,5 +1,7 @@
 #include "inputs.h"
 
+#include <stdio.h>
+
 /* A random number of 32 bits (xorshift64*); the same numbers in every run. */
 static uint32_t random_word(void)
 {
@@ -223,4 +225,60 @@ void make_plan_both(struct input *in)
         set_numbers(in, 8, 4, 4095, 8191);
         add_random_moves(in, 255, 1000, 1000, 2);
     } while (!make_arcs(in));
+}
+
+void make_model_with_texts(struct input *in)
+{
+    set_numbers(in, 64, 4, 63, 127);
+    for (size_t a = 0; a < 255; a++)
+        add_arc(in, (uint32_t)(a * in->n / 255), below(in->n), between(-10000, 10000), make_colours(in->k, 2));
+}
+
+/* The colours of an arc in braces, so many times; returns the place behind them. */
+static char *print_colours(char *at, uint32_t colours, size_t times)
+{
+    const char *before = "";
+
+    at += sprintf(at, " {");
+    for (size_t i = 0; i < times * CHARGEPLAN_COLOURS_MOST; i++)
+        if ((colours >> i % CHARGEPLAN_COLOURS_MOST & 1) != 0) {
+            at += sprintf(at, "%s%zu", before, i % CHARGEPLAN_COLOURS_MOST);
+            before = " ";
+        }
+    return at + sprintf(at, "}");
+}
+
+/* The block of each mode, also of one without arcs; returns the place behind them. */
+static char *print_blocks(char *at, const struct input *in, size_t times)
+{
+    size_t a = 0;
+
+    for (uint32_t mode = 0; mode < in->n; mode++) {
+        at += sprintf(at, "State: %u\n", (unsigned)mode);
+        for (; a < in->arcs && in->sources[a] == mode; a++) {
+            at += sprintf(at, "[t] %u", (unsigned)in->targets[a]);
+            if (in->colours[a] != 0)
+                at = print_colours(at, in->colours[a], times);
+            at += sprintf(at, "\n");
+        }
+    }
+    return at;
+}
+
+void print_texts(struct input *in, size_t comments, size_t times)
+{
+    char *at = in->hoa;
+
+    at += sprintf(at, "HOA: v1\nStates: %u\nStart: %u\nAP: 0\nAcceptance: 4 Inf(0)&Inf(1)&Inf(2)&Inf(3)\n--BODY--\n", (unsigned)in->n,
+                  (unsigned)in->start);
+    at = print_blocks(at, in, times);
+    at += sprintf(at, "--END--\n");
+    in->hoa_length = (size_t)(at - in->hoa);
+    at = in->dimacs;
+    for (size_t i = 0; i < comments; i++)
+        at += sprintf(at, "c%62s\n", "comment");
+    at += sprintf(at, "p sp %u %zu\n", (unsigned)in->n, in->arcs);
+    for (size_t a = 0; a < in->arcs; a++)
+        at += sprintf(at, "a %d %d %d\n", in->sources[a] + 1, in->targets[a] + 1, in->gains[a] - in->draws[a]);
+    in->dimacs_length = (size_t)(at - in->dimacs);
 }

@@ -1,6 +1,6 @@
 /*
- * The inputs of the benchmark: models with credit and bound, and for judging a plan. An arc with a weight draws or gains; those of the last
- * two kinds do both.
+ * The inputs of the benchmark: models with credit and bound, for judging a plan, and for reading the texts of a model. An arc with a weight
+ * draws or gains; those of two kinds do both.
  */
 #ifndef INPUTS_H
 #define INPUTS_H
@@ -26,7 +26,13 @@ struct input {
     uint32_t p;
     uint32_t q;
     uint8_t *plan; /* p + q arcs to be judged */
+    char *hoa;     /* the two texts to be read, in buffers of TEXT_MOST bytes */
+    char *dimacs;
+    size_t hoa_length;
+    size_t dimacs_length;
 };
+
+enum { TEXT_MOST = 1 << 20 };
 
 /* 64 modes, 255 arcs, k 4, b 127. Most arcs draw, and a colour is on one arc in 32, so that some models have a plan and some have none. */
 void make_64_modes(struct input *in);
@@ -84,5 +90,11 @@ void make_64_modes_both(struct input *in);
 
 /* As make_plan; each arc draws up to 1,000 and then gains up to 1,000. */
 void make_plan_both(struct input *in);
+
+/* 64 modes, 255 arcs of any weight, k 4, a colour on one arc in 2, the arcs of one source together. */
+void make_model_with_texts(struct input *in);
+
+/* Prints the texts of such a model, with so many comments of 64 bytes, and with the colours of an arc so many times. */
+void print_texts(struct input *in, size_t comments, size_t times);
 
 #endif

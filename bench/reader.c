@@ -222,14 +222,14 @@ static uint64_t read_hoa(struct cursor c, struct hoa *h)
     return c.at == c.end ? 0 : line + 1;
 }
 
-/* Passes over the comments; line is the number of the first line behind them. */
+/* Passes over the comments, byte by byte as the library does; line is the number of the first line behind them. */
 static bool take_comments(struct cursor *c, uint64_t *line)
 {
     for (*line = 1; c->at < c->end && *c->at == 'c'; ++*line) {
-        const uint8_t *feed = memchr(c->at, '\n', (size_t)(c->end - c->at));
-        if (feed == NULL)
+        while (c->at < c->end && *c->at != '\n')
+            c->at++;
+        if (!take_byte(c, '\n'))
             return false;
-        c->at = feed + 1;
     }
     return true;
 }
@@ -301,7 +301,7 @@ static bool agree(const struct hoa *h, const struct dimacs *d)
     return d->m <= CHARGEPLAN_ARCS_MOST || same_unkept(h, d);
 }
 
-/* Sets the detail of 5; else answers the first of 1 to 5, with detail 0. */
+/* The first of 1 to 5 that applies, with its detail. */
 static uint8_t check_read(const struct hoa *h, const struct dimacs *d, size_t room, uint64_t *detail)
 {
     *detail = 0;

@@ -23,9 +23,11 @@ static void read_exactly(const char *what, const char *hoa, const char *dimacs, 
 /* Numbers and arcs by hand. */
 void test_read_pairs(void)
 {
-    static const struct reading knee = {0, 0, 4, 3, 2, 4}, least = {0, 0, 1, 0, 0, 0}, g = {0, 0, 2, 0, 1, 3}, all = {0, 0, 64, 63, 4, 1};
+    static const struct reading knee = {0, 0, 4, 3, 2, 4}, least = {0, 0, 1, 0, 0, 0}, g = {0, 0, 2, 0, 1, 3}, all = {0, 0, 64, 63, 4, 1},
+                                rest = {0, 0, 3, 0, 2, 4};
     static const struct arc knee_arcs[] = {{3, 1, 3, 0, 0}, {3, 2, 0, 9, 1}, {1, 3, 0, 0, 3}, {1, 3, 10000, 0, 0}},
-                            g_arcs[] = {{0, 0, 0, 1, 0}, {0, 1, 5, 0, 0}, {1, 1, 0, 0, 1}}, all_arcs[] = {{63, 63, 0, 10000, 15}};
+                            g_arcs[] = {{0, 0, 0, 1, 0}, {0, 1, 5, 0, 0}, {1, 1, 0, 0, 1}}, all_arcs[] = {{63, 63, 0, 10000, 15}},
+                            rest_arcs[] = {{0, 1, 9, 0, 1}, {0, 2, 1, 0, 0}, {2, 2, 0, 5, 0}, {2, 0, 0, 0, 3}};
 
     read_exactly("every form", knee_hoa, knee_dimacs, knee, knee_arcs);
     read_exactly("the least texts", "HOA: v1\nStates: 1\nStart: 0\nAP: 0\nAcceptance: 0 t\n--BODY--\n--END--\n", "p sp 1 0\n", least, NULL);
@@ -33,6 +35,9 @@ void test_read_pairs(void)
         "[t] 1 {0}\n--END--\n", "p sp 2 3\na 1 1 1\na 1 2 -5\na 2 2 0\n", g, g_arcs);
     read_exactly("the greatest modes and colours", "HOA: v1\nStates: 64\nStart: 63\nAP: 0\nAcceptance: 4 Inf(0)&Inf(1)&Inf(2)&Inf(3)\n"
         "--BODY--\nState: 63\n[t] 63 {3 2 0 1}\n--END--\n", "p sp 64 1\na 64 64 10000\n", all, all_arcs);
+    read_exactly("the example of docs/C-API.md", "HOA: v1\nStates: 3\nStart: 0\nAP: 0\nAcceptance: 2 Inf(0)&Inf(1)\n--BODY--\nState: 0\n"
+        "[t] 1 {0}\n[t] 2\nState: 2\n[t] 2 {}\n[t] 0 {1 0 1}\n--END--\n", "c a knee that rests\np sp 3 4\na 1 2 -9\na 1 3 -1\na 3 3 5\n"
+        "a 3 1 0\n", rest, rest_arcs);
     read_strings("no texts", "", "", CHARGEPLAN_HOA_LINE, 1);
     read_strings("no HOA text", "", knee_dimacs, CHARGEPLAN_HOA_LINE, 1);
     read_strings("no DIMACS text", knee_hoa, "", CHARGEPLAN_DIMACS_LINE, 1);
