@@ -249,6 +249,7 @@ void test_read_order(void);
 void test_read_damaged_bytes(void);
 void test_read_damaged_lines(void);
 void test_read_cut_texts(void);
+void test_read_rows(void);
 void test_read_long_texts(unsigned long lines);
 void test_random(unsigned long models);
 void test_random_large(unsigned long models);

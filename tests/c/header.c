@@ -187,7 +187,7 @@ static void same_reading(const char *what, const char *hoa, const char *dimacs, 
 {
     struct lists of_entry, of_model;
     struct chargeplan_lists lent = {of_model.sources, of_model.targets, of_model.draws, of_model.gains, of_model.colours, room};
-    struct text h = words(hoa), d = words(dimacs);
+    struct text h = as_text(hoa), d = as_text(dimacs);
     struct chargeplan_reading entry, reading;
     struct chargeplan_model m;
 

@@ -4,14 +4,14 @@
 /* A pair of texts given as strings. */
 static void read_strings(const char *what, const char *hoa, const char *dimacs, uint32_t number, uint64_t detail)
 {
-    read_as(what, words(hoa), words(dimacs), number, detail);
+    read_as(what, as_text(hoa), as_text(dimacs), number, detail);
 }
 
 /* What is read of the pair: the numbers, and arc by arc. */
 static void read_exactly(const char *what, const char *hoa, const char *dimacs, struct reading expected, const struct arc *arcs)
 {
     struct lists lists;
-    struct reading r = read_texts(what, words(hoa), words(dimacs), equal_rooms(CHARGEPLAN_ARCS_MOST), &lists);
+    struct reading r = read_texts(what, as_text(hoa), as_text(dimacs), equal_rooms(CHARGEPLAN_ARCS_MOST), &lists);
     uint32_t a;
 
     check(r.number == 0 && r.detail == 0 && r.n == expected.n && r.start == expected.start && r.k == expected.k && r.m == expected.m, what);
@@ -55,7 +55,7 @@ struct change {
 static void read_changed(int in_hoa, struct change change, uint32_t number, uint64_t detail)
 {
     struct page page = {NULL, 0, 0};
-    struct text hoa = words(knee_hoa), dimacs = words(knee_dimacs);
+    struct text hoa = as_text(knee_hoa), dimacs = as_text(knee_dimacs);
 
     replace_line(&page, in_hoa ? hoa : dimacs, change.line, change.by);
     if (in_hoa)

@@ -1,4 +1,4 @@
-/* Reading: pairs of texts damaged at every byte and every line, and cut at every byte. */
+/* Reading: pairs of texts damaged at every byte and line, cut at every byte, with every short row in place of some words, and long ones. */
 #include "texts.h"
 
 #include <string.h>
@@ -52,7 +52,7 @@ static void damage_bytes(struct text hoa, struct text dimacs, int in_hoa)
 
 void test_read_damaged_bytes(void)
 {
-    struct text hoa = words(knee_hoa), dimacs = words(knee_dimacs);
+    struct text hoa = as_text(knee_hoa), dimacs = as_text(knee_dimacs);
 
     damage_bytes(hoa, dimacs, 1);
     damage_bytes(hoa, dimacs, 0);
@@ -111,7 +111,7 @@ static void damage_lines(struct text hoa, struct text dimacs, int in_hoa, struct
 
 void test_read_damaged_lines(void)
 {
-    struct text hoa = words(knee_hoa), dimacs = words(knee_dimacs);
+    struct text hoa = as_text(knee_hoa), dimacs = as_text(knee_dimacs);
 
     damage_lines(hoa, dimacs, 1, hoa);
     damage_lines(hoa, dimacs, 1, dimacs);
@@ -145,8 +145,8 @@ void test_read_cut_texts(void)
     struct pair p = {{NULL, 0, 0}, {NULL, 0, 0}};
     struct model g = model_g();
 
-    cut_text(words(knee_hoa), words(knee_dimacs), 1);
-    cut_text(words(knee_hoa), words(knee_dimacs), 0);
+    cut_text(as_text(knee_hoa), as_text(knee_dimacs), 1);
+    cut_text(as_text(knee_hoa), as_text(knee_dimacs), 0);
     print_model(&p, &g, plainly);
     cut_text(text_of(&p.hoa), text_of(&p.dimacs), 1);
     cut_text(text_of(&p.hoa), text_of(&p.dimacs), 0);
@@ -154,6 +154,68 @@ void test_read_cut_texts(void)
     cut_text(text_of(&p.hoa), text_of(&p.dimacs), 1);
     cut_text(text_of(&p.hoa), text_of(&p.dimacs), 0);
     free_pair(&p);
+}
+
+/* Some words of the knee's HOA or DIMACS text, and the parts of the rows that stand in their place. */
+struct place {
+    int in_hoa;
+    const char *words;
+    const char *parts[9]; /* up to a null pointer */
+    unsigned most;
+};
+
+/* Adds the row of this number and length: the digits of the number choose its parts. */
+static void add_row(struct page *to, const struct place *p, unsigned parts, unsigned length, unsigned long number)
+{
+    for (; length > 0; length--) {
+        add(to, p->parts[number % parts]);
+        number /= parts;
+    }
+}
+
+/* Every row of this length. */
+static void read_rows(const struct place *p, unsigned parts, unsigned length)
+{
+    struct text hoa = as_text(knee_hoa), dimacs = as_text(knee_dimacs), from = p->in_hoa ? hoa : dimacs;
+    const char *knee = p->in_hoa ? knee_hoa : knee_dimacs;
+    size_t at = (size_t)(strstr(knee, p->words) - knee);
+    struct page row = {NULL, 0, 0}, page = {NULL, 0, 0};
+    unsigned long number, rows = 1;
+    unsigned i;
+
+    for (i = 0; i < length; i++)
+        rows *= parts;
+    for (number = 0; number < rows; number++) {
+        clear_page(&row);
+        add_row(&row, p, parts, length, number);
+        splice(&page, from, at, strlen(p->words), text_of(&row));
+        read_damaged(hoa, dimacs, p->in_hoa, &page);
+    }
+    free_page(&row);
+    free_page(&page);
+}
+
+/* Every row up to the greatest length, in each place. */
+void test_read_rows(void)
+{
+    static const struct place places[] = {
+        {1, " {0}", {" ", "{", "}", "0", "1", "\n", NULL}, 5},
+        {1, "2 Inf(0)&Inf(1)", {"0", "1", "2", " ", "t", "&", "Inf(", ")", NULL}, 4},
+        {1, "2 Inf(0)&Inf(1)", {"1", "2", " ", "&", "Inf(0)", "Inf(1)", NULL}, 5},
+        {1, "State: 0\n", {"State:", "[t]", " ", "0", "3", "\n", NULL}, 4},
+        {1, "--END--\n", {"--END--", "\n", " ", "-", "State: 2", NULL}, 4},
+        {0, "-3", {"-", "+", "0", "1", " ", "\n", NULL}, 4},
+        {0, "p sp 4 4\n", {"p ", "sp ", "4 ", "4", "\n", "c", NULL}, 5},
+    };
+    size_t i;
+    unsigned parts, length;
+
+    for (i = 0; i < sizeof places / sizeof places[0]; i++) {
+        for (parts = 0; places[i].parts[parts] != NULL; parts++)
+            ;
+        for (length = 0; length <= places[i].most; length++)
+            read_rows(&places[i], parts, length);
+    }
 }
 
 /* Reading a pair that is too long for the plain reading. */

@@ -58,7 +58,7 @@ static void test_every_block(uint32_t n)
         add(&p.hoa, "State: ");
         add_number(&p.hoa, again, 3);
         add(&p.hoa, "\n--END--\n");
-        read_as("19: a second block", text_of(&p.hoa), words("p sp 1 0\n"), CHARGEPLAN_HOA_LINE, 7 + n);
+        read_as("19: a second block", text_of(&p.hoa), as_text("p sp 1 0\n"), CHARGEPLAN_HOA_LINE, 7 + n);
     }
     free_pair(&p);
 }
@@ -124,7 +124,7 @@ void test_read_disagreements(void)
         snprintf(hoa, sizeof hoa, "HOA: v1\nStates: %s\nStart: 0\nAP: 0\nAcceptance: 0 t\n--BODY--\n%s--END--\n", pairs[i].hoa_n,
             pairs[i].body);
         snprintf(dimacs, sizeof dimacs, "p sp %s %s\n%s", pairs[i].dimacs_n, pairs[i].m, pairs[i].arcs);
-        read_as("21", words(hoa), words(dimacs), CHARGEPLAN_TEXTS_DISAGREE, 0);
+        read_as("21", as_text(hoa), as_text(dimacs), CHARGEPLAN_TEXTS_DISAGREE, 0);
     }
 }
 
@@ -230,7 +230,7 @@ static void read_short(size_t list, size_t places, size_t others, uint32_t numbe
     struct rooms rooms = equal_rooms(others);
 
     rooms.of[list] = places;
-    check(read_texts(what, words(knee_hoa), words(knee_dimacs), rooms, NULL).number == number, what);
+    check(read_texts(what, as_text(knee_hoa), as_text(knee_dimacs), rooms, NULL).number == number, what);
 }
 
 /* Each list in turn is as long as it must be, one place too short, or without places. */

@@ -150,6 +150,7 @@ static const struct {
     {"reading, texts damaged at every byte", test_read_damaged_bytes},
     {"reading, texts damaged at every line", test_read_damaged_lines},
     {"reading, texts cut at every byte", test_read_cut_texts},
+    {"reading, every short row in place of some words", test_read_rows},
     {"reading, long texts", test_read_texts_of_any_length},
     {"header", test_header},
     {"random models and plans", test_random_models},

@@ -34,7 +34,7 @@ void add_text(struct page *to, struct text t)
 
 void add(struct page *to, const char *string)
 {
-    add_text(to, words(string));
+    add_text(to, as_text(string));
 }
 
 void add_number(struct page *to, uint32_t number, unsigned digits)
@@ -63,7 +63,7 @@ struct text text_of(const struct page *p)
     return t;
 }
 
-struct text words(const char *string)
+struct text as_text(const char *string)
 {
     struct text t = {(const uint8_t *)string, strlen(string)};
     return t;

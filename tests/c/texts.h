@@ -23,7 +23,7 @@ void free_page(struct page *p);
 
 /* The text of a page, which changes with it, and of a string. */
 struct text text_of(const struct page *p);
-struct text words(const char *string);
+struct text as_text(const char *string);
 
 /* Makes a text with one of its lines, counted from 1, replaced; the line feed of that line too. */
 void replace_line(struct page *to, struct text from, size_t line, const char *by);
