@@ -173,18 +173,15 @@ static void add_row(struct page *to, const struct place *p, unsigned parts, unsi
     }
 }
 
-/* Every row of this length. */
-static void read_rows(const struct place *p, unsigned parts, unsigned length)
+/* Every row of this length, of which there are so many. */
+static void read_rows(const struct place *p, unsigned parts, unsigned length, unsigned long rows)
 {
     struct text hoa = as_text(knee_hoa), dimacs = as_text(knee_dimacs), from = p->in_hoa ? hoa : dimacs;
     const char *knee = p->in_hoa ? knee_hoa : knee_dimacs;
     size_t at = (size_t)(strstr(knee, p->words) - knee);
     struct page row = {NULL, 0, 0}, page = {NULL, 0, 0};
-    unsigned long number, rows = 1;
-    unsigned i;
+    unsigned long number;
 
-    for (i = 0; i < length; i++)
-        rows *= parts;
     for (number = 0; number < rows; number++) {
         clear_page(&row);
         add_row(&row, p, parts, length, number);
@@ -195,7 +192,20 @@ static void read_rows(const struct place *p, unsigned parts, unsigned length)
     free_page(&page);
 }
 
-/* Every row up to the greatest length, in each place. */
+/* Every row up to the greatest length. */
+static void read_all_rows(const struct place *p)
+{
+    unsigned parts = 0, length;
+    unsigned long rows = 1;
+
+    while (p->parts[parts] != NULL)
+        parts++;
+    for (length = 0; length <= p->most; length++) {
+        read_rows(p, parts, length, rows);
+        rows *= parts;
+    }
+}
+
 void test_read_rows(void)
 {
     static const struct place places[] = {
@@ -208,14 +218,9 @@ void test_read_rows(void)
         {0, "p sp 4 4\n", {"p ", "sp ", "4 ", "4", "\n", "c", NULL}, 5},
     };
     size_t i;
-    unsigned parts, length;
 
-    for (i = 0; i < sizeof places / sizeof places[0]; i++) {
-        for (parts = 0; places[i].parts[parts] != NULL; parts++)
-            ;
-        for (length = 0; length <= places[i].most; length++)
-            read_rows(&places[i], parts, length);
-    }
+    for (i = 0; i < sizeof places / sizeof places[0]; i++)
+        read_all_rows(&places[i]);
 }
 
 /* Reading a pair that is too long for the plain reading. */
