@@ -70,13 +70,17 @@ static const struct family families[] = {
     {"search, 64 modes, 255 arcs with both parts, with a plan", make_64_modes_both, 16, 0, 0, 0, 0},
     {"judging, 65,000 arcs with both parts", make_plan_both, 16, 0, 65000, 0, 0},
     {"judging, 65,000 arcs, below, exactly and above the bound", make_low_bound_plan, 16, 0, 65000, 0, 0},
-    {"reading, 64 modes, 255 arcs", make_model_with_texts, 16, 0, 0, 0, 1},
+    {"reading, 64 modes, 255 arcs, sources ascending", make_model_with_texts, 16, 0, 0, 0, 1},
     {"reading, the same with 1,000 comments of 64 bytes", make_model_with_texts, 4, 0, 0, 1000, 1},
     {"reading, the same with 2,000 comments", make_model_with_texts, 4, 0, 0, 2000, 1},
     {"reading, the same with 4,000 comments", make_model_with_texts, 4, 0, 0, 4000, 1},
     {"reading, the same with each colour 100 times", make_model_with_texts, 4, 0, 0, 0, 100},
     {"reading, the same with each colour 200 times", make_model_with_texts, 4, 0, 0, 0, 200},
     {"reading, the same with each colour 400 times", make_model_with_texts, 4, 0, 0, 0, 400},
+    {"reading, 64 modes, 255 arcs, sources descending", make_descending_model, 16, 0, 0, 0, 1},
+    {"reading, the same with each colour 100 times", make_descending_model, 4, 0, 0, 0, 100},
+    {"reading, the same with each colour 200 times", make_descending_model, 4, 0, 0, 0, 200},
+    {"reading, the same with each colour 400 times", make_descending_model, 4, 0, 0, 0, 400},
 };
 
 /* The lists that reading fills, and the numbers that it answers. */
@@ -129,8 +133,8 @@ static uint64_t call_read(const struct version *version, const struct input *in)
     enum { ROOM = CHARGEPLAN_ARCS_MOST };
     struct filled *f = &filled;
     struct chargeplan_reading reading =
-        version->read((const uint8_t *)in->hoa, in->hoa_length, (const uint8_t *)in->dimacs, in->dimacs_length, f->sources, ROOM, f->targets,
-                      ROOM, f->draws, ROOM, f->gains, ROOM, f->colours, ROOM);
+        version->read((const uint8_t *)in->hoa, in->hoa_length, (const uint8_t *)in->dimacs, in->dimacs_length, f->sources, ROOM,
+                      f->targets, ROOM, f->draws, ROOM, f->gains, ROOM, f->colours, ROOM);
     f->n = reading.n;
     f->start = reading.start;
     f->k = reading.k;

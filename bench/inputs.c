@@ -234,6 +234,13 @@ void make_model_with_texts(struct input *in)
         add_arc(in, (uint32_t)(a * in->n / 255), below(in->n), between(-10000, 10000), make_colours(in->k, 2));
 }
 
+void make_descending_model(struct input *in)
+{
+    make_model_with_texts(in);
+    for (size_t a = 0; a < in->arcs; a++)
+        in->sources[a] = (uint8_t)(in->n - 1 - in->sources[a]);
+}
+
 /* The colours of an arc in braces, so many times; returns the place behind them. */
 static char *print_colours(char *at, uint32_t colours, size_t times)
 {
@@ -248,19 +255,16 @@ static char *print_colours(char *at, uint32_t colours, size_t times)
     return at + sprintf(at, "}");
 }
 
-/* The block of each mode, also of one without arcs; returns the place behind them. */
+/* The blocks of the modes with their arcs; returns the place behind them. */
 static char *print_blocks(char *at, const struct input *in, size_t times)
 {
-    size_t a = 0;
-
-    for (uint32_t mode = 0; mode < in->n; mode++) {
-        at += sprintf(at, "State: %u\n", (unsigned)mode);
-        for (; a < in->arcs && in->sources[a] == mode; a++) {
-            at += sprintf(at, "[t] %u", (unsigned)in->targets[a]);
-            if (in->colours[a] != 0)
-                at = print_colours(at, in->colours[a], times);
-            at += sprintf(at, "\n");
-        }
+    for (size_t a = 0; a < in->arcs; a++) {
+        if (a == 0 || in->sources[a] != in->sources[a - 1])
+            at += sprintf(at, "State: %u\n", (unsigned)in->sources[a]);
+        at += sprintf(at, "[t] %u", (unsigned)in->targets[a]);
+        if (in->colours[a] != 0)
+            at = print_colours(at, in->colours[a], times);
+        at += sprintf(at, "\n");
     }
     return at;
 }

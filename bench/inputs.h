@@ -91,8 +91,11 @@ void make_64_modes_both(struct input *in);
 /* As make_plan; each arc draws up to 1,000 and then gains up to 1,000. */
 void make_plan_both(struct input *in);
 
-/* 64 modes, 255 arcs of any weight, k 4, a colour on one arc in 2, the arcs of one source together. */
+/* 64 modes, 255 arcs of any weight, k 4, a colour on one arc in 2, the arcs of one source together, the sources ascending. */
 void make_model_with_texts(struct input *in);
+
+/* The same with the sources descending. */
+void make_descending_model(struct input *in);
 
 /* Prints the texts of such a model, with so many comments of 64 bytes, and with the colours of an arc so many times. */
 void print_texts(struct input *in, size_t comments, size_t times);

@@ -265,6 +265,7 @@ void test_random_equal_plans(unsigned long models);
 void test_random_readings(unsigned long models);
 void test_random_large_readings(unsigned long models);
 void test_random_damages(unsigned long texts);
+void test_random_blocks(unsigned long texts);
 void test_random_texts(unsigned long texts);
 
 #endif

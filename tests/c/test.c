@@ -87,6 +87,11 @@ static void test_random_damaged_texts(void)
     test_random_damages(random_models / 2);
 }
 
+static void test_random_blocks_of_modes(void)
+{
+    test_random_blocks(random_models / 4);
+}
+
 static void test_random_lines(void)
 {
     test_random_texts(random_models / 4);
@@ -167,6 +172,7 @@ static const struct {
     {"random models printed and read back", test_random_models_read_back},
     {"random models of any size printed and read back", test_random_large_models_read_back},
     {"random damages of texts", test_random_damaged_texts},
+    {"random blocks of texts", test_random_blocks_of_modes},
     {"random lines of texts", test_random_lines},
 };
 
