@@ -14,6 +14,7 @@ use Rattle.refusals.specs.Refusals.{numbered, answerOf}
 use Rattle.refusals.proofs.Numbers.{refusal-number, yes-number}
 use Rattle.model.specs.Automaton.{Automaton}
 use Rattle.model.specs.Lists.{Lists, automatonOf}
+use Rattle.model.specs.Fitness.{fitness}
 use Rattle.model.specs.Plans.{SomePlan}
 use Rattle.judge.specs.Judged.{judged, Right}
 use Rattle.judge.proofs.Judged.{judged-zero}
@@ -28,7 +29,11 @@ use Rattle.search.specs.Search.{searchAnswer, searchable, Found, Answered, none
 use Rattle.search.proofs.Demand3.{answered-found, plan-searchable, search-judged, search-ten, search-plan-kept}
 use Rattle.search.proofs.Agreed.{search-agrees, agreed-answer}
 use Rattle.desk.specs.Packing.{numberIn, detailIn, firstIn, secondIn}
-use Rattle.desk.specs.Desk.{deskJudged, deskStarted, deskWalked, DeskSearched, DeskStepped}
+use Rattle.reading.specs.ModelRead.{modelRead}
+use Rattle.reading.specs.Reading.{readVerdict, readingIf, writtenIf, listsRead}
+use Rattle.reading.specs.Said.{firstPlaces, laterPlaces}
+use Rattle.reading.proofs.ListsRead.{read-model, read-rest, read-fitness}
+use Rattle.desk.specs.Desk.{deskJudged, deskStarted, deskWalked, deskRead, DeskSearched, DeskStepped}
 use Rattle.desk.proofs.Sizes.{judge-fields, start-fields, step-fields, walk-fields, search-fields}
 use Rattle.desk.proofs.Unpacked.{Parts, unpacked}
 
@@ -142,3 +147,28 @@ pub desk-walk-parts : (n s k : ℕ) (l : Lists) (b c p q : ℕ) (w : List ℕ) (
 desk-walk-parts n s k l b c p q w j t low =
     let x = walkAnswer (walkOf n s k l b c p q w j t) in
     unpacked (x .answer) (x .steps) (cond (x .met) 1 0) (walk-fields n s k l b c p q w j t low)
+
+module _ (hoa dimacs : List ℕ) (l : Lists) where
+  -- reading: the number is 0 exactly where none of 19 to 21 and 1 to 5 applies
+  pub desk-read-zero : (deskRead hoa dimacs l .number ≡ 0) ↔ (readVerdict hoa dimacs l ≡ Yes)
+  desk-read-zero = yes-number (readVerdict hoa dimacs l)
+
+  -- then n, the start mode, k and the first m places of the lists, as the call leaves them, are the model of the two texts, fit for every call,
+  pub desk-read-model : deskRead hoa dimacs l .number ≡ 0 → let r = deskRead hoa dimacs l in
+      let places = firstPlaces (r .m) (listsRead hoa dimacs l) in
+      (automatonOf (r .n) (r .start) (r .k) places ≡ modelRead hoa dimacs) × (fitness (r .n) (r .start) (r .k) places ≡ Yes)
+  desk-read-model e = let yes = desk-read-zero .0 e in (read-model hoa dimacs l yes, read-fitness hoa dimacs l yes)
+
+  -- and the later places are as they were
+  pub desk-read-rest : deskRead hoa dimacs l .number ≡ 0 → let m = deskRead hoa dimacs l .m in laterPlaces m (listsRead hoa dimacs l) ≡ laterPlaces m l
+  desk-read-rest e = read-rest hoa dimacs l (desk-read-zero .0 e)
+
+  -- "A refused reading leaves the lent arc lists untouched and gives 0 for n, start mode, k and m."
+  pub desk-read-refused : (deskRead hoa dimacs l .number ≡ 0 → ⊥) → let r = deskRead hoa dimacs l in
+      (r .n ≡ 0) × (r .start ≡ 0) × (r .k ≡ 0) × (r .m ≡ 0) × (listsRead hoa dimacs l ≡ l)
+  desk-read-refused refused = go (readVerdict hoa dimacs l) refused
+    where
+      go : (v : Verdict) → (answerOf v .number ≡ 0 → ⊥) → let r = readingIf v (modelRead hoa dimacs) in
+          (r .modes ≡ 0) × (r .start ≡ 0) × (r .colours ≡ 0) × (r .count ≡ 0) × (writtenIf v (modelRead hoa dimacs .arcs) l ≡ l)
+      go Yes refused = absurd (refused refl)
+      go (Refused r) refused = (refl, refl, refl, refl, refl)

@@ -1,5 +1,5 @@
 -- What a reading leaves in the lists, and that what stood there does not matter. Assumes nothing.
-use mathlib.Core.Path.{_≡_, refl, ap, _∙_}
+use mathlib.Core.Path.{_≡_, refl, sym, ap, subst, _∙_}
 use mathlib.Core.List.{List, _++_, map}
 use Prim.Native.Nat.{ℕ, _+_, _≤_}
 use native.Mathlib.Omega.{arith}
@@ -9,6 +9,8 @@ use Rattle.refusals.specs.declared.Verdict.the-variants.{Yes}
 use Rattle.model.specs.declared.Arc.{Arc}
 use Rattle.model.specs.Automaton.{Automaton, noArc}
 use Rattle.model.specs.Lists.{Lists, lists, arcsOf, automatonOf}
+use Rattle.model.specs.Fitness.{EqualLists, Fit, fitness}
+use Rattle.model.proofs.Fitness.{fitness-yes}
 use Rattle.model.proofs.Arcs.{arcs-length, arcs-here}
 use Rattle.fields.specs.Fields.{linesOf}
 use Rattle.reading.specs.declared.Reading.{Reading}
@@ -16,6 +18,7 @@ use Rattle.reading.specs.ModelRead.{modelRead}
 use Rattle.reading.specs.Reading.{roomIn, readable, readVerdict, readingIf, readOf, writtenFrom, listsRead}
 use Rattle.reading.specs.Said.{firstPlaces, laterPlaces}
 use Rattle.reading.proofs.Verdicts.{readable-yes}
+use Rattle.reading.proofs.Said.{read-fit}
 use Rattle.reading.proofs.Writing.{arc-by}
 
 -- a list with a number of each arc written from place 0 on: these numbers, and then what stood behind them
@@ -50,6 +53,17 @@ arcs-back arcs =
     (List·getD-map (λ (a : Arc). a .draw) arcs i noArc)
     (List·getD-map (λ (a : Arc). a .gain) arcs i noArc)
     (List·getD-map (λ (a : Arc). a .colours) arcs i noArc)
+
+-- and are equal in length
+equal-lists : (arcs : List Arc) → EqualLists (listsOf arcs)
+equal-lists arcs =
+    let count = length-map arcs (λ a. a .source) in
+    record {
+      targets = length-map arcs (λ a. a .target) ∙ sym count;
+      draws = length-map arcs (λ a. a .draw) ∙ sym count;
+      gains = length-map arcs (λ a. a .gain) ∙ sym count;
+      colours = length-map arcs (λ a. a .colours) ∙ sym count;
+    }
 
 module _ (arcs : List Arc) (l : Lists) (room : length arcs ≤ roomIn l) where
   -- the first places are the arcs'
@@ -99,3 +113,15 @@ module _ (hoa dimacs : List ℕ) where
     -- the later places are as they were
     pub read-rest : let m = readOf hoa dimacs l .count in laterPlaces m (listsRead hoa dimacs l) ≡ laterPlaces m l
     read-rest = rw yes (rest-written (modelRead hoa dimacs .arcs) l roomy)
+
+    -- so no call refuses it by 1 to 5
+    pub read-fitness : let r = readOf hoa dimacs l in
+        fitness (r .modes) (r .start) (r .colours) (firstPlaces (r .count) (listsRead hoa dimacs l)) ≡ Yes
+    read-fitness =
+        let r = readOf hoa dimacs l in
+        let places = firstPlaces (r .count) (listsRead hoa dimacs l) in
+        let same : places ≡ listsOf (modelRead hoa dimacs .arcs) = rw yes (first-written (modelRead hoa dimacs .arcs) l roomy) in
+        fitness-yes (r .modes) (r .start) (r .colours) places .1 (
+          subst EqualLists (sym same) (equal-lists (modelRead hoa dimacs .arcs)),
+          subst Fit (sym read-model) (read-fit hoa dimacs l yes),
+        )
