@@ -1,0 +1,71 @@
+-- Every fit model whose arcs of one source stand together, and none of whose arcs has both parts, has a pair of texts that gives it. Document 02,
+-- Asks 1 and 4. Assumes nothing.
+use mathlib.Core.Path.{_≡_, refl, sym, subst}
+use mathlib.Core.Bool.{true}
+use mathlib.Core.List.{List, map}
+use Prim.Native.Nat.{ℕ, _≤_}
+use native.Mathlib.Omega.{arith}
+use lib.ListN.{length, length-map}
+use borrow.Author.Tests.{eq-eqb}
+use Rattle.refusals.specs.declared.Verdict.the-variants.{Yes}
+use Rattle.model.specs.Automaton.{Automaton}
+use Rattle.model.specs.Fitness.{Fit}
+use Rattle.fields.specs.Fields.{linesOf}
+use Rattle.hoa.proofs.PrintText.{hoaText, SaysHoa, hoa-back}
+use Rattle.dimacs.proofs.PrintText.{dimacsText, SaysDimacs, dimacs-back}
+use Rattle.reading.specs.Agreement.{agree}
+use Rattle.reading.specs.ModelRead.{modelIn}
+use Rattle.reading.specs.Reading.{readable, roomIn}
+use Rattle.reading.specs.Texts.{StandTogether, OnePartArcs, Gives}
+use Rattle.reading.proofs.Verdicts.{readable-yes}
+use Rattle.reading.proofs.Printed.{edgeFor, textArcFor, printed-same, edges-fit, text-arcs-fit, arcs-back}
+use Rattle.reading.proofs.Together.{printed-together}
+
+-- lines that say the numbers, edges and `a` lines of a model
+module _ (g : Automaton) (fit : Fit g) (one : OnePartArcs g) (h d : List (List ℕ))
+    (says : SaysHoa h (g .modes) (g .start) (g .colours) (map edgeFor (g .arcs))) (tells : SaysDimacs d (g .modes) (map textArcFor (g .arcs))) where
+  agree-back : agree h d ≡ true
+  unfolding agree
+  agree-back = rw (says .modes, says .edges, tells .modes, tells .arcs, eq-eqb (g .modes) (g .modes) refl) (printed-same (g .arcs))
+
+  model-back : modelIn h d ≡ g
+  model-back =
+      rw (
+        says .modes,
+        says .start,
+        says .colours,
+        says .edges,
+        tells .arcs,
+        arcs-back (g .modes) (g .colours) (fit .few-modes) (fit .few-colours) (g .arcs) (fit .arcs-fit) one,
+      ) refl
+
+  accepted-back : (room : ℕ) → length (g .arcs) ≤ room → readable h d room ≡ Yes
+  accepted-back room enough =
+      readable-yes h d room .1 (
+        says .right,
+        tells .right,
+        agree-back,
+        subst (λ (x : Automaton). length (x .arcs) ≤ room) (sym model-back) enough,
+        subst Fit (sym model-back) fit,
+      )
+
+-- "every fit model whose arcs of one source stand together has a pair of texts that gives it", "only such models", without both parts
+pub texts-give : (g : Automaton) → Fit g → StandTogether g → OnePartArcs g → (hoa : List ℕ) × (dimacs : List ℕ) × Gives hoa dimacs g
+texts-give g fit together one =
+    let n = g .modes in
+    let k = g .colours in
+    let es = map edgeFor (g .arcs) in
+    let ts = map textArcFor (g .arcs) in
+    let count : length ts ≡ length (g .arcs) = length-map (g .arcs) textArcFor in
+    let says =
+    hoa-back n (g .start) k es (omega (arith, fit .few-modes)) (omega (arith, fit .starts, fit .few-modes)) (omega (arith, fit .few-colours))
+        (printed-together (g .arcs) together) (edges-fit n k (fit .few-modes) (fit .few-colours) (g .arcs) (fit .arcs-fit)) in
+    let tells =
+    dimacs-back n ts (omega (arith, fit .few-modes)) (omega (arith, count, fit .few-arcs))
+        (text-arcs-fit n k (fit .few-modes) (fit .few-colours) (g .arcs) (fit .arcs-fit)) in
+    let h = linesOf (hoaText n (g .start) k es) in
+    let d = linesOf (dimacsText n ts) in (
+      hoaText n (g .start) k es,
+      dimacsText n ts,
+      record { accepted = λ l enough. accepted-back g fit one h d says tells (roomIn l) enough; model = model-back g fit one h d says tells },
+    )
