@@ -1,25 +1,31 @@
--- Every fit model whose arcs of one source stand together, and none of whose arcs has both parts, has a pair of texts that gives it. Document 02,
--- Asks 1 and 4. Assumes nothing.
+-- The models that have texts are exactly the fit ones whose arcs of one source stand together and none of whose arcs has both a draw and a gain.
+-- Document 02, Asks 1 and 4. Assumes nothing.
 use mathlib.Core.Path.{_≡_, refl, sym, subst}
 use mathlib.Core.Bool.{true}
-use mathlib.Core.List.{List, map}
-use Prim.Native.Nat.{ℕ, _≤_}
+use mathlib.Core.List.{List, [], _∷_, map}
+use mathlib.Core.Logic.{_⊎_, inl, inr, _↔_}
+use Prim.Native.Nat.{ℕ, zero, suc, _≤_, _<_}
 use native.Mathlib.Omega.{arith}
-use lib.ListN.{length, length-map}
+use lib.IntN.{ℤ, pos, negsuc}
+use lib.ListN.{length, getD, replicate, length-map, length-replicate}
 use borrow.Author.Tests.{eq-eqb}
 use Rattle.refusals.specs.declared.Verdict.the-variants.{Yes}
-use Rattle.model.specs.Automaton.{Automaton}
+use Rattle.walks.specs.Weights.{drawOf, gainOf}
+use Rattle.model.specs.Automaton.{Automaton, noArc}
+use Rattle.model.specs.Lists.{Lists, lists}
 use Rattle.model.specs.Fitness.{Fit}
 use Rattle.fields.specs.Fields.{linesOf}
+use Rattle.hoa.specs.Text.{Edge, edgesOf}
 use Rattle.hoa.proofs.PrintText.{hoaText, SaysHoa, hoa-back}
+use Rattle.dimacs.specs.Text.{TextArc, textArcsOf}
 use Rattle.dimacs.proofs.PrintText.{dimacsText, SaysDimacs, dimacs-back}
 use Rattle.reading.specs.Agreement.{agree}
-use Rattle.reading.specs.ModelRead.{modelIn}
+use Rattle.reading.specs.ModelRead.{arcsRead, modelIn, modelRead}
 use Rattle.reading.specs.Reading.{readable, roomIn}
 use Rattle.reading.specs.Texts.{StandTogether, OnePartArcs, Gives}
 use Rattle.reading.proofs.Verdicts.{readable-yes}
 use Rattle.reading.proofs.Printed.{edgeFor, textArcFor, printed-same, edges-fit, text-arcs-fit, arcs-back}
-use Rattle.reading.proofs.Together.{printed-together}
+use Rattle.reading.proofs.Together.{printed-together, read-stands}
 
 -- lines that say the numbers, edges and `a` lines of a model
 module _ (g : Automaton) (fit : Fit g) (one : OnePartArcs g) (h d : List (List ℕ))
@@ -49,7 +55,7 @@ module _ (g : Automaton) (fit : Fit g) (one : OnePartArcs g) (h d : List (List �
         subst Fit (sym model-back) fit,
       )
 
--- "every fit model whose arcs of one source stand together has a pair of texts that gives it", "only such models", without both parts
+-- "every fit model whose arcs of one source stand together has a pair of texts that gives it", of the models without both parts
 pub texts-give : (g : Automaton) → Fit g → StandTogether g → OnePartArcs g → (hoa : List ℕ) × (dimacs : List ℕ) × Gives hoa dimacs g
 texts-give g fit together one =
     let n = g .modes in
@@ -59,13 +65,46 @@ texts-give g fit together one =
     let count : length ts ≡ length (g .arcs) = length-map (g .arcs) textArcFor in
     let says =
     hoa-back n (g .start) k es (omega (arith, fit .few-modes)) (omega (arith, fit .starts, fit .few-modes)) (omega (arith, fit .few-colours))
-        (printed-together (g .arcs) together) (edges-fit n k (fit .few-modes) (fit .few-colours) (g .arcs) (fit .arcs-fit)) in
+    (printed-together (g .arcs) together) (edges-fit n k (fit .few-modes) (fit .few-colours) (g .arcs) (fit .arcs-fit)) in
     let tells =
     dimacs-back n ts (omega (arith, fit .few-modes)) (omega (arith, count, fit .few-arcs))
-        (text-arcs-fit n k (fit .few-modes) (fit .few-colours) (g .arcs) (fit .arcs-fit)) in
+    (text-arcs-fit n k (fit .few-modes) (fit .few-colours) (g .arcs) (fit .arcs-fit)) in
     let h = linesOf (hoaText n (g .start) k es) in
     let d = linesOf (dimacsText n ts) in (
       hoaText n (g .start) k es,
       dimacsText n ts,
       record { accepted = λ l enough. accepted-back g fit one h d says tells (roomIn l) enough; model = model-back g fit one h d says tells },
     )
+
+-- a weight has one part
+weight-one : (w : ℤ) → (drawOf w ≡ 0) ⊎ (gainOf w ≡ 0)
+weight-one (pos x) = inl refl
+weight-one (negsuc x) = inr refl
+
+read-one : (es : List Edge) (ts : List TextArc) (a : ℕ) → a < length (arcsRead es ts)
+    → (getD (arcsRead es ts) a noArc .draw ≡ 0) ⊎ (getD (arcsRead es ts) a noArc .gain ≡ 0)
+unfolding arcsRead
+read-one [] ts a h = absurd (omega arith)
+read-one (e ∷ es) [] a h = absurd (omega arith)
+read-one (e ∷ es) (t ∷ ts) zero h = weight-one (t .weight)
+read-one (e ∷ es) (t ∷ ts) (suc a) h = read-one es ts a (omega arith)
+
+-- so has every arc that is read
+pub read-one-part : (hoa dimacs : List ℕ) → OnePartArcs (modelRead hoa dimacs)
+read-one-part hoa dimacs = read-one (edgesOf (linesOf hoa)) (textArcsOf (linesOf dimacs))
+
+-- "so only such models have texts": a model that two texts give is fit, has its arcs of one source together, and none with both parts
+pub given-only : (hoa dimacs : List ℕ) (g : Automaton) → Gives hoa dimacs g → Fit g × StandTogether g × OnePartArcs g
+given-only hoa dimacs g gives =
+    let m = length (g .arcs) in
+    let zeros : List ℕ = replicate m 0 in
+    let size : length zeros ≡ m = length-replicate m 0 in
+    let room : Lists = lists zeros zeros zeros zeros zeros in
+    let yes = gives .accepted room (omega (arith, size)) in
+    let (right, _, _, _, fit) = readable-yes (linesOf hoa) (linesOf dimacs) (roomIn room) .0 yes in
+    subst (λ (x : Automaton). Fit x × StandTogether x × OnePartArcs x) (gives .model)
+    (fit, read-stands hoa dimacs right, read-one-part hoa dimacs)
+
+-- exactly these models have texts
+pub texts-exactly : (g : Automaton) → ((hoa : List ℕ) × (dimacs : List ℕ) × Gives hoa dimacs g) ↔ (Fit g × StandTogether g × OnePartArcs g)
+texts-exactly g = (λ (hoa, dimacs, gives). given-only hoa dimacs g gives, λ (fit, together, one). texts-give g fit together one)

@@ -1,5 +1,5 @@
--- Which models have texts, and what texts say of a model. Document 02, Ask 1: "every fit model whose arcs of one source stand together has a pair of
--- texts that gives it"; Ask 4: "only such models", without both parts, "have texts".
+-- Which models have texts. Document 02, Ask 1: "every fit model whose arcs of one source stand together has a pair of texts that gives it"; Ask 4, of
+-- models without both parts: "so only such models have texts". (Theorem texts-exactly.)
 use Prim.Native.Nat.{ℕ, _≤_, _<_}
 use mathlib.Core.Path.{_≡_}
 use mathlib.Core.Logic.{_⊎_}
