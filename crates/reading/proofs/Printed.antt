@@ -10,7 +10,7 @@ use lib.Dec.{eqb}
 use lib.IntN.{ℤ, pos, negsuc}
 use lib.ListN.{length, getD}
 use borrow.Author.Tests.{eqb-true, eq-eqb}
-use Rattle.limits.specs.Ceilings.{modesMost, coloursMost, drawMost, gainMost}
+use Rattle.limits.specs.Ceilings.{coloursMost, drawMost, gainMost}
 use Rattle.refusals.proofs.Verdicts.{clash}
 use Rattle.walks.specs.Weights.{drawOf, gainOf}
 use Rattle.model.specs.declared.Arc.{Arc}
@@ -99,7 +99,7 @@ printed-same [] = refl
 printed-same (a ∷ l) =
     rw (eq-eqb (suc (a .source)) (suc (a .source)) refl, eq-eqb (suc (a .target)) (suc (a .target)) refl) (printed-same l)
 
-module _ (n k : ℕ) (many : n ≤ modesMost) (few : k ≤ coloursMost) where
+module _ (n k : ℕ) where
   -- what is printed for arcs that are fit can be printed
   pub edges-fit : (l : List Arc) → ((a : ℕ) → a < length l → ArcFits n k (getD l a noArc)) → EdgesFit n k (map edgeFor l)
   edges-fit [] f = tt
@@ -125,16 +125,16 @@ module _ (n k : ℕ) (many : n ≤ modesMost) (few : k ≤ coloursMost) where
         text-arcs-fit l (λ a h. f (suc a) (omega arith)),
       )
 
-  arc-back : (x : Arc) → ArcFits n k x → (x .draw ≡ 0) ⊎ (x .gain ≡ 0) → arcRead (edgeFor x) (textArcFor x) ≡ x
-  arc-back x g one =
+  arc-back : (x : Arc) → k ≤ coloursMost → ArcFits n k x → (x .draw ≡ 0) ⊎ (x .gain ≡ 0) → arcRead (edgeFor x) (textArcFor x) ≡ x
+  arc-back x few g one =
       let low : x .colours < 2 ^ coloursMost = colours-below (x .colours) coloursMost .1 (λ j h. g .colours j (omega arith)) in
       rw (draw-back (x .draw) (x .gain), gain-back (x .draw) (x .gain) one, byte-back (x .colours) low) refl
 
   -- and reads back
-  pub arcs-back : (l : List Arc) → ((a : ℕ) → a < length l → ArcFits n k (getD l a noArc))
+  pub arcs-back : (l : List Arc) → k ≤ coloursMost → ((a : ℕ) → a < length l → ArcFits n k (getD l a noArc))
       → ((a : ℕ) → a < length l → (getD l a noArc .draw ≡ 0) ⊎ (getD l a noArc .gain ≡ 0)) → arcsRead (map edgeFor l) (map textArcFor l) ≡ l
   unfolding arcsRead
-  arcs-back [] f one = refl
-  arcs-back (x ∷ l) f one =
-      rw (arc-back x (f 0 (omega arith)) (one 0 (omega arith)))
-      (ap {B = List Arc} (λ (t : List Arc). x ∷ t) (arcs-back l (λ a h. f (suc a) (omega arith)) (λ a h. one (suc a) (omega arith))))
+  arcs-back [] few f one = refl
+  arcs-back (x ∷ l) few f one =
+      rw (arc-back x few (f 0 (omega arith)) (one 0 (omega arith)))
+      (ap {B = List Arc} (λ (t : List Arc). x ∷ t) (arcs-back l few (λ a h. f (suc a) (omega arith)) (λ a h. one (suc a) (omega arith))))

@@ -42,7 +42,7 @@ module _ (g : Automaton) (fit : Fit g) (one : OnePartArcs g) (h d : List (List �
         says .colours,
         says .edges,
         tells .arcs,
-        arcs-back (g .modes) (g .colours) (fit .few-modes) (fit .few-colours) (g .arcs) (fit .arcs-fit) one,
+        arcs-back (g .modes) (g .colours) (g .arcs) (fit .few-colours) (fit .arcs-fit) one,
       ) refl
 
   accepted-back : (room : ℕ) → length (g .arcs) ≤ room → readable h d room ≡ Yes
@@ -65,10 +65,10 @@ texts-give g fit together one =
     let count : length ts ≡ length (g .arcs) = length-map (g .arcs) textArcFor in
     let says =
     hoa-back n (g .start) k es (omega (arith, fit .few-modes)) (omega (arith, fit .starts, fit .few-modes)) (omega (arith, fit .few-colours))
-    (printed-together (g .arcs) together) (edges-fit n k (fit .few-modes) (fit .few-colours) (g .arcs) (fit .arcs-fit)) in
+    (printed-together (g .arcs) together) (edges-fit n k (g .arcs) (fit .arcs-fit)) in
     let tells =
     dimacs-back n ts (omega (arith, fit .few-modes)) (omega (arith, count, fit .few-arcs))
-    (text-arcs-fit n k (fit .few-modes) (fit .few-colours) (g .arcs) (fit .arcs-fit)) in
+    (text-arcs-fit n k (g .arcs) (fit .arcs-fit)) in
     let h = linesOf (hoaText n (g .start) k es) in
     let d = linesOf (dimacsText n ts) in (
       hoaText n (g .start) k es,
