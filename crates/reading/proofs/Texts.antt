@@ -1,6 +1,6 @@
 -- The models that have texts are exactly the fit ones whose arcs of one source stand together and none of whose arcs has both a draw and a gain.
 -- Document 02, Asks 1 and 4. Assumes nothing.
-use mathlib.Core.Path.{_≡_, refl, sym, subst}
+use mathlib.Core.Path.{_≡_, refl, sym, subst, _∙_}
 use mathlib.Core.Bool.{true}
 use mathlib.Core.List.{List, [], _∷_, map}
 use mathlib.Core.Logic.{_⊎_, inl, inr, _↔_}
@@ -12,7 +12,7 @@ use borrow.Author.Tests.{eq-eqb}
 use Rattle.refusals.specs.declared.Verdict.the-variants.{Yes}
 use Rattle.walks.specs.Weights.{drawOf, gainOf}
 use Rattle.model.specs.Automaton.{Automaton, noArc}
-use Rattle.model.specs.Lists.{Lists, lists}
+use Rattle.model.specs.Lists.{Lists, lists, automatonOf}
 use Rattle.model.specs.Fitness.{Fit}
 use Rattle.fields.specs.Fields.{linesOf}
 use Rattle.hoa.specs.Text.{Edge, edgesOf}
@@ -21,9 +21,12 @@ use Rattle.dimacs.specs.Text.{TextArc, textArcsOf}
 use Rattle.dimacs.proofs.PrintText.{dimacsText, SaysDimacs, dimacs-back}
 use Rattle.reading.specs.Agreement.{agree}
 use Rattle.reading.specs.ModelRead.{arcsRead, modelIn, modelRead}
-use Rattle.reading.specs.Reading.{readable, roomIn}
+use Rattle.reading.specs.Reading.{readable, roomIn, readVerdict, readOf, listsRead}
+use Rattle.reading.specs.Said.{firstPlaces}
 use Rattle.reading.specs.Texts.{StandTogether, OnePartArcs, Gives}
 use Rattle.reading.proofs.Verdicts.{readable-yes}
+use Rattle.reading.proofs.Through.{verdict-if}
+use Rattle.reading.proofs.ListsRead.{read-model}
 use Rattle.reading.proofs.Printed.{edgeFor, textArcFor, printed-same, edges-fit, text-arcs-fit, arcs-back}
 use Rattle.reading.proofs.Together.{printed-together, read-stands}
 
@@ -104,6 +107,13 @@ given-only hoa dimacs g gives =
     let (right, _, _, _, fit) = readable-yes (linesOf hoa) (linesOf dimacs) (roomIn room) .0 yes in
     subst (λ (x : Automaton). Fit x × StandTogether x × OnePartArcs x) (gives .model)
     (fit, read-stands hoa dimacs right, read-one-part hoa dimacs)
+
+-- what a reading of such texts answers and leaves is the model
+pub given-read : (hoa dimacs : List ℕ) (g : Automaton) → Gives hoa dimacs g → (l : Lists) → length (g .arcs) ≤ roomIn l → let r = readOf hoa dimacs l in
+    (r .verdict ≡ Yes) × (automatonOf (r .modes) (r .start) (r .colours) (firstPlaces (r .count) (listsRead hoa dimacs l)) ≡ g)
+given-read hoa dimacs g gives l enough =
+    let yes = gives .accepted l enough in
+    (verdict-if (readVerdict hoa dimacs l) (modelRead hoa dimacs) ∙ yes, read-model hoa dimacs l yes ∙ gives .model)
 
 -- exactly these models have texts
 pub texts-exactly : (g : Automaton) → ((hoa : List ℕ) × (dimacs : List ℕ) × Gives hoa dimacs g) ↔ (Fit g × StandTogether g × OnePartArcs g)

@@ -20,7 +20,7 @@ abbrev Inv-loop : tie.InvT-loop
 Inv-loop body arcs h₀ d₀ source₀ h d source =
     (h ≤ length body) × (d ≤ length arcs)
     × (allSame (edgesFrom 0 (linesOf body)) (map textArcOn (linesOf arcs))
-      ≡ allSame (edgesFrom source (linesOf (drop h body))) (map textArcOn (linesOf (drop d arcs))))
+    ≡ allSame (edgesFrom source (linesOf (drop h body))) (map textArcOn (linesOf (drop d arcs))))
 
 abbrev μ-loop : tie.MeasureT-loop
 μ-loop body arcs h₀ d₀ source₀ h d source = length arcs - d

@@ -72,8 +72,7 @@ loop-less c = let (low, high) = ends (c .before .before .before) in omega (arith
 loop-again : tie.Need-loop-again Inv-loop μ-loop
 loop-again c =
     let p = c .before .before .before in
-    let d = p .before .before in
-    (
+    let d = p .before .before in (
       ends p .1,
       omega (arith, left p, d .loop .inv .1),
       d .loop .inv .2

@@ -89,8 +89,7 @@ returns c =
     let b = f .before .before .before .before .before .before .before in
     let p = b .before in
     let l = lists-of (start (p .before .before .before)) in
-    let whole = c .accepted .ensures ∙ read-accepted _ _ l (yes (p .before)) _ (p .problem-of .ensures .count) in
-    (
+    let whole = c .accepted .ensures ∙ read-accepted _ _ l (yes (p .before)) _ (p .problem-of .ensures .count) in (
       whole,
       (
         read-number _ _ l _ whole,
