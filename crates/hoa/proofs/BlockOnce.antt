@@ -14,7 +14,7 @@ use Rattle.hoa.specs.Lines.{isState, stateOf}
 use Rattle.hoa.specs.Text.{opensBlock, hasBlock, isEnd, bodyWrong, hoaWrong, modesOf, coloursOf}
 use Rattle.hoa.proofs.EdgeLines.{conflict}
 use Rattle.hoa.proofs.Stands.{Stands, last, block, edge, stands, some-line, right-body, at-line, next-line}
-use Rattle.hoa.proofs.Blocks.{block-more}
+use Rattle.hoa.proofs.BlockLines.{block-more}
 
 -- no line, and the last, opens a block
 none-state : isState [] ≡ false

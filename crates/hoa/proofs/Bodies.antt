@@ -12,9 +12,10 @@ use Rattle.fields.specs.Bytes.{feed}
 use Rattle.fields.specs.Fields.{linesOf, pieceLength, LineAt}
 use Rattle.fields.proofs.Pieces.{split-first, split-at, end-bounds}
 use Rattle.fields.proofs.Places.{Begins, split-end, at-first, line-here, line-next, line-none}
-use Rattle.hoa.specs.Lines.{isState, stateOf}
-use Rattle.hoa.specs.Text.{BlocksBelow, mayStand, isEnd, bodyWrong, headWrong, hoaWrong, modesOf, coloursOf}
-use Rattle.hoa.proofs.Blocks.{blocks-none, blocks-more}
+use Rattle.hoa.specs.declared.Blocks.{Blocks}
+use Rattle.hoa.specs.Text.{mayStand, isEnd, bodyWrong, headWrong, hoaWrong, modesOf, coloursOf}
+use Rattle.hoa.specs.Blocks.{Knows, noBlocks, blocksAfter}
+use Rattle.hoa.proofs.BlockLines.{knows-none, knows-more}
 
 -- lines are left where bytes are
 lines-left : (s : List ℕ) (e : ℕ) → e < length s → 0 < length (linesOf (drop e s))
@@ -25,18 +26,18 @@ lines-left s e h =
 lines-over : (s : List ℕ) (e : ℕ) → length s ≤ e → length (linesOf (drop e s)) ≡ 0
 lines-over s e h = rw (split-end feed s e h)
 
--- The body's first j lines may stand, they end at this place, and from top on no mode has a block in them.
-pub record Walked (s : List ℕ) (n k at j top : ℕ) : Type 0 where
+-- The body's first j lines may stand, they end at this place, and b is known of their blocks.
+pub record Walked (s : List ℕ) (n k at j : ℕ) (b : Blocks) : Type 0 where
   pub few : j ≤ at
   pub count : j ≤ length (linesOf s)
   pub place : LineAt s at j
-  pub blocks : BlocksBelow top (take j (linesOf s))
+  pub blocks : Knows b (take j (linesOf s))
   pub same : bodyWrong n k [] (linesOf s) ≡ bodyWrong n k (take j (linesOf s)) (drop j (linesOf s))
 
-pub walked-first : (s : List ℕ) (n k : ℕ) → Walked s n k 0 0 0
-walked-first s n k = record { few = omega arith; count = omega arith; place = at-first s; blocks = blocks-none; same = refl }
+pub walked-first : (s : List ℕ) (n k : ℕ) → Walked s n k 0 0 noBlocks
+walked-first s n k = record { few = omega arith; count = omega arith; place = at-first s; blocks = knows-none; same = refl }
 
-module _ (s : List ℕ) (n k at j top : ℕ) (w : Walked s n k at j top) where
+module _ (s : List ℕ) (n k at j : ℕ) (b : Blocks) (w : Walked s n k at j b) where
   -- the text ends early
   pub walked-ends : length s ≤ at → bodyWrong n k [] (linesOf s) ≡ j + 7
   unfolding bodyWrong
@@ -74,18 +75,18 @@ module _ (s : List ℕ) (n k at j top : ℕ) (w : Walked s n k at j top) where
         goes : stands ≡ true → Begins [] (linesOf s) j line (linesOf (drop e s))
             → bodyWrong n k (take j (linesOf s)) (drop j (linesOf s)) ≡ bodyWrong n k (take (suc j) (linesOf s)) (drop (suc j) (linesOf s))
         unfolding bodyWrong
-        goes z b = rw (here, ← end-is, other, ← stands-is, z, b .so-far, b .next)
+        goes z l = rw (here, ← end-is, other, ← stands-is, z, l .so-far, l .next)
 
-        pub walked-goes : stands ≡ true → (r : ℕ) → top ≤ r → (isState line ≡ true → stateOf line < r) → Walked s n k e (j + 1) r
-        walked-goes z r low above =
-            let b = line-here s at j e (w .place) left size in
+        pub walked-goes : stands ≡ true → (r : Blocks) → r ≡ blocksAfter b line → Walked s n k e (j + 1) r
+        walked-goes z r known =
+            let l = line-here s at j e (w .place) left size in
             rw (add-one j)
             (record {
               few = omega (arith, w .few, end-bounds feed s at e left size);
-              count = omega (arith, b .within);
+              count = omega (arith, l .within);
               place = line-next s at j e (w .place) left size;
-              blocks = rw (b .so-far) (blocks-more top r (take j (linesOf s)) line (w .blocks) low above);
-              same = w .same ∙ goes z b;
+              blocks = rw (known, l .so-far) (knows-more b (take j (linesOf s)) line (w .blocks));
+              same = w .same ∙ goes z l;
             })
 
 -- the whole text: its head is wrong, or its body says

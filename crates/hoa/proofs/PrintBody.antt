@@ -14,7 +14,7 @@ use Rattle.hoa.specs.Words.{stateWord, endWord}
 use Rattle.hoa.specs.Lines.{isState}
 use Rattle.hoa.specs.Text.{Edge, contains, edgesFrom, opensBlock, hasBlock, isNewBlock, mayStand, isEnd, bodyWrong}
 use Rattle.hoa.specs.Edges.{Below, EdgeFits, EdgesFit}
-use Rattle.hoa.proofs.Blocks.{block-more}
+use Rattle.hoa.proofs.BlockLines.{block-more}
 use Rattle.hoa.proofs.Print.{edged, edge-back, edge-target, edge-colours}
 
 abbrev pub stated : ℕ → List ℕ

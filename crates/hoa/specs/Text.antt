@@ -1,8 +1,7 @@
 -- HOA text: the first line outside the forms, and the numbers and edges of a text that has none. Document 02, Ask 1.
-use mathlib.Core.Path.{_≡_}
 use mathlib.Core.Bool.{Bool, false, not, _&&_, _||_, cond}
 use mathlib.Core.List.{List, [], _∷_, _++_, map}
-use Prim.Native.Nat.{ℕ, _+_, _≤_}
+use Prim.Native.Nat.{ℕ, _+_}
 use lib.Dec.{ltb, eqb}
 use lib.ListN.{length, drop}
 use Rattle.fields.specs.Bytes.{blank}
@@ -43,10 +42,6 @@ hasBlock mode (l ∷ ls) = opensBlock mode l || hasBlock mode ls
 -- a `State:` line of a mode below n that has no block in the lines before: "one block at most for each state"
 unfoldable pub isNewBlock : ℕ → List (List ℕ) → List ℕ → Bool
 isNewBlock n before l = isState l && ltb (stateOf l) n && not (hasBlock (stateOf l) before)
-
--- no mode from top on has a block in these lines
-abbrev pub BlocksBelow : ℕ → List (List ℕ) → Type 0
-BlocksBelow top ls = (mode : ℕ) → top ≤ mode → hasBlock mode ls ≡ false
 
 -- a line of the body may stand after those before it: it opens a new block, or it is an edge's line and not the body's first
 unfoldable pub mayStand : ℕ → ℕ → List (List ℕ) → List ℕ → Bool

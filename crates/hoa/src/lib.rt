@@ -2,7 +2,7 @@
 ghost use mathlib.Core.Path.{_≡_};
 ghost use mathlib.Core.Bool.{true, cond};
 ghost use mathlib.Core.List.{[], map};
-ghost use Prim.Native.Nat.{_≤_, _<_};
+ghost use Prim.Native.Nat.{suc, _≤_, max};
 ghost use lib.ListN.{length, take};
 ghost use Rattle.fields.specs.Bytes.{blank, ampersand};
 ghost use Rattle.fields.specs.Fields.{numberOf, split, linesOf, isWord};
@@ -30,7 +30,6 @@ ghost use Rattle.hoa.specs.Text.{
   opensBlock,
   hasBlock,
   isNewBlock,
-  BlocksBelow,
   mayStand,
   isEnd,
   bodyWrong,
@@ -39,7 +38,15 @@ ghost use Rattle.hoa.specs.Text.{
   contains,
   colourByte,
 };
+ghost use Rattle.hoa.specs.Blocks.{Knows, lowWith, blocksAfter};
 use fields::Bytes;
+use limits::Limits;
+
+// What is known of the modes that have a block in the lines so far: bit j of low for each mode j that a fit model may have; no mode from top on.
+pub struct Blocks {
+    pub low: u64,
+    pub top: u64,
+}
 
 // Whether a line is a `State:` line.
 pub fn is_state(line: &[u8]) -> bool
@@ -265,10 +272,10 @@ fn has_block(body: &[u8], count: usize, mode: u32) -> bool
     false
 }
 
-// Whether a line opens the block of a mode that has none in the first lines of a body. No mode from top on has one there, so that a text whose
-// blocks stand in rising order is read in linear time.
-fn is_new_block(body: &[u8], count: usize, top: u64, line: &[u8], n: u32) -> bool
-    requires { ⌜ BlocksBelow top (take count (linesOf (now body))) ⌝ }
+// Whether a line opens the block of a mode that has none in the first lines of a body. Those lines are scanned only for a mode that no fit model
+// has, so that the text of a fit model is read in linear time.
+fn is_new_block(body: &[u8], count: usize, blocks: Blocks, line: &[u8], n: u32) -> bool
+    requires { ⌜ Knows blocks (take count (linesOf (now body))) ⌝ }
     ensures { λ r. ⌜ r ≡ isNewBlock n (take count (linesOf (now (body .entry)))) (now (line .entry)) ⌝ }
 {
     if !is_state(line) {
@@ -278,18 +285,21 @@ fn is_new_block(body: &[u8], count: usize, top: u64, line: &[u8], n: u32) -> boo
     if mode >= n {
         return false;
     }
-    if (mode as u64) >= top {
+    if mode < Limits::MODES {
+        return (blocks.low >> mode) % 2 != 1;
+    }
+    if (mode as u64) >= blocks.top {
         return true;
     }
     !has_block(body, count, mode)
 }
 
-// Whether a line may stand after the first lines of a body, where no mode from top on has a block.
-fn may_stand(body: &[u8], count: usize, top: u64, line: &[u8], n: u32, k: u32) -> bool
-    requires { ⌜ (count ≤ length (linesOf (now body))) × BlocksBelow top (take count (linesOf (now body))) ⌝ }
+// Whether a line may stand after the first lines of a body.
+fn may_stand(body: &[u8], count: usize, blocks: Blocks, line: &[u8], n: u32, k: u32) -> bool
+    requires { ⌜ (count ≤ length (linesOf (now body))) × Knows blocks (take count (linesOf (now body))) ⌝ }
     ensures { λ r. ⌜ r ≡ mayStand n k (take count (linesOf (now (body .entry)))) (now (line .entry)) ⌝ }
 {
-    if is_new_block(body, count, top, line, n) {
+    if is_new_block(body, count, blocks, line, n) {
         return true;
     }
     if count == 0 {
@@ -298,18 +308,38 @@ fn may_stand(body: &[u8], count: usize, top: u64, line: &[u8], n: u32, k: u32) -
     is_edge(line, n, k)
 }
 
-// The top with one line more: above the line's mode too, where it opens a block.
-fn top_after(top: u64, line: &[u8]) -> u64
-    ensures { λ r. ⌜ (top ≤ r) × (isState (now (line .entry)) ≡ true → stateOf (now (line .entry)) < r) ⌝ }
+// The bits with the mode's own, where it has one.
+fn low_with(low: u64, mode: u32) -> u64
+    ensures { λ r. ⌜ r ≡ lowWith low mode ⌝ }
+{
+    if mode >= Limits::MODES {
+        return low;
+    }
+    low | (1u64 << mode)
+}
+
+// The top above the mode too.
+fn top_with(top: u64, mode: u32) -> u64
+    ensures { λ r. ⌜ r ≡ max top (suc mode) ⌝ }
+{
+    let above = (mode as u64) + 1;
+    if above < top {
+        return top;
+    }
+    above
+}
+
+// What is known with one line more.
+fn blocks_after(blocks: Blocks, line: &[u8]) -> Blocks
+    ensures { λ r. ⌜ r ≡ blocksAfter blocks (now (line .entry)) ⌝ }
 {
     if !is_state(line) {
-        return top;
+        return blocks;
     }
-    let mode = state_of(line) as u64;
-    if mode < top {
-        return top;
-    }
-    mode + 1
+    let mode = state_of(line);
+    let low = low_with(blocks.low, mode);
+    let top = top_with(blocks.top, mode);
+    Blocks { low, top }
 }
 
 // Whether a line is the last.
@@ -325,7 +355,7 @@ fn body_wrong(body: &[u8], n: u32, k: u32) -> usize
 {
     let mut at = 0;
     let mut j = 0;
-    let mut top: u64 = 0;
+    let mut blocks = Blocks { low: 0, top: 0 };
     while at < body.len() {
         let e = fields::piece_end(body, at, Bytes::FEED);
         let line = &body[at..e];
@@ -335,10 +365,10 @@ fn body_wrong(body: &[u8], n: u32, k: u32) -> usize
             }
             return 0;
         }
-        if !may_stand(body, j, top, line, n, k) {
+        if !may_stand(body, j, blocks, line, n, k) {
             return j + 7;
         }
-        top = top_after(top, line);
+        blocks = blocks_after(blocks, line);
         at = e;
         j += 1;
     }

@@ -3,12 +3,12 @@ use mathlib.Core.Path.{_≡_, refl, sym, ap, _∙_}
 use mathlib.Core.Bool.{Bool, _||_, or-assoc, or-false}
 use mathlib.Core.List.{List, [], _∷_}
 use mathlib.Core.Logic.{_⊎_, inl, inr, ⊎-elim, _≢_}
-use Prim.Native.Nat.{ℕ, zero, suc, _+_, _-_, _/_, _%_, _^_, _≤_, _<_, max}
+use Prim.Native.Nat.{ℕ, zero, suc, _+_, _-_, _/_, _%_, _^_, _≤_, _<_}
 use native.Mathlib.Nat.{add-zero, zero-add, suc-add, add-suc, pow-suc, eq-zero-or-pos, div-one, div-eq-of-lt, add-sub-of-le, mod-eq-of-lt}
 use native.Mathlib.Omega.{arith}
 use native.Mathlib.Decide.{ℕ-discrete}
 use borrow.Author.Tests.{eq-eqb, ne-eqb}
-use lib.Bits.{bitOr, bitAnd, or-step, or-shr, or-lt, or-add-and, and-mask, and-comm}
+use lib.Bits.{bitOr, bitAnd, or-lt, or-add-and, and-mask, and-comm}
 use lib.Count.{trailingZeros}
 use lib.Dec.{eqb}
 use lib.ListN.{length, getD}
@@ -17,25 +17,8 @@ use Rattle.refusals.specs.declared.Refusal.the-variants.{MissingColour}
 use Rattle.refusals.specs.declared.Verdict.{Verdict}
 use Rattle.refusals.specs.declared.Verdict.the-variants.{Yes, Refused}
 use Rattle.model.specs.Automaton.{Automaton, arcAt, bit, meets}
-use Rattle.model.proofs.Bits.{half-bit}
+use Rattle.model.proofs.Bits.{half-bit, or-bit}
 use Rattle.judge.specs.Colours.{someArc, missingFrom, coloursOf, metBy}
-
--- the greater of two digits is 1 where one of them is
-max-digit : (x y : ℕ) → x < 2 → y < 2 → eqb (max x y) 1 ≡ (eqb x 1 || eqb y 1)
-max-digit zero zero hx hy = refl
-max-digit zero (suc zero) hx hy = refl
-max-digit (suc zero) zero hx hy = refl
-max-digit (suc zero) (suc zero) hx hy = refl
-max-digit (suc (suc x)) y hx hy = absurd (omega arith)
-max-digit zero (suc (suc y)) hx hy = absurd (omega arith)
-max-digit (suc zero) (suc (suc y)) hx hy = absurd (omega arith)
-
--- a bit of `or` is a bit of one of the two
-pub or-bit : (a b j : ℕ) → bit (bitOr a b) j ≡ (bit a j || bit b j)
-or-bit a b j =
-    let digit : bitOr (a / 2 ^ j) (b / 2 ^ j) % 2 ≡ max (a / 2 ^ j % 2) (b / 2 ^ j % 2) = omega (arith, or-step (a / 2 ^ j) (b / 2 ^ j)) in
-    ap {B = Bool} (λ (x : ℕ). eqb (x % 2) 1) (or-shr a b j) ∙ ap {B = Bool} (λ (x : ℕ). eqb x 1) digit
-    ∙ max-digit (a / 2 ^ j % 2) (b / 2 ^ j % 2) (omega arith) (omega arith)
 
 -- the colours of m, and those that the arcs meet
 pub met-bit : (g : Automaton) (w : List ℕ) (m j : ℕ) → bit (metBy g w m) j ≡ (bit m j || someArc (meets g j) w)

@@ -1,10 +1,11 @@
 -- Colour bytes: powers of two as the code makes them, and what it means that a byte has no bit at or above k. Assumes nothing.
 use mathlib.Core.Path.{_≡_, refl, sym, ap, _∙_}
-use mathlib.Core.Bool.{Bool, false}
+use mathlib.Core.Bool.{Bool, false, _||_}
 use mathlib.Core.Logic.{_↔_}
-use Prim.Native.Nat.{ℕ, zero, suc, _+_, _*_, _/_, _%_, _^_, _≤_, _<_}
+use Prim.Native.Nat.{ℕ, zero, suc, _+_, _*_, _/_, _%_, _^_, _≤_, _<_, max}
 use native.Mathlib.Nat.{one-mul, add-zero, add-suc, two-pow-succ, pow-suc, pow-succ', div-one, div-eq-of-lt, mul-mod-left, div-div-eq-div-mul, div-lt-iff-lt-mul}
 use native.Mathlib.Omega.{arith}
+use lib.Bits.{bitOr, or-step, or-shr}
 use lib.Dec.{eqb, eqb·zero-suc, eqb·suc-zero, eqb·suc-suc, lit<}
 use lib.Pow.{pow-pos, pow-mono, shl-exact}
 use borrow.Author.Tests.{eqb-false}
@@ -55,6 +56,23 @@ power-bit (suc i) zero = rw (div-one (2 ^ suc i), pow-suc 2 i, mul-mod-left (2 ^
 power-bit (suc i) (suc j) =
     let half : 2 ^ suc i / 2 ≡ 2 ^ i = omega (arith, pow-suc 2 i) in
     sym (half-bit (2 ^ suc i) j) ∙ rw (half, eqb·suc-suc i j) (power-bit i j)
+
+-- the greater of two digits is 1 where one of them is
+max-digit : (x y : ℕ) → x < 2 → y < 2 → eqb (max x y) 1 ≡ (eqb x 1 || eqb y 1)
+max-digit zero zero hx hy = refl
+max-digit zero (suc zero) hx hy = refl
+max-digit (suc zero) zero hx hy = refl
+max-digit (suc zero) (suc zero) hx hy = refl
+max-digit (suc (suc x)) y hx hy = absurd (omega arith)
+max-digit zero (suc (suc y)) hx hy = absurd (omega arith)
+max-digit (suc zero) (suc (suc y)) hx hy = absurd (omega arith)
+
+-- a bit of `or` is a bit of one of the two
+pub or-bit : (a b j : ℕ) → bit (bitOr a b) j ≡ (bit a j || bit b j)
+or-bit a b j =
+    let digit : bitOr (a / 2 ^ j) (b / 2 ^ j) % 2 ≡ max (a / 2 ^ j % 2) (b / 2 ^ j % 2) = omega (arith, or-step (a / 2 ^ j) (b / 2 ^ j)) in
+    ap {B = Bool} (λ (x : ℕ). eqb (x % 2) 1) (or-shr a b j) ∙ ap {B = Bool} (λ (x : ℕ). eqb x 1) digit
+    ∙ max-digit (a / 2 ^ j % 2) (b / 2 ^ j % 2) (omega arith) (omega arith)
 
 -- the bits of a number are its binary digits, from the lowest on: so any set of colours has a byte
 pub bit-digits : (x d : ℕ) → d < 2 → (bit (x * 2 + d) 0 ≡ eqb d 1) × ((j : ℕ) → bit (x * 2 + d) (suc j) ≡ bit x j)

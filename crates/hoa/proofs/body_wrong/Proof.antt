@@ -12,10 +12,10 @@ use Rattle.hoa.proofs.body_wrong.Statement.{statement}
 use Rattle.hoa.proofs.body_wrong.Tie as tie
 
 abbrev Inv-loop : tie.InvT-loop
-Inv-loop body n k at₀ j₀ top₀ at j top = Walked body n k at j top
+Inv-loop body n k at₀ j₀ blocks₀ at j blocks = Walked body n k at j blocks
 
 abbrev μ-loop : tie.MeasureT-loop
-μ-loop body n k at₀ j₀ top₀ at j top = length body - at
+μ-loop body n k at₀ j₀ blocks₀ at j blocks = length body - at
 
 loop-holds : tie.Need-loop-holds Inv-loop μ-loop
 loop-holds c = walked-first _ _ _
@@ -84,8 +84,8 @@ returns-3 c =
     sym (walked-stops _ _ _ _ _ _ (d .loop .inv) _ (omega arith) (f .piece-end .ensures) _ (g .before .is-end .ensures) (g .if1 .left)
     _ (c .before .may-stand .ensures) (not-true _ (c .if3 .taken)))
 
-top-after-requires : tie.Need-top-after-requires Inv-loop μ-loop
-top-after-requires c κs = search needs
+blocks-after-requires : tie.Need-blocks-after-requires Inv-loop μ-loop
+blocks-after-requires c κs = search needs
 
 add-j : tie.Need-add-j Inv-loop μ-loop
 add-j c =
@@ -109,9 +109,8 @@ loop-again c =
     let g = h .before .before in
     let f = g .before .before .before in
     let d = f .before .before in
-    let top = c .top-after .ensures in
     walked-goes _ _ _ _ _ _ (d .loop .inv) _ (omega arith) (f .piece-end .ensures) _ (g .before .is-end .ensures) (g .if1 .left)
-    _ (h .before .may-stand .ensures) (not-false _ (h .if3 .left)) _ (top .0) (top .1)
+    _ (h .before .may-stand .ensures) (not-false _ (h .if3 .left)) _ (c .blocks-after .ensures)
 
 add-result-3 : tie.Need-add-result-3 Inv-loop μ-loop
 add-result-3 c =
@@ -141,7 +140,7 @@ body-wrong-spec =
     may-stand-requires
     add-result-2
     returns-3
-    top-after-requires
+    blocks-after-requires
     add-j
     loop-less
     loop-again

@@ -10,7 +10,7 @@ use Rattle.fields.proofs.Pieces.{end-bounds}
 use Rattle.fields.specs.Bytes.{feed}
 use Rattle.fields.specs.Fields.{LineAt, linesOf}
 use Rattle.hoa.specs.Text.{hasBlock}
-use Rattle.hoa.proofs.Blocks.{block-all, block-spent, block-turn}
+use Rattle.hoa.proofs.BlockLines.{block-all, block-spent, block-turn}
 use Rattle.hoa.proofs.has_block.Statement.{statement}
 use Rattle.hoa.proofs.has_block.Tie as tie
 

@@ -2,7 +2,7 @@
 use mathlib.Core.Path.{sym, _∙_}
 use borrow.Author.Needs.{needs}
 use Rattle.hoa.specs.Text.{mayStand}
-use Rattle.hoa.proofs.Blocks.{stand-first, stand-edge}
+use Rattle.hoa.proofs.BlockLines.{stand-first, stand-edge}
 use Rattle.hoa.proofs.may_stand.Statement.{statement}
 use Rattle.hoa.proofs.may_stand.Tie as tie
 
