@@ -1,5 +1,6 @@
 -- The C entries. Document 01, "What can be called": "The fitting desk's own program, written in C, calls judging and search, with numbers and
--- byte or word buffers." Since document 02, Ask 2, it also calls the gauge, whose spill "fitters wish to see", and the walk.
+-- byte or word buffers." Since document 02, Ask 2, it also calls the gauge, whose spill "fitters wish to see", and the
+-- walk; since Ask 1, reading.
 use Prim.Native.Nat.{ℕ}
 use mathlib.Core.Path.{_≡_}
 use mathlib.Core.List.{List}

@@ -94,7 +94,6 @@ fn digit_count(s: &[u8]) -> usize
 
 // Where the first piece that begins at a place ends: past the next byte b, or at the end.
 pub fn piece_end(s: &[u8], at: usize, b: u8) -> usize
-    requires { ⌜ at ≤ length (now s) ⌝ }
     ensures { λ r. ⌜ r ≡ at + pieceLength b (drop at (now (s .entry))) ⌝ }
 {
     let mut i = at;

@@ -23,7 +23,7 @@ use Rattle.reading.specs.Agreement.{sameEnds, allSame}
 use Rattle.reading.specs.ModelRead.{arcRead, arcsRead}
 use Rattle.reading.specs.Within.{isHeavy, weightsVerdict, Narrow}
 
--- texts that agree have ts many edges ts `a` lines
+-- texts that agree have as many edges as `a` lines
 pub same-length : (es : List Edge) (ts : List TextArc) → allSame es ts ≡ true → length es ≡ length ts
 unfolding allSame
 same-length [] [] e = refl
@@ -31,7 +31,7 @@ same-length [] (a ∷ ts) e = clash (cc)
 same-length (x ∷ es) [] e = clash (cc)
 same-length (x ∷ es) (a ∷ ts) e = ap {B = ℕ} suc (same-length es ts (both (sameEnds x a) (allSame es ts) e .1))
 
--- and ts many arcs
+-- and as many arcs
 pub read-length : (es : List Edge) (ts : List TextArc) → length es ≡ length ts → length (arcsRead es ts) ≡ length ts
 unfolding arcsRead
 read-length [] [] e = refl

@@ -1,6 +1,6 @@
--- `fields::piece_end` meets its contract. Assumes nothing.
+-- `fields::piece_end` meets its contract: the piece is as long as from each place on the way. Assumes nothing.
 use mathlib.Core.Path.{_≡_}
-use Prim.Native.Nat.{_+_, _-_, _≤_}
+use Prim.Native.Nat.{_+_, _-_}
 use native.Mathlib.Omega.{arith}
 use lib.ListN.{length, drop}
 use borrow.Author.Needs.{needs}
@@ -10,7 +10,7 @@ use Rattle.fields.proofs.piece_end.Statement.{statement}
 use Rattle.fields.proofs.piece_end.Tie as tie
 
 abbrev Inv-loop : tie.InvT-loop
-Inv-loop s at b i₀ i = (i ≤ length s) × (at + pieceLength b (drop at s) ≡ i + pieceLength b (drop i s))
+Inv-loop s at b i₀ i = at + pieceLength b (drop at s) ≡ i + pieceLength b (drop i s)
 
 abbrev μ-loop : tie.MeasureT-loop
 μ-loop s at b i₀ i = length s - i
@@ -40,7 +40,7 @@ loop-again : tie.Need-loop-again Inv-loop μ-loop
 loop-again c =
     let d = c .before .before .before in
     let a = d .before .args in
-    (omega arith, omega (arith, piece-later (a .b) (a .s .now) (d .loop .i) (omega arith) (c .if1 .left)))
+    omega (arith, piece-later (a .b) (a .s .now) (d .loop .i) (omega arith) (c .if1 .left))
 
 returns-2 : tie.Need-returns-2 Inv-loop μ-loop
 returns-2 c =

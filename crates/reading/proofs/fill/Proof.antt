@@ -55,7 +55,7 @@ next-edge-requires : tie.Need-next-edge-requires Inv-loop μ-loop
 next-edge-requires c κs = c .before .loop .inv .in-body
 
 piece-end-requires : tie.Need-piece-end-requires Inv-loop μ-loop
-piece-end-requires c κs = c .before .before .loop .inv .in-lines
+piece-end-requires c κs = search needs
 
 sub-edge : tie.Need-sub-edge Inv-loop μ-loop
 sub-edge c = c .before .next-edge .ensures .ordered
