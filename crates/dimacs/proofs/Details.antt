@@ -3,7 +3,7 @@
 use mathlib.Core.Path.{_≡_, refl, sym, ap, _∙_}
 use mathlib.Core.Bool.{Bool, true, false, _&&_, cond}
 use mathlib.Core.List.{List, [], _∷_}
-use mathlib.Core.Logic.{inl, inr}
+use mathlib.Core.Logic.{_↔_, inl, inr}
 use Prim.Native.Nat.{ℕ, zero, suc, _+_, _-_, _≤_, _<_}
 use native.Mathlib.Decide.{decLe}
 use native.Mathlib.Omega.{arith}
@@ -187,3 +187,23 @@ module _ (ls : List (List ℕ)) (right : dimacsWrong ls ≡ 0) where
       let (size, all) = arcs-all ls right in
       forms ls (problem-right ls right) (countOf ls) (λ x q. (omega arith, arc-at (modesOf ls) (arcLines ls) x all (omega (arith, size)))) j
       (omega (arith, dimacs-length))
+
+-- only one line is the first that is wrong
+pub first-one : (ls : List (List ℕ)) (d e : ℕ) → FirstWrong ls d → FirstWrong ls e → d ≡ e
+first-one ls d e f g =
+    elim (decLe d e) [
+      | yes h ↦ elim (decLe e d) [ yes q ↦ omega arith | no q ↦ absurd (f .here (g .earlier d (omega arith))) ]
+      | no h ↦ absurd (g .here (f .earlier e (omega arith)))
+    ]
+
+-- the number of a wrong line, exactly
+pub dimacs-detail : (ls : List (List ℕ)) (d : ℕ) → (dimacsWrong ls ≡ suc d) ↔ FirstWrong ls d
+dimacs-detail ls d = (dimacs-first ls d, λ f. from f (dimacsWrong ls) refl)
+  where
+    from : FirstWrong ls d → (n : ℕ) → dimacsWrong ls ≡ n → n ≡ suc d
+    from f zero e =
+        elim (decLe (length ls) d) [
+          | yes h ↦ absurd (omega (arith, dimacs-length ls e, f .within, f .missing (omega (arith, f .within))))
+          | no h ↦ absurd (f .here (dimacs-all ls e d (omega arith)))
+        ]
+    from f (suc c) e = ap suc (first-one ls c d (dimacs-first ls c e) f)
