@@ -83,6 +83,32 @@ bit-digits x d h =
       λ j. sym (half-bit (x * 2 + d) j) ∙ ap {B = Bool} (λ (y : ℕ). bit y j) rest,
     )
 
+-- digits that are both 1 or both not are the same
+same-digit : (x y : ℕ) → x < 2 → y < 2 → eqb x 1 ≡ eqb y 1 → x ≡ y
+same-digit zero zero hx hy e = refl
+same-digit zero (suc zero) hx hy e = absurd (let z : _≡_ {A = ℕ} 0 1 = cc in omega arith)
+same-digit (suc zero) zero hx hy e = absurd (let z : _≡_ {A = ℕ} 0 1 = cc in omega arith)
+same-digit (suc zero) (suc zero) hx hy e = refl
+same-digit (suc (suc x)) y hx hy e = absurd (omega arith)
+same-digit zero (suc (suc y)) hx hy e = absurd (omega arith)
+same-digit (suc zero) (suc (suc y)) hx hy e = absurd (omega arith)
+
+low-bit : (x : ℕ) → bit x 0 ≡ eqb (x % 2) 1
+low-bit x = rw (div-one x) refl
+
+same-below : (n x y : ℕ) → x ≤ n → y ≤ n → ((j : ℕ) → bit x j ≡ bit y j) → x ≡ y
+same-below zero x y hx hy f = omega arith
+same-below (suc n) x y hx hy f =
+    let low : eqb (x % 2) 1 ≡ eqb (y % 2) 1 = sym (low-bit x) ∙ f 0 ∙ low-bit y in
+    let digit : x % 2 ≡ y % 2 = same-digit (x % 2) (y % 2) (omega arith) (omega arith) low in
+    let rest : x / 2 ≡ y / 2 =
+    same-below n (x / 2) (y / 2) (omega arith) (omega arith) (λ j. half-bit x j ∙ f (suc j) ∙ sym (half-bit y j)) in
+    omega (arith, digit, rest)
+
+-- numbers with the same bits are the same
+pub bits-same : (x y : ℕ) → ((j : ℕ) → bit x j ≡ bit y j) → x ≡ y
+bits-same x y f = same-below (x + y) x y (omega arith) (omega arith) f
+
 -- an arc whose colour byte is 2 ^ i meets colour i alone
 pub meets-one : (g : Automaton) (a i j : ℕ) → arcAt g a .colours ≡ 2 ^ i → meets g j a ≡ eqb i j
 meets-one g a i j e = rw e (power-bit i j)
