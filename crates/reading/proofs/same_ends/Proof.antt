@@ -1,5 +1,7 @@
 -- `reading::same_ends` meets its contract. Assumes nothing.
-use mathlib.Core.Path.{sym, _∙_}
+use mathlib.Core.Path.{_≡_, refl, sym, _∙_}
+use Prim.Native.Nat.{ℕ, _+_}
+use lib.Dec.{eqb}
 use borrow.Author.Needs.{needs}
 use Rattle.dimacs.specs.Text.{textArcOn}
 use Rattle.reading.specs.Within.{edgeOn}
@@ -37,11 +39,16 @@ returns c =
 add-result : tie.Need-add-result
 add-result c = search needs
 
+-- the test on equal numbers
+same-test : {x y u v : ℕ} → x ≡ y → u ≡ v → eqb (x + 1) u ≡ eqb (y + 1) v
+same-test ex eu = rw (ex, eu) refl
+
 returns-2 : tie.Need-returns-2
 returns-2 c =
     let t = c .before in
     let a = t .before .before .before .before .before .args in
-    rw (t .target-of .ensures, t .before .to-on .ensures) (sym (ends-rest (edgeOn (a .source) (a .edge .now)) (textArcOn (a .arc .now)) (c .if1 .left ∙ t .before .before .from-on .ensures)))
+    same-test (t .target-of .ensures) (t .before .to-on .ensures)
+    ∙ sym (ends-rest (edgeOn (a .source) (a .edge .now)) (textArcOn (a .arc .now)) (c .if1 .left ∙ t .before .before .from-on .ensures))
 
 pub same-ends-spec : {M : Type 1} → statement M
 same-ends-spec =
