@@ -11,12 +11,11 @@ use lib.Dec.{ltb, eqb}
 use lib.ListN.{length, getD, take, drop, length-drop, List·getD-eq-default}
 use lib.Seq.{getD-drop, length-take-le}
 use borrow.Author.Tests.{lt-ltb, le-ltb, ne-eqb}
-use Rattle.fields.specs.Fields.{afterWord, isOnly, afterNumber, numberOf, isPlain, digitCount, split, isWord, isNumbered, lineOf}
+use Rattle.fields.specs.Fields.{afterWord, isOnly, afterNumber, numberOf, isPlain, digitCount, split, lineOf}
 use Rattle.fields.proofs.Places.{Begins, begins}
-use Rattle.hoa.specs.Words.{hoaWord, statesWord, startWord, apWord, bodyWord}
 use Rattle.hoa.specs.Lines.{areColours, isBraces, isEdge, isAcceptance}
 use Rattle.hoa.specs.Text.{isNewBlock, mayStand, isEnd, bodyWrong, headWrong, hoaWrong, modesOf, coloursOf}
-use Rattle.hoa.specs.Forms.{headForms, isHead, isBody, NoEnd, InForms, FirstWrong, NoneWrong}
+use Rattle.hoa.specs.Forms.{headForms, isHead, NoEnd, InForms, FirstWrong, NoneWrong}
 use Rattle.hoa.proofs.EdgeLines.{conflict, and-false}
 
 -- no form takes a line that is not there
@@ -54,6 +53,7 @@ data Says (ls : List (List ℕ)) (A : Type 0) (r : ℕ) : Type 0 where
   right : r ≡ 0 → A → Says ls A r
 
 module _ (ls : List (List ℕ)) where
+  -- every line before line d is in the forms
   abbrev Upto : ℕ → Type 0
   Upto d = (j : ℕ) → j < d → InForms ls j
 
@@ -93,7 +93,7 @@ module _ (ls : List (List ℕ)) where
       none (inl z) = conflict (sym z ∙ e)
       none (inr (low, _, _)) = absurd (omega arith)
 
-  -- line j of the body
+  -- line j of the body, from 0, after lines that are in the forms and are not `--END--`
   module _ (j : ℕ) (all : Upto (6 + j)) (free : NoEnd ls (6 + j)) where
     abbrev before : List (List ℕ)
     before = take j (drop 6 ls)
@@ -149,15 +149,16 @@ module _ (ls : List (List ℕ)) where
             ends = rw (last, line) x;
           }
 
-  body : (j : ℕ) (rest : List (List ℕ)) → drop j (drop 6 ls) ≡ rest → Upto (6 + j) → NoEnd ls (6 + j)
+  -- the lines of the body from line j of it on
+  body-says : (j : ℕ) (rest : List (List ℕ)) → drop j (drop 6 ls) ≡ rest → Upto (6 + j) → NoEnd ls (6 + j)
       → Says ls (NoneWrong ls) (bodyWrong (modesOf ls) (coloursOf ls) (take j (drop 6 ls)) rest)
   unfolding bodyWrong
-  body j [] here all free =
+  body-says j [] here all free =
       let size : length (drop j (drop 6 ls)) ≡ length ls - 6 - j = rw (length-drop j (drop 6 ls), length-drop 6 ls) in
       let over : length (drop j (drop 6 ls)) ≡ 0 = rw here in
       wrong (6 + j) (rw (count j all free) (omega arith)) (missing-first j all free (omega arith))
-  body j (l ∷ t) here all free =
-      go (isEnd l) refl (mayStand (modesOf ls) (coloursOf ls) (take j (drop 6 ls)) l) refl (body (suc j) t (b .next))
+  body-says j (l ∷ t) here all free =
+      go (isEnd l) refl (mayStand (modesOf ls) (coloursOf ls) (take j (drop 6 ls)) l) refl (body-says (suc j) t (b .next))
     where
       b : Begins [] (drop 6 ls) j l t
       b = begins [] (drop 6 ls) j l t here
@@ -173,7 +174,7 @@ module _ (ls : List (List ℕ)) where
       go : (x : Bool) → isEnd l ≡ x → (y : Bool) → mayStand (modesOf ls) (coloursOf ls) (take j (drop 6 ls)) l ≡ y
           → (Upto (6 + suc j) → NoEnd ls (6 + suc j) → Says ls (NoneWrong ls) (bodyWrong (modesOf ls) (coloursOf ls) (take (suc j) (drop 6 ls)) t))
           → Says ls (NoneWrong ls) (cond x (cond (ltb 0 (length t)) (length (take j (drop 6 ls)) + 8) 0)
-            (cond y (bodyWrong (modesOf ls) (coloursOf ls) (take j (drop 6 ls) ++ l ∷ []) t) (length (take j (drop 6 ls)) + 7)))
+          (cond y (bodyWrong (modesOf ls) (coloursOf ls) (take j (drop 6 ls) ++ l ∷ []) t) (length (take j (drop 6 ls)) + 7)))
       go true x y z f = ended x
       go false x false z f = wrong (6 + j) (rw (count j all free) (omega arith)) (line-first j all free l t here x z)
       go false x true z f =
@@ -206,7 +207,7 @@ module _ (ls : List (List ℕ)) where
     where
       go : (h : ℕ) → Says ls (Upto 6) h → Says ls (NoneWrong ls) (cond (eqb h 0) (bodyWrong (modesOf ls) (coloursOf ls) [] (drop 6 ls)) h)
       go h (wrong d e f) = rw (ne-eqb h 0 (λ z. omega (arith, e, z))) (wrong d e f)
-      go h (right e all) = rw e (body 0 (drop 6 ls) refl all (λ i h g. absurd (omega arith)))
+      go h (right e all) = rw e (body-says 0 (drop 6 ls) refl all (λ i h g. absurd (omega arith)))
 
   -- the number of a wrong line is that of the first
   pub hoa-first : (d : ℕ) → hoaWrong ls ≡ suc d → FirstWrong ls d
@@ -240,7 +241,7 @@ module _ (ls : List (List ℕ)) where
         | no h ↦ f .here (a .lines d (omega arith))
       ]
 
-  -- and the other way around
+  -- and the other way round: the first wrong line gives the number, and no wrong line gives 0
   pub first-hoa : (d : ℕ) → FirstWrong ls d → hoaWrong ls ≡ suc d
   first-hoa d f = go text-says
     where

@@ -1,5 +1,5 @@
--- Where a line of a HOA text stands in its form, and the first line that does not. Document 02, Ask 1. Lines are counted from 0; the body begins at
--- line 6.
+-- The lines of a HOA text that are in the forms, by their places, and the first that is not. Document 02, Ask 1. Lines are counted from 0; the
+-- body begins at line 6.
 use mathlib.Core.Path.{_≡_}
 use mathlib.Core.Bool.{Bool, true, false, _||_}
 use mathlib.Core.List.{List, [], _∷_}
@@ -13,14 +13,7 @@ use Rattle.hoa.specs.Text.{modesOf, coloursOf, mayStand, isEnd}
 
 -- the lines before the body: "one to a line: `HOA: v1`, `States:`, `Start:`, `AP: 0`, `Acceptance:` .., `--BODY--`"
 abbrev pub headForms : List (List ℕ → Bool)
-headForms =
-    (λ l. isWord hoaWord l)
-    ∷ (λ l. isNumbered statesWord l)
-    ∷ (λ l. isNumbered startWord l)
-    ∷ (λ l. isWord apWord l)
-    ∷ (λ l. isAcceptance l)
-    ∷ (λ l. isWord bodyWord l)
-    ∷ []
+headForms = isWord hoaWord ∷ isNumbered statesWord ∷ isNumbered startWord ∷ isWord apWord ∷ isAcceptance ∷ isWord bodyWord ∷ []
 
 -- line j is one of them, in its form
 abbrev pub isHead : List (List ℕ) → ℕ → Bool
@@ -34,11 +27,11 @@ isBody ls j = mayStand (modesOf ls) (coloursOf ls) (take (j - 6) (drop 6 ls)) (l
 abbrev pub NoEnd : List (List ℕ) → ℕ → Type 0
 NoEnd ls j = (x : ℕ) → 6 ≤ x → x < j → isEnd (lineOf ls x) ≡ false
 
--- line j is in the forms: "The lines stand in that order", so none stands after `--END--`
+-- line j is in the forms; "The lines stand in that order", so none stands after `--END--`
 abbrev pub InForms : List (List ℕ) → ℕ → Type 0
 InForms ls j = (isHead ls j ≡ true) ⊎ ((6 ≤ j) × NoEnd ls j × ((isEnd (lineOf ls j) || isBody ls j) ≡ true))
 
--- line d is the first that is not, or, where it is one past the last, is missing
+-- line d is the first that is not, or, where it is one past the last, is missing: "where the text ends early", before `--END--`
 pub record FirstWrong (ls : List (List ℕ)) (d : ℕ) : Type 0 where
   pub earlier : (j : ℕ) → j < d → InForms ls j
   pub here : InForms ls d → ⊥
