@@ -1,14 +1,16 @@
 -- The lines of a text say of edge i only one thing. Assumes nothing.
 use mathlib.Core.Path.{_≡_, sym, ap, _∙_}
 use mathlib.Core.List.{List}
-use Prim.Native.Nat.{ℕ, suc, _+_, _-_, _≤_}
+use Prim.Native.Nat.{ℕ, suc, _+_, _-_, _≤_, _<_}
 use native.Mathlib.Decide.{decLe}
 use native.Mathlib.Omega.{arith}
+use lib.ListN.{length}
 use Rattle.fields.specs.Fields.{lineOf}
 use Rattle.hoa.specs.Lines.{stateOf, targetOf}
-use Rattle.hoa.specs.Text.{Edge, coloursSaid}
+use Rattle.hoa.specs.Text.{Edge, hoaWrong, coloursSaid, edgesOf}
 use Rattle.hoa.specs.Edges.{edgeLines, EdgeAt}
 use Rattle.hoa.proofs.EdgeLines.{conflict}
+use Rattle.hoa.proofs.Edges.{edge-count}
 use Rattle.hoa.proofs.SourcesTogether.{edge-lines-rise}
 
 same-edge : (e f : Edge) → e .source ≡ f .source → e .target ≡ f .target → e .colours ≡ f .colours → e ≡ f
@@ -49,3 +51,9 @@ module _ (ls : List (List ℕ)) (i : ℕ) where
       (a .source ∙ ap {B = ℕ} (λ (x : ℕ). stateOf (lineOf ls x)) block ∙ sym (b .source))
       (a .target ∙ ap {B = ℕ} (λ (x : ℕ). targetOf (lineOf ls x)) line ∙ sym (b .target))
       (a .colours ∙ ap {B = List ℕ} (λ (x : ℕ). coloursSaid (lineOf ls x)) line ∙ sym (b .colours))
+
+  -- in a text that is right they say nothing of an edge past the last
+  pub edge-there : hoaWrong ls ≡ 0 → (e : Edge) → EdgeAt ls i e → i < length (edgesOf ls)
+  edge-there right e a =
+      let rise = edge-lines-rise ls (suc (a .line - 6)) (length ls - 7) (omega (arith, a .body, a .later, a .not-last)) in
+      omega (arith, rise, counted e a, edge-count ls right)
