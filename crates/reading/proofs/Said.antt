@@ -94,7 +94,7 @@ module _ (h d : List (List ℕ)) (right : hoa.hoaWrong h ≡ 0) (too : dimacs.di
       subst (ArcSaid h d i) (sym arc) said
 
   -- the whole model
-  model-in : Said h d (modelIn h d)
+  pub model-in : Said h d (modelIn h d)
   unfolding agree
   model-in =
       let all : length (modelIn h d .arcs) ≡ length (edgesOf h) = arcs-count h d too same ∙ sym (dimacs-arcs.dimacs-right d too .0) ∙ sym (edges-count h d same) in
