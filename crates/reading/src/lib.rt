@@ -12,11 +12,12 @@ ghost use Rattle.model.specs.Lists.{lists};
 ghost use Rattle.model.specs.Fitness.{header};
 ghost use Rattle.fields.specs.Fields.{linesOf};
 ghost use Rattle.hoa.specs.Text.{edgesFrom, edgesOf, modesOf, startOf, coloursOf};
-ghost use Rattle.dimacs.specs.Text.{textArcOn};
+ghost use Rattle.dimacs.specs.Text.{textArcOn, IsProblemOf};
 ghost use Rattle.reading.specs.Agreement.{sameEnds, allSame};
 ghost use Rattle.reading.specs.ModelRead.{arcsRead};
 ghost use Rattle.reading.specs.Reading.{noRoom, readable, refusedBy, writtenFrom, readOf, readAnswer, listsRead};
 ghost use Rattle.reading.specs.Within.{edgeOn, IsNext, isHeavy, weightsVerdict, Fillable, readBy};
+use dimacs::Problem;
 use fields::Bytes;
 use limits::Limits;
 use refusals::Refusal;
@@ -182,8 +183,9 @@ fn check_fitness(hoa: &[u8], count: u32, arcs: &[u8], room: usize) -> Verdict
     }
 }
 
-// All refusals of a reading into lists of which the shortest takes so many arcs.
-fn check_texts(hoa: &[u8], dimacs: &[u8], room: usize) -> Verdict
+// All refusals of a reading into lists of which the shortest takes so many arcs; `problem` has the numbers of the DIMACS text.
+fn check_texts(hoa: &[u8], dimacs: &[u8], problem: Problem, room: usize) -> Verdict
+    requires { ⌜ IsProblemOf (now dimacs) problem ⌝ }
     ensures { λ r. ⌜ r ≡ readable (linesOf (now (hoa .entry))) (linesOf (now (dimacs .entry))) room ⌝ }
 {
     let h = hoa::hoa_wrong(hoa);
@@ -194,7 +196,6 @@ fn check_texts(hoa: &[u8], dimacs: &[u8], room: usize) -> Verdict
     if d != 0 {
         return Verdict::Refused(Refusal::DimacsLine(d as u64));
     }
-    let problem = dimacs::problem_of(dimacs);
     let at = problem.arcs;
     let arcs = &dimacs[at..];
     if !texts_agree(hoa, problem.modes, arcs) {
@@ -325,10 +326,10 @@ pub fn read(
         gains.len(),
         colours.len(),
     );
-    let verdict = check_texts(hoa, dimacs, room);
+    let problem = dimacs::problem_of(dimacs);
+    let verdict = check_texts(hoa, dimacs, problem, room);
     match verdict {
         Verdict::Yes => {
-            let problem = dimacs::problem_of(dimacs);
             let at = problem.arcs;
             fill(
                 body_of(hoa),

@@ -22,7 +22,10 @@ returns c = readable-hoa _ _ _ _ (c .before .hoa-wrong .ensures) (c .if1 .taken)
 right : (d : tie.Else1) → hoaWrong (linesOf (d .before .before .before .before .args .hoa .now)) ≡ 0
 right d = sym (d .before .hoa-wrong .ensures) ∙ d .if1 .left
 
-right-too : (d : tie.Else2) → dimacsWrong (linesOf (d .before .before .before .before .before .before .args .dimacs .now)) ≡ 0
+abbrev start : tie.Else2 → tie.Start
+start d = d .before .before .before .before .before .before
+
+right-too : (d : tie.Else2) → dimacsWrong (linesOf (start d .args .dimacs .now)) ≡ 0
 right-too d = sym (d .before .dimacs-wrong .ensures) ∙ d .if2 .left
 
 dimacs-wrong-requires : tie.Need-dimacs-wrong-requires
@@ -31,14 +34,11 @@ dimacs-wrong-requires c κs = search needs
 returns-2 : tie.Need-returns-2
 returns-2 c = readable-dimacs _ _ _ (right (c .before .before)) _ (c .before .dimacs-wrong .ensures) (c .if2 .taken)
 
-problem-of-requires : tie.Need-problem-of-requires
-problem-of-requires c κs = search needs
-
 sub-arcs : tie.Need-sub-arcs
-sub-arcs c = c .problem-of .ensures .within
+sub-arcs c = start c .pre .within
 
 part-arcs-start : tie.Need-part-arcs-start
-part-arcs-start c = let h = c .problem-of .ensures .within in search needs
+part-arcs-start c = let h = start c .pre .within in search needs
 
 part-arcs-end : tie.Need-part-arcs-end
 part-arcs-end c = search needs
@@ -49,30 +49,28 @@ texts-agree-requires c κs = search needs
 -- what the comparison says is 21 of the two texts
 same : (t : tie.After-texts-agree)
     → t .texts-agree .result
-    ≡ agree (linesOf (t .before .before .before .before .before .before .before .before .before .args .hoa .now))
-    (linesOf (t .before .before .before .before .before .before .before .before .before .args .dimacs .now))
+    ≡ agree (linesOf (start (t .before .before) .args .hoa .now)) (linesOf (start (t .before .before) .args .dimacs .now))
 same t =
-    let p = t .before .before in
-    t .texts-agree .ensures ∙ agree-by _ _ _ _ (p .problem-of .ensures .modes) (arc-slice _ _ (p .problem-of .ensures))
+    let p = start (t .before .before) .pre in
+    t .texts-agree .ensures ∙ agree-by _ _ _ _ (p .modes) (arc-slice _ _ p)
 
 returns-3 : tie.Need-returns-3
 returns-3 c =
-    let d = c .before .before .before .before in
+    let d = c .before .before .before in
     readable-other _ _ _ (right (d .before .before)) (right-too d) (sym (same (c .before)) ∙ not-true _ (c .if3 .taken))
 
 check-fitness-requires : tie.Need-check-fitness-requires
 check-fitness-requires c κs =
-    let p = c .before .before .before in
-    ap {B = ℕ} length (arc-slice _ _ (p .problem-of .ensures)) ∙ lines-count _ (right-too (p .before)) ∙ sym (p .problem-of .ensures .count)
+    let d = c .before .before .before in
+    ap {B = ℕ} length (arc-slice _ _ (start d .pre)) ∙ lines-count _ (right-too d) ∙ sym (start d .pre .count)
 
 returns-4 : tie.Need-returns-4
 returns-4 c =
     let t = c .before in
-    let p = t .before .before .before in
-    let d = p .before in
+    let d = t .before .before .before in
     let agreed = sym (same (t .before)) ∙ not-false _ (t .if3 .left) in
     c .check-fitness .ensures
-    ∙ fitness-by _ _ _ _ _ (p .problem-of .ensures .count) (arc-slice _ _ (p .problem-of .ensures)) (right (d .before .before)) (right-too d) agreed
+    ∙ fitness-by _ _ _ _ _ (start d .pre .count) (arc-slice _ _ (start d .pre)) (right (d .before .before)) (right-too d) agreed
     ∙ readable-same _ _ _ (right (d .before .before)) (right-too d) agreed
 
 pub check-texts-spec : {M : Type 1} → statement M
@@ -83,7 +81,6 @@ check-texts-spec =
     returns
     dimacs-wrong-requires
     returns-2
-    problem-of-requires
     sub-arcs
     part-arcs-start
     part-arcs-end

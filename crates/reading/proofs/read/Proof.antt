@@ -5,6 +5,7 @@ use Rattle.refusals.specs.declared.Verdict.{Verdict}
 use Rattle.refusals.specs.declared.Verdict.the-variants.{Yes}
 use Rattle.model.specs.Lists.{Lists, lists}
 use Rattle.fields.specs.Fields.{linesOf}
+use Rattle.dimacs.specs.Text.{IsProblemOf}
 use Rattle.reading.specs.Reading.{readable, readVerdict}
 use Rattle.reading.proofs.Verdicts.{arc-slice}
 use Rattle.reading.proofs.Through.{read-number, read-refused, lists-refused, read-accepted, may-fill, lists-accepted}
@@ -14,15 +15,18 @@ use Rattle.reading.proofs.read.Tie as tie
 shortest-requires : tie.Need-shortest-requires
 shortest-requires c κs = search needs
 
+problem-of-requires : tie.Need-problem-of-requires
+problem-of-requires c κs = search needs
+
 check-texts-requires : tie.Need-check-texts-requires
-check-texts-requires c κs = search needs
+check-texts-requires c κs = c .problem-of .ensures
 
 enum-told : tie.Need-enum-told
 enum-told c = search needs
 
 -- from the check to the beginning, and the lists as they were
 abbrev start : tie.After-check-texts → tie.Start
-start d = d .before .before .before .before .before .before .before .before .before
+start d = d .before .before .before .before .before .before .before .before .before .before
 
 abbrev lists-of : tie.Start → Lists
 lists-of s = lists (s .args .sources .now) (s .args .targets .now) (s .args .draws .now) (s .args .gains .now) (s .args .colours .now)
@@ -31,24 +35,25 @@ lists-of s = lists (s .args .sources .now) (s .args .targets .now) (s .args .dra
 told : (d : tie.After-check-texts) → d .check-texts .result ≡ readVerdict (start d .args .hoa .now) (start d .args .dimacs .now) (lists-of (start d))
 told d =
     d .check-texts .ensures
-    ∙ ap {B = Verdict} (readable (linesOf (start d .args .hoa .now)) (linesOf (start d .args .dimacs .now))) (d .before .shortest .ensures)
+    ∙ ap {B = Verdict} (readable (linesOf (start d .args .hoa .now)) (linesOf (start d .args .dimacs .now))) (d .before .before .shortest .ensures)
 
 -- where it is yes, and the place where the lines of the body are known
 yes : (e : tie.After-enum-told)
     → let d = e .before .before in readVerdict (start d .args .hoa .now) (start d .args .dimacs .now) (lists-of (start d)) ≡ Yes
 yes e = sym (told (e .before .before)) ∙ e .enum-told .given .1
 
-problem-of-requires : tie.Need-problem-of-requires
-problem-of-requires c κs = search needs
+-- the numbers of the DIMACS text
+problem : (e : tie.After-enum-told) → IsProblemOf (start (e .before .before) .args .dimacs .now) (e .before .before .before .problem-of .result)
+problem e = e .before .before .before .problem-of .ensures
 
 body-of-requires : tie.Need-body-of-requires
 body-of-requires c κs = search needs
 
 sub-fill : tie.Need-sub-fill
-sub-fill c = c .before .problem-of .ensures .within
+sub-fill c = problem (c .before) .within
 
 part-fill-start : tie.Need-part-fill-start
-part-fill-start c = let h = c .before .problem-of .ensures .within in search needs
+part-fill-start c = let h = problem (c .before) .within in search needs
 
 part-fill-end : tie.Need-part-fill-end
 part-fill-end c = search needs
@@ -56,8 +61,8 @@ part-fill-end c = search needs
 fill-requires : tie.Need-fill-requires
 fill-requires c κs =
     let b = c .before .before .before .before .before .before in
-    let p = b .before in
-    may-fill _ _ _ (yes (p .before)) _ _ (b .body-of .ensures) (arc-slice _ _ (p .problem-of .ensures))
+    let e = b .before in
+    may-fill _ _ _ (yes e) _ _ (b .body-of .ensures) (arc-slice _ _ (problem e))
 
 accepted-requires : tie.Need-accepted-requires
 accepted-requires c κs = search needs
@@ -87,13 +92,13 @@ returns : tie.Need-returns
 returns c =
     let f = c .before .before .before .before .before .before .before .before .before .before .before in
     let b = f .before .before .before .before .before .before .before in
-    let p = b .before in
-    let l = lists-of (start (p .before .before .before)) in
-    let whole = c .accepted .ensures ∙ read-accepted _ _ l (yes (p .before)) _ (p .problem-of .ensures .count) in (
+    let e = b .before in
+    let l = lists-of (start (e .before .before)) in
+    let whole = c .accepted .ensures ∙ read-accepted _ _ l (yes e) _ (problem e .count) in (
       whole,
       (
         read-number _ _ l _ whole,
-        f .fill .ensures ∙ lists-accepted _ _ l (yes (p .before)) _ _ (b .body-of .ensures) (arc-slice _ _ (p .problem-of .ensures)),
+        f .fill .ensures ∙ lists-accepted _ _ l (yes e) _ _ (b .body-of .ensures) (arc-slice _ _ (problem e)),
       ),
     )
 
@@ -110,9 +115,9 @@ read-spec =
     tie.close
     (tie.spec
     shortest-requires
+    problem-of-requires
     check-texts-requires
     enum-told
-    problem-of-requires
     body-of-requires
     sub-fill
     part-fill-start
