@@ -7,7 +7,7 @@ use lib.IntN.{ℤ, pos, negsuc}
 use lib.ListN.{length, getD}
 use Rattle.walks.specs.Weights.{drawOf, gainOf}
 use Rattle.fields.specs.Bytes.{feed, minus}
-use Rattle.fields.specs.Fields.{afterWord, isOnly, numberOf, afterNumber, numberAfter, tailAfter}
+use Rattle.fields.specs.Fields.{afterWord, isOnly, numberOf, afterNumber, numberAfter, fieldAfter}
 use Rattle.dimacs.specs.Words.{commentLetter, problemWord, arcWord, blankWord}
 use Rattle.dimacs.specs.declared.Parts.{Parts}
 
@@ -21,7 +21,7 @@ modesOn l = numberAfter problemWord l
 
 -- the list from m on
 abbrev pub countField : List ℕ → List ℕ
-countField l = afterWord blankWord (tailAfter problemWord l)
+countField l = fieldAfter problemWord blankWord l
 
 -- m
 abbrev pub countOn : List ℕ → ℕ
@@ -37,7 +37,7 @@ fromOn l = numberAfter arcWord l
 
 -- the list from v on
 abbrev pub toField : List ℕ → List ℕ
-toField l = afterWord blankWord (tailAfter arcWord l)
+toField l = fieldAfter arcWord blankWord l
 
 -- v
 abbrev pub toOn : List ℕ → ℕ

@@ -69,7 +69,7 @@ fn modes_on(line: &[u8]) -> u32
 fn count_field(line: &[u8]) -> &[u8]
     ensures { λ r. ⌜ now r ≡ countField (now (line .entry)) ⌝ }
 {
-    fields::after_word(fields::tail_after(line, b"p sp "), b" ")
+    fields::field_after(line, b"p sp ", b" ")
 }
 
 // The number of arcs on a `p` line.
@@ -97,7 +97,7 @@ pub fn from_on(line: &[u8]) -> u32
 fn to_field(line: &[u8]) -> &[u8]
     ensures { λ r. ⌜ now r ≡ toField (now (line .entry)) ⌝ }
 {
-    fields::after_word(fields::tail_after(line, b"a "), b" ")
+    fields::field_after(line, b"a ", b" ")
 }
 
 // The target on an `a` line, from 1.

@@ -86,6 +86,10 @@ numberAfter w l = numberOf (afterWord w l)
 abbrev pub tailAfter : List ℕ → List ℕ → List ℕ
 tailAfter w l = afterNumber (afterWord w l)
 
+-- what follows the word, a plain number and a second word
+abbrev pub fieldAfter : List ℕ → List ℕ → List ℕ → List ℕ
+fieldAfter w v l = afterWord v (tailAfter w l)
+
 -- the line is this word and a plain number
 abbrev pub isNumbered : List ℕ → List ℕ → Bool
 isNumbered w l = isOnly feed (tailAfter w l)

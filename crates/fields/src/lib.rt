@@ -20,6 +20,7 @@ ghost use Rattle.fields.specs.Fields.{
   isWord,
   numberAfter,
   tailAfter,
+  fieldAfter,
   isNumbered,
 };
 use limits::Limits;
@@ -193,6 +194,13 @@ pub fn tail_after<'a, 'b>(line: &'a [u8], word: &'b [u8]) -> &'a [u8]
     ensures { λ r. ⌜ now r ≡ tailAfter (now (word .entry)) (now (line .entry)) ⌝ }
 {
     after_number(after_word(line, word))
+}
+
+// What follows a word, a plain number and a second word.
+pub fn field_after<'a, 'b, 'c>(line: &'a [u8], word: &'b [u8], second: &'c [u8]) -> &'a [u8]
+    ensures { λ r. ⌜ now r ≡ fieldAfter (now (word .entry)) (now (second .entry)) (now (line .entry)) ⌝ }
+{
+    after_word(tail_after(line, word), second)
 }
 
 // Whether a line is this word and a plain number.

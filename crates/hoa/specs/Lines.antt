@@ -5,7 +5,7 @@ use mathlib.Core.List.{List, [], _∷_}
 use Prim.Native.Nat.{ℕ, suc}
 use lib.Dec.{ltb, eqb}
 use Rattle.fields.specs.Bytes.{feed, blank, ampersand}
-use Rattle.fields.specs.Fields.{afterWord, isOnly, numberOf, afterNumber, split, isWord, isNumbered, numberAfter, tailAfter}
+use Rattle.fields.specs.Fields.{isOnly, numberOf, afterNumber, split, isWord, isNumbered, numberAfter, tailAfter, fieldAfter}
 use Rattle.hoa.specs.Words.{acceptWord, blankWord, trueWord, infWord, closeWord, stateWord, edgeWord, openBrace, closeBrace}
 
 -- "`State:` lines with the mode alone"
@@ -25,7 +25,7 @@ targetTail l = tailAfter edgeWord l
 
 -- what follows the opening brace
 abbrev pub inside : List ℕ → List ℕ
-inside l = afterWord openBrace (targetTail l)
+inside l = fieldAfter edgeWord openBrace l
 
 -- the colours after a brace, split after each blank: numbers below k with a blank between, and the closing brace and the line feed after the last.
 -- (A piece that ends with a line feed has no blank and is the last.)
@@ -47,7 +47,7 @@ colourCount l = numberAfter acceptWord l
 
 -- what follows k and a blank
 abbrev pub condition : List ℕ → List ℕ
-condition l = afterWord blankWord (tailAfter acceptWord l)
+condition l = fieldAfter acceptWord blankWord l
 
 -- the number after `Inf(`
 abbrev pub infNumber : List ℕ → ℕ
@@ -55,7 +55,7 @@ infNumber p = numberAfter infWord p
 
 -- what follows `Inf(`, a number and the closing bracket
 abbrev pub infTail : List ℕ → List ℕ
-infTail p = afterWord closeWord (tailAfter infWord p)
+infTail p = fieldAfter infWord closeWord p
 
 -- the condition split after each `&`: Inf(j), Inf(j+1) and so on, the last of which is Inf(k-1)
 unfoldable pub areInfs : ℕ → ℕ → List (List ℕ) → Bool

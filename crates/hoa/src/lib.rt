@@ -73,7 +73,7 @@ pub fn target_of(line: &[u8]) -> u32
 fn inside_of(line: &[u8]) -> &[u8]
     ensures { λ r. ⌜ now r ≡ inside (now (line .entry)) ⌝ }
 {
-    fields::after_word(fields::tail_after(line, b"[t] "), b" {")
+    fields::field_after(line, b"[t] ", b" {")
 }
 
 // Whether a list ends a pair of braces.
@@ -142,14 +142,14 @@ fn colour_count(line: &[u8]) -> u32
 fn condition_of(line: &[u8]) -> &[u8]
     ensures { λ r. ⌜ now r ≡ condition (now (line .entry)) ⌝ }
 {
-    fields::after_word(fields::tail_after(line, b"Acceptance: "), b" ")
+    fields::field_after(line, b"Acceptance: ", b" ")
 }
 
 // What follows `Inf(`, a number and the closing bracket.
 fn inf_tail(piece: &[u8]) -> &[u8]
     ensures { λ r. ⌜ now r ≡ infTail (now (piece .entry)) ⌝ }
 {
-    fields::after_word(fields::tail_after(piece, b"Inf("), b")")
+    fields::field_after(piece, b"Inf(", b")")
 }
 
 // The number after `Inf(`.
