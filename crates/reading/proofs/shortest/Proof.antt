@@ -1,0 +1,31 @@
+-- `reading::shortest` meets its contract: the smaller of the smaller ones. Assumes nothing.
+use mathlib.Core.Path.{_≡_, refl, _∙_}
+use Prim.Native.Nat.{ℕ, min}
+use borrow.Author.Needs.{needs}
+use Rattle.reading.proofs.shortest.Statement.{statement}
+use Rattle.reading.proofs.shortest.Tie as tie
+
+smaller-requires : tie.Need-smaller-requires
+smaller-requires c κs = search needs
+
+smaller-requires-2 : tie.Need-smaller-requires-2
+smaller-requires-2 c κs = search needs
+
+smaller-requires-3 : tie.Need-smaller-requires-3
+smaller-requires-3 c κs = search needs
+
+smaller-requires-4 : tie.Need-smaller-requires-4
+smaller-requires-4 c κs = search needs
+
+-- the smaller of equal numbers
+same-min : {x y u v : ℕ} → x ≡ y → u ≡ v → min x u ≡ min y v
+same-min ex eu = rw (ex, eu) refl
+
+returns : tie.Need-returns
+returns c =
+    let inner = c .before in
+    let parts = inner .before in
+    c .smaller4 .ensures ∙ same-min (parts .before .smaller .ensures) (inner .smaller3 .ensures ∙ same-min (parts .smaller2 .ensures) refl)
+
+pub shortest-spec : {M : Type 1} → statement M
+shortest-spec = tie.close (tie.spec smaller-requires smaller-requires-2 smaller-requires-3 smaller-requires-4 returns)
