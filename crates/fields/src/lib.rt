@@ -4,7 +4,7 @@ ghost use mathlib.Core.Path.{_≡_};
 ghost use mathlib.Core.Bool.{true};
 ghost use Prim.Native.Nat.{_+_, _-_, _*_, _≤_, _<_};
 ghost use lib.ListN.{length, drop};
-ghost use Rattle.fields.specs.Bytes.{digitZero};
+ghost use Rattle.fields.specs.Bytes.{feed, blank, ampersand, minus, digitZero, digitNine};
 ghost use Rattle.fields.specs.Fields.{
   afterWord,
   isOnly,
@@ -40,6 +40,19 @@ impl Bytes {
     pub const DIGIT_ZERO: u8 = 48;
 
     pub const DIGIT_NINE: u8 = 57;
+
+    // Every constant is the numeral of specs/Bytes: changing one side alone is refused.
+    pub fn agree() -> bool
+        ensures yes { λ r. ⌜ r ≡ true ⌝ }
+        ensures feed { λ _. do ⌜ (← ⟦Bytes::FEED⟧ .entry) ≡ feed ⌝ }
+        ensures blank { λ _. do ⌜ (← ⟦Bytes::BLANK⟧ .entry) ≡ blank ⌝ }
+        ensures ampersand { λ _. do ⌜ (← ⟦Bytes::AMPERSAND⟧ .entry) ≡ ampersand ⌝ }
+        ensures minus { λ _. do ⌜ (← ⟦Bytes::MINUS⟧ .entry) ≡ minus ⌝ }
+        ensures digit_zero { λ _. do ⌜ (← ⟦Bytes::DIGIT_ZERO⟧ .entry) ≡ digitZero ⌝ }
+        ensures digit_nine { λ _. do ⌜ (← ⟦Bytes::DIGIT_NINE⟧ .entry) ≡ digitNine ⌝ }
+    {
+        true
+    }
 }
 
 // What follows the word at the head of a list; nothing where the list does not begin with it.
