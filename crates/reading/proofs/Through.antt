@@ -41,6 +41,10 @@ module _ (hoa dimacs : List ℕ) (l : Lists) where
     pub lists-refused : l ≡ listsRead hoa dimacs l
     lists-refused = rw no refl
 
+    -- "A refused reading .. gives 0 for n, start mode, k and m."
+    pub refused-zero : let q = readOf hoa dimacs l in (q .modes ≡ 0) × (q .start ≡ 0) × (q .colours ≡ 0) × (q .count ≡ 0)
+    refused-zero = rw no (refl, refl, refl, refl)
+
   -- where it is not, by the lines that the code holds
   module _ (yes : readVerdict hoa dimacs l ≡ Yes) where
     pub read-accepted : (m : ℕ) → m ≡ countOf (linesOf dimacs) → readBy (linesOf hoa) m ≡ readOf hoa dimacs l
