@@ -21,7 +21,7 @@ none-state : isState [] ≡ false
 unfolding afterWord isOnly afterNumber isPlain digitCount
 none-state = refl
 
-end-no-state : (l : List ℕ) → isEnd l ≡ true → isState l ≡ false
+pub end-no-state : (l : List ℕ) → isEnd l ≡ true → isState l ≡ false
 unfolding afterWord isOnly afterNumber isPlain digitCount
 end-no-state [] e = refl
 end-no-state (x ∷ l) e = go (eqb x 45) refl e

@@ -26,12 +26,12 @@ and-false true = refl
 and-false false = refl
 
 -- Pieces of a list that is split after each b: all but the last end with b.
-abbrev Ends : ℕ → List ℕ → Type 0
+abbrev pub Ends : ℕ → List ℕ → Type 0
 Ends b [] = ⊥
 Ends b (x ∷ []) = x ≡ b
 Ends b (x ∷ y ∷ l) = Ends b (y ∷ l)
 
-abbrev EndAll : ℕ → List (List ℕ) → Type 0
+abbrev pub EndAll : ℕ → List (List ℕ) → Type 0
 EndAll b [] = Unit
 EndAll b (p ∷ []) = Unit
 EndAll b (p ∷ q ∷ ps) = Ends b p × EndAll b (q ∷ ps)
@@ -40,7 +40,7 @@ ends-more : (b x : ℕ) (p : List ℕ) → Ends b p → Ends b (x ∷ p)
 ends-more b x [] h = absurd h
 ends-more b x (y ∷ p) h = h
 
-split-ends : (b : ℕ) (l : List ℕ) → EndAll b (split b l)
+pub split-ends : (b : ℕ) (l : List ℕ) → EndAll b (split b l)
 unfolding split withByte
 split-ends b [] = tt
 split-ends b (x ∷ l) = go (eqb x b) refl (split b l) (split-ends b l)
@@ -57,19 +57,19 @@ ends-drop b zero l h = h
 ends-drop b (suc c) [] h = h
 ends-drop b (suc c) (x ∷ l) h = ends-more b x l (ends-drop b c l h)
 
-ends-one : (b c : ℕ) (l : List ℕ) → Ends b l → Ends c l → b ≡ c
+pub ends-one : (b c : ℕ) (l : List ℕ) → Ends b l → Ends c l → b ≡ c
 ends-one b c [] h k = absurd h
 ends-one b c (x ∷ []) h k = sym h ∙ k
 ends-one b c (x ∷ y ∷ l) h k = ends-one b c (y ∷ l) h k
 
 -- what is a closing brace ends with a line feed
-only-ends : (b : ℕ) (l : List ℕ) → isOnly b l ≡ true → Ends b l
+pub only-ends : (b : ℕ) (l : List ℕ) → isOnly b l ≡ true → Ends b l
 unfolding isOnly
 only-ends b [] e = conflict (sym e)
 only-ends b (x ∷ []) e = eqb-true x b e
 only-ends b (x ∷ y ∷ l) e = conflict (sym e)
 
-after-ends : (b : ℕ) (w l : List ℕ) → Ends b (afterWord w l) → Ends b l
+pub after-ends : (b : ℕ) (w l : List ℕ) → Ends b (afterWord w l) → Ends b l
 unfolding afterWord
 after-ends b [] l h = h
 after-ends b (w ∷ ws) [] h = h
@@ -79,7 +79,7 @@ after-ends b (w ∷ ws) (x ∷ l) h = go (eqb x w) (after-ends b ws l) h
     go true ih h = ends-more b x l (ih h)
     go false ih h = absurd h
 
-number-ends : (b : ℕ) (l : List ℕ) → Ends b (afterNumber l) → Ends b l
+pub number-ends : (b : ℕ) (l : List ℕ) → Ends b (afterNumber l) → Ends b l
 unfolding afterNumber
 number-ends b l h = go (isPlain (digitCount l)) h
   where
@@ -87,7 +87,7 @@ number-ends b l h = go (isPlain (digitCount l)) h
     go true h = ends-drop b (digitCount l) l h
     go false h = absurd h
 
-closed-ends : (p : List ℕ) → isWord closeBrace (afterNumber p) ≡ true → Ends feed p
+pub closed-ends : (p : List ℕ) → isWord closeBrace (afterNumber p) ≡ true → Ends feed p
 closed-ends p e = number-ends feed p (after-ends feed closeBrace (afterNumber p) (only-ends feed (afterWord closeBrace (afterNumber p)) e))
 
 -- the colours in braces that are right are below k
@@ -111,7 +111,7 @@ fed-inside [] e = refl
 fed-inside (x ∷ []) e = rw (eqb-true x feed e)
 fed-inside (x ∷ y ∷ r) e = conflict (sym e)
 
-fed-none : (l : List ℕ) → isOnly feed (targetTail l) ≡ true → coloursSaid l ≡ []
+pub fed-none : (l : List ℕ) → isOnly feed (targetTail l) ≡ true → coloursSaid l ≡ []
 unfolding coloursSaid isOnly afterWord split
 fed-none l e = rw (fed-inside (targetTail l) e)
 
