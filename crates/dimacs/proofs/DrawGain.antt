@@ -10,20 +10,11 @@ use lib.IntN.{ℤ, pos, negsuc}
 use lib.ListN.{length, take}
 use lib.Seq.{length-take-le}
 use Rattle.limits.specs.Ceilings.{digitsMost}
-use Rattle.fields.specs.Fields.{isDigit, digitCount, value, isPlain, numberOf}
-use Rattle.fields.proofs.Numbers.{digit-bounds, plain-bounds, digits-le, below-power}
+use Rattle.fields.specs.Fields.{digitCount, value, isPlain, numberOf}
+use Rattle.fields.proofs.Numbers.{plain-bounds, digits-le, below-power}
+use Rattle.fields.proofs.Forms.{leading}
 use Rattle.fields.proofs.Printed.{Digits}
 use Rattle.dimacs.specs.Lines.{weightField, isNegative, unsigned, signed, weightOn, partsOf, partsOn}
-
--- the digits that lead a list
-leading : (l : List ℕ) → Digits (take (digitCount l) l)
-unfolding digitCount
-leading [] = tt
-leading (x ∷ l) = go (isDigit x) refl (leading l)
-  where
-    go : (t : Bool) → isDigit x ≡ t → Digits (take (digitCount l) l) → Digits (take (cond t (suc (digitCount l)) 0) (x ∷ l))
-    go true e f = let (a, b) = digit-bounds x e in (a, b, f)
-    go false e f = tt
 
 value-below : (k v : ℕ) (l : List ℕ) → v < 10 ^ k → Digits l → value v l < 10 ^ (k + length l)
 unfolding value

@@ -11,7 +11,20 @@ use lib.Seq.{length-take-le}
 use borrow.Author.Tests.{eqb-true}
 use Rattle.limits.specs.Ceilings.{digitsMost}
 use Rattle.fields.specs.Bytes.{feed}
-use Rattle.fields.specs.Fields.{afterWord, isOnly, isDigit, digitCount, value, isPlain, numberOf, afterNumber, isWord, numberAfter, tailAfter, isNumbered}
+use Rattle.fields.specs.Fields.{
+  afterWord,
+  isOnly,
+  isDigit,
+  digitCount,
+  value,
+  isPlain,
+  numberOf,
+  afterNumber,
+  isWord,
+  numberAfter,
+  tailAfter,
+  isNumbered,
+}
 use Rattle.fields.proofs.Numbers.{digit-bounds, plain-bounds, digits-le}
 use Rattle.fields.proofs.Printed.{Digits}
 
