@@ -21,7 +21,7 @@ use Rattle.hoa.specs.Edges.{Below, EdgeFits, EdgesFit}
 use Rattle.dimacs.specs.Text.{TextArc, textArcOn}
 use Rattle.reading.specs.Agreement.{sameEnds, allSame}
 use Rattle.reading.specs.ModelRead.{arcRead, arcsRead}
-use Rattle.reading.specs.Within.{isHeavy, weightsVerdict, Narrow}
+use Rattle.reading.specs.Within.{outOfRange, weightsVerdict, Narrow}
 
 -- texts that agree have as many edges as `a` lines
 pub same-length : (es : List Edge) (ts : List TextArc) → allSame es ts ≡ true → length es ≡ length ts
@@ -108,7 +108,7 @@ module _ (n k : ℕ) (e : Edge) (a : TextArc) (fits : EdgeFits n k e) where
 -- 5 of the arcs that are read is that of the `a` lines
 pub weights-five : (n k : ℕ) (es : List Edge) (ls : List (List ℕ)) (i : ℕ) → length es ≡ length ls → EdgesFit n k es
     → arcsVerdict n (2 ^ k) (arcsRead es (map textArcOn ls)) i ≡ weightsVerdict ls i
-unfolding arcsRead arcsVerdict weightsVerdict isHeavy
+unfolding arcsRead arcsVerdict weightsVerdict outOfRange
 weights-five n k [] [] i e f = refl
 weights-five n k [] (l ∷ ls) i e f = absurd (omega arith)
 weights-five n k (x ∷ es) [] i e f = absurd (omega arith)

@@ -16,25 +16,25 @@ use Rattle.fields.proofs.Pieces.{split-at}
 use Rattle.fields.proofs.Places.{split-end}
 use Rattle.dimacs.specs.declared.Parts.{Parts}
 use Rattle.dimacs.specs.Lines.{weightOn, partsOn}
-use Rattle.reading.specs.Within.{isHeavy, weightsVerdict}
+use Rattle.reading.specs.Within.{outOfRange, weightsVerdict}
 
 -- a weight by its parts
 module _ (l : List ℕ) (p : Parts) (e : p ≡ partsOn l) where
-  pub heavy-draw : drawMost < p .draw → true ≡ isHeavy l
-  unfolding isHeavy
-  heavy-draw h = rw (lt-ltb drawMost (drawOf (weightOn l)) (subst (λ (q : Parts). drawMost < q .draw) e h)) refl
+  pub range-draw : drawMost < p .draw → true ≡ outOfRange l
+  unfolding outOfRange
+  range-draw h = rw (lt-ltb drawMost (drawOf (weightOn l)) (subst (λ (q : Parts). drawMost < q .draw) e h)) refl
 
-  pub heavy-gain : p .draw ≤ drawMost → ltb gainMost (p .gain) ≡ isHeavy l
-  unfolding isHeavy
-  heavy-gain h = rw (e, le-ltb drawMost (drawOf (weightOn l)) (subst (λ (q : Parts). q .draw ≤ drawMost) e h)) refl
+  pub range-gain : p .draw ≤ drawMost → ltb gainMost (p .gain) ≡ outOfRange l
+  unfolding outOfRange
+  range-gain h = rw (e, le-ltb drawMost (drawOf (weightOn l)) (subst (λ (q : Parts). q .draw ≤ drawMost) e h)) refl
 
 -- the line from place at to place e, and those after it
 module _ (s : List ℕ) (at e i : ℕ) (h : at < length s) (q : e ≡ at + pieceLength feed (drop at s)) where
-  pub weights-here : isHeavy (take (e - at) (drop at s)) ≡ true → weightsVerdict (linesOf (drop at s)) i ≡ Refused (UnfitArc i)
+  pub weights-here : outOfRange (take (e - at) (drop at s)) ≡ true → weightsVerdict (linesOf (drop at s)) i ≡ Refused (UnfitArc i)
   unfolding weightsVerdict
   weights-here z = rw (split-at feed s at e h q, z) refl
 
-  pub weights-later : isHeavy (take (e - at) (drop at s)) ≡ false → weightsVerdict (linesOf (drop at s)) i ≡ weightsVerdict (linesOf (drop e s)) (suc i)
+  pub weights-later : outOfRange (take (e - at) (drop at s)) ≡ false → weightsVerdict (linesOf (drop at s)) i ≡ weightsVerdict (linesOf (drop e s)) (suc i)
   unfolding weightsVerdict
   weights-later z = rw (split-at feed s at e h q, z) refl
 

@@ -36,13 +36,13 @@ pub record IsNext (text : List ℕ) (start mode : ℕ) (r : Next) : Type 0 where
       ≡ cond (r .found) (edgeOn (r .source) (take (r .to - r .from) (drop (r .from) text)) ∷ edgesFrom (r .source) (linesOf (drop (r .to) text))) []
 
 -- the weight on an `a` line is outside its range
-unfoldable pub isHeavy : List ℕ → Bool
-isHeavy l = ltb drawMost (drawOf (weightOn l)) || ltb gainMost (gainOf (weightOn l))
+unfoldable pub outOfRange : List ℕ → Bool
+outOfRange l = ltb drawMost (drawOf (weightOn l)) || ltb gainMost (gainOf (weightOn l))
 
 -- 5 of `a` lines, of which the first is line i: nothing else of an arc that is read can be unfit (law weights-five)
 unfoldable pub weightsVerdict : List (List ℕ) → ℕ → Verdict
 weightsVerdict [] i = Yes
-weightsVerdict (l ∷ ls) i = refuse (isHeavy l) (UnfitArc i) (weightsVerdict ls (suc i))
+weightsVerdict (l ∷ ls) i = refuse (outOfRange l) (UnfitArc i) (weightsVerdict ls (suc i))
 
 -- what is answered of a model of HOA text with m arcs that is read
 abbrev pub readBy : List (List ℕ) → ℕ → Reading

@@ -16,7 +16,7 @@ ghost use Rattle.dimacs.specs.Text.{textArcOn, IsProblemOf};
 ghost use Rattle.reading.specs.Agreement.{sameEnds, allSame};
 ghost use Rattle.reading.specs.ModelRead.{arcsRead};
 ghost use Rattle.reading.specs.Reading.{noRoom, readable, refusedBy, writtenFrom, readOf, readAnswer, listsRead};
-ghost use Rattle.reading.specs.Within.{edgeOn, IsNext, isHeavy, weightsVerdict, Fillable, readBy};
+ghost use Rattle.reading.specs.Within.{edgeOn, IsNext, outOfRange, weightsVerdict, Fillable, readBy};
 use dimacs::Problem;
 use fields::Bytes;
 use limits::Limits;
@@ -139,8 +139,8 @@ fn no_room(room: usize, count: u32) -> bool
 }
 
 // Whether the weight on an `a` line is outside its range.
-fn is_heavy(line: &[u8]) -> bool
-    ensures { λ r. ⌜ r ≡ isHeavy (now (line .entry)) ⌝ }
+fn is_out_of_range(line: &[u8]) -> bool
+    ensures { λ r. ⌜ r ≡ outOfRange (now (line .entry)) ⌝ }
 {
     let parts = dimacs::parts_on(line);
     if parts.draw > (Limits::DRAW as u32) {
@@ -158,7 +158,7 @@ fn check_weights(arcs: &[u8]) -> Verdict
     let mut i: u32 = 0;
     while at < arcs.len() {
         let e = fields::piece_end(arcs, at, Bytes::FEED);
-        if is_heavy(&arcs[at..e]) {
+        if is_out_of_range(&arcs[at..e]) {
             return Verdict::Refused(Refusal::UnfitArc(i));
         }
         at = e;

@@ -27,8 +27,8 @@ loop-holds c = (omega arith, omega arith, refl)
 piece-end-requires : tie.Need-piece-end-requires Inv-loop μ-loop
 piece-end-requires c κs = search needs
 
-sub-is-heavy : tie.Need-sub-is-heavy Inv-loop μ-loop
-sub-is-heavy c = search needs
+sub-is-out-of-range : tie.Need-sub-is-out-of-range Inv-loop μ-loop
+sub-is-out-of-range c = search needs
 
 -- where the line ends
 ends : (p : tie.After-piece-end Inv-loop μ-loop)
@@ -37,21 +37,21 @@ ends p =
     let d = p .before .before in
     end-bounds feed (d .before .before .args .arcs .now) (d .loop .at) (p .piece-end .result) (omega arith) (p .piece-end .ensures)
 
-part-is-heavy-start : tie.Need-part-is-heavy-start Inv-loop μ-loop
-part-is-heavy-start c = search needs
+part-is-out-of-range-start : tie.Need-part-is-out-of-range-start Inv-loop μ-loop
+part-is-out-of-range-start c = search needs
 
-part-is-heavy-end : tie.Need-part-is-heavy-end Inv-loop μ-loop
-part-is-heavy-end c = ends c .1
+part-is-out-of-range-end : tie.Need-part-is-out-of-range-end Inv-loop μ-loop
+part-is-out-of-range-end c = ends c .1
 
-is-heavy-requires : tie.Need-is-heavy-requires Inv-loop μ-loop
-is-heavy-requires c κs = search needs
+is-out-of-range-requires : tie.Need-is-out-of-range-requires Inv-loop μ-loop
+is-out-of-range-requires c κs = search needs
 
 returns : tie.Need-returns Inv-loop μ-loop
 returns c =
     let p = c .before .before .before in
     let d = p .before .before in
     sym (d .loop .inv .2 ∙ weights-here (d .before .before .args .arcs .now) (d .loop .at) (p .piece-end .result) (d .loop .i) (omega arith)
-    (p .piece-end .ensures) (sym (c .before .is-heavy .ensures) ∙ c .if1 .taken))
+    (p .piece-end .ensures) (sym (c .before .is-out-of-range .ensures) ∙ c .if1 .taken))
 
 -- the lines that are left
 left : (p : tie.After-piece-end Inv-loop μ-loop) → length (linesOf (drop (p .before .before .loop .at) (p .before .before .before .before .args .arcs .now)))
@@ -77,7 +77,7 @@ loop-again c =
       omega (arith, left p, d .loop .inv .1),
       d .loop .inv .2
           ∙ rw (add-one (d .loop .i)) (weights-later (d .before .before .args .arcs .now) (d .loop .at) (p .piece-end .result) (d .loop .i) (omega arith)
-          (p .piece-end .ensures) (sym (c .before .is-heavy .ensures) ∙ c .if1 .left)),
+          (p .piece-end .ensures) (sym (c .before .is-out-of-range .ensures) ∙ c .if1 .left)),
     )
 
 returns-2 : tie.Need-returns-2 Inv-loop μ-loop
@@ -93,10 +93,10 @@ check-weights-spec =
     μ-loop
     loop-holds
     piece-end-requires
-    sub-is-heavy
-    part-is-heavy-start
-    part-is-heavy-end
-    is-heavy-requires
+    sub-is-out-of-range
+    part-is-out-of-range-start
+    part-is-out-of-range-end
+    is-out-of-range-requires
     returns
     add-i
     loop-less
