@@ -43,8 +43,8 @@ abbrev pub deskWalked : ℕ → ℕ → ℕ → Lists → ℕ → ℕ → ℕ �
 deskWalked n s k l b c p q w j t = walkWord (walkOf n s k l b c p q w j t)
 
 -- what reading answers: number and detail, and the numbers of the model read, "0 for n, start mode, k and m" where it is refused
-abbrev pub readBy : Answer → Reading → Read
-readBy a x = record { number = a .number; detail = a .detail; n = x .modes; start = x .start; k = x .colours; m = x .count }
+abbrev pub readWith : Answer → Reading → Read
+readWith a x = record { number = a .number; detail = a .detail; n = x .modes; start = x .start; k = x .colours; m = x .count }
 
 abbrev pub deskRead : List ℕ → List ℕ → Lists → Read
-deskRead hoa dimacs l = readBy (readAnswer hoa dimacs l) (readOf hoa dimacs l)
+deskRead hoa dimacs l = readWith (readAnswer hoa dimacs l) (readOf hoa dimacs l)

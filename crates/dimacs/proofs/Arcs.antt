@@ -36,15 +36,15 @@ comments-end (l ∷ ls) = go (isComment l) refl (comments-end ls)
     go false e f = e
 
 -- the arc of no line
-abbrev pub noArc : TextArc
-noArc = record { from = 0; to = 0; weight = pos 0 }
+abbrev pub noTextArc : TextArc
+noTextArc = record { from = 0; to = 0; weight = pos 0 }
 
-nothing-said : textArcOn [] ≡ noArc
+nothing-said : textArcOn [] ≡ noTextArc
 unfolding afterWord numberOf afterNumber isPlain digitCount isNegative unsigned
 nothing-said = refl
 
 -- the i-th arc is what the i-th line after the `p` line says
-pub arc-said : (ls : List (List ℕ)) (i : ℕ) → getD (textArcsOf ls) i noArc ≡ textArcOn (lineOf ls (suc (comments ls) + i))
+pub arc-said : (ls : List (List ℕ)) (i : ℕ) → getD (textArcsOf ls) i noTextArc ≡ textArcOn (lineOf ls (suc (comments ls) + i))
 arc-said ls i =
     rw (← nothing-said)
     (List·getD-map textArcOn (arcLines ls) i [] ∙ ap textArcOn (getD-drop (suc (comments ls)) ls i []))
@@ -60,7 +60,7 @@ abbrev pub AllModesFit : ℕ → List TextArc → Type 0
 AllModesFit n [] = Unit
 AllModesFit n (a ∷ l) = ModesFit n a × AllModesFit n l
 
-pub modes-fit-at : (n : ℕ) (l : List TextArc) (i : ℕ) → AllModesFit n l → i < length l → ModesFit n (getD l i noArc)
+pub modes-fit-at : (n : ℕ) (l : List TextArc) (i : ℕ) → AllModesFit n l → i < length l → ModesFit n (getD l i noTextArc)
 modes-fit-at n [] i f h = absurd (omega arith)
 modes-fit-at n (a ∷ l) zero f h = f .0
 modes-fit-at n (a ∷ l) (suc i) f h = modes-fit-at n l i (f .1) (omega arith)

@@ -35,16 +35,16 @@ pub feed-ends : digitCount (10 ∷ []) ≡ 0
 unfolding digitCount isDigit
 feed-ends = refl
 
--- a numbered line, without its line feed
-abbrev pub numbered : List ℕ → ℕ → List ℕ
-numbered w x = w ++ num x
+-- a word and a number, without a line feed
+abbrev pub numberedWord : List ℕ → ℕ → List ℕ
+numberedWord w x = w ++ num x
 
 module _ (w : List ℕ) (x : ℕ) (low : Small x) where
-  pub numbered-is : isNumbered w (ended (numbered w x)) ≡ true
+  pub numbered-is : isNumbered w (ended (numberedWord w x)) ≡ true
   unfolding isOnly
   numbered-is = rw (append-assoc w (num x) (10 ∷ []), tail-back w x (10 ∷ []) low feed-ends)
 
-  pub numbered-says : numberAfter w (ended (numbered w x)) ≡ x
+  pub numbered-says : numberAfter w (ended (numberedWord w x)) ≡ x
   numbered-says = rw (append-assoc w (num x) (10 ∷ [])) (number-back w x (10 ∷ []) low feed-ends)
 
 pub blank-ends : (l : List ℕ) → digitCount (32 ∷ l) ≡ 0
@@ -75,5 +75,5 @@ free-word b (x ∷ l) e = go (eqb x b) refl e (free-word b l)
 pub num-line : (x : ℕ) → Free 10 (num x)
 num-line x = digits-free 10 (num x) (omega arith) (printed-digits 5 x)
 
-pub numbered-line : (w : List ℕ) (x : ℕ) → freeb 10 w ≡ true → Free 10 (numbered w x)
+pub numbered-line : (w : List ℕ) (x : ℕ) → freeb 10 w ≡ true → Free 10 (numberedWord w x)
 numbered-line w x e = free-append 10 w (num x) (free-word 10 w e) (num-line x)

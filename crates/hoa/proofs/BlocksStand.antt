@@ -10,7 +10,7 @@ use lib.ListN.{length}
 use borrow.Author.Tests.{lt-ltb, eqb-true}
 use Rattle.fields.specs.Fields.{lineOf}
 use Rattle.fields.proofs.Pieces.{ended}
-use Rattle.fields.proofs.Num.{numbered, numbered-is, numbered-says}
+use Rattle.fields.proofs.Num.{numberedWord, numbered-is, numbered-says}
 use Rattle.hoa.specs.Words.{stateWord}
 use Rattle.hoa.specs.Lines.{isState, stateOf}
 use Rattle.hoa.specs.Text.{opensBlock, hasBlock, isNewBlock, mayStand}
@@ -30,6 +30,6 @@ block-at m (l ∷ ls) e = go (opensBlock m l) refl e (block-at m ls)
     go false z r f = let (j, h, a, b) = f r in (suc j, omega arith, a, b)
 
 pub state-stands : (n k s : ℕ) (before : List (List ℕ)) → n ≤ 100000 → s < n → hasBlock s before ≡ false
-    → mayStand n k before (ended (numbered stateWord s)) ≡ true
+    → mayStand n k before (ended (numberedWord stateWord s)) ≡ true
 unfolding mayStand isNewBlock
 state-stands n k s before many h e = rw (numbered-is stateWord s (omega arith), numbered-says stateWord s (omega arith), lt-ltb s n h, e) refl

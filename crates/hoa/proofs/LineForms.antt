@@ -12,7 +12,7 @@ use borrow.Author.Tests.{lt-ltb, eqb-true}
 use Rattle.fields.specs.Bytes.{feed, blank, ampersand}
 use Rattle.fields.specs.Fields.{afterWord, isOnly, digitCount, isPlain, numberOf, afterNumber, split, isWord}
 use Rattle.fields.proofs.Pieces.{ended}
-use Rattle.fields.proofs.Num.{numbered, numbered-is, numbered-says}
+use Rattle.fields.proofs.Num.{numberedWord, numbered-is, numbered-says}
 use Rattle.fields.proofs.Forms.{Plain, only-form, word-form, plain-form, plain-some, plain-last, tail-form, word-line}
 use Rattle.hoa.specs.Words.{edgeWord, openBrace, closeBrace, infWord, closeWord, acceptWord, blankWord, trueWord}
 use Rattle.hoa.specs.Lines.{
@@ -35,7 +35,7 @@ use Rattle.hoa.proofs.EdgeLines.{conflict, both, Ends, EndAll, split-en
 use Rattle.hoa.proofs.BlockOnce.{end-no-state}
 
 -- an edge's line without braces
-pub edge-bare : (n k t : ℕ) → n ≤ 100000 → t < n → isEdge n k (ended (numbered edgeWord t)) ≡ true
+pub edge-bare : (n k t : ℕ) → n ≤ 100000 → t < n → isEdge n k (ended (numberedWord edgeWord t)) ≡ true
 unfolding isEdge
 edge-bare n k t many h = rw (numbered-says edgeWord t (omega arith), numbered-is edgeWord t (omega arith), lt-ltb t n h) refl
 

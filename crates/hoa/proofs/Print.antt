@@ -1,4 +1,4 @@
--- Lines that are printed read back: numbered lines, edges and acceptance. Numbers are printed with five digits. Assumes nothing.
+-- Lines that are printed read back: lines with a number, edges and acceptance. Numbers are printed with five digits. Assumes nothing.
 use mathlib.Core.Path.{_≡_, refl, ap}
 use mathlib.Core.Bool.{Bool, true, false, _||_}
 use mathlib.Core.List.{List, [], _∷_, _++_, append-assoc, map}

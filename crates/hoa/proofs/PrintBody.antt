@@ -9,7 +9,7 @@ use lib.ListN.{length, length-append}
 use borrow.Author.Tests.{lt-ltb, eqb-true}
 use Rattle.fields.specs.Fields.{afterWord, isOnly, digitCount, isPlain, afterNumber}
 use Rattle.fields.proofs.Pieces.{ended}
-use Rattle.fields.proofs.Num.{Small, numbered, numbered-is, numbered-says}
+use Rattle.fields.proofs.Num.{Small, numberedWord, numbered-is, numbered-says}
 use Rattle.hoa.specs.Words.{stateWord, endWord}
 use Rattle.hoa.specs.Lines.{isState}
 use Rattle.hoa.specs.Text.{Edge, contains, edgesFrom, opensBlock, hasBlock, isNewBlock, mayStand, isEnd, bodyWrong}
@@ -18,7 +18,7 @@ use Rattle.hoa.proofs.BlockLines.{block-more}
 use Rattle.hoa.proofs.Print.{edged, edge-back, edge-target, edge-colours}
 
 abbrev pub stated : ℕ → List ℕ
-stated i = numbered stateWord i
+stated i = numberedWord stateWord i
 
 abbrev pub edgeText : Edge → List ℕ
 edgeText e = edged (e .target) (e .colours)

@@ -9,7 +9,7 @@ use Rattle.fields.specs.Bytes.{feed, blank, ampersand}
 use Rattle.fields.specs.Fields.{afterWord, isOnly, linesOf}
 use Rattle.fields.proofs.Pieces.{Free, FreeAll, ended, textOf, lines-of}
 use Rattle.fields.proofs.Printed.{free-append}
-use Rattle.fields.proofs.Num.{Small, num, numbered, numbered-is, numbered-says, freeb, free-word, num-line, numbered-line}
+use Rattle.fields.proofs.Num.{Small, num, numberedWord, numbered-is, numbered-says, freeb, free-word, num-line, numbered-line}
 use Rattle.hoa.specs.Words.{hoaWord, statesWord, startWord, apWord, acceptWord, blankWord, bodyWord, endWord, stateWord, edgeWord, openBrace, infWord, closeWord}
 use Rattle.hoa.specs.Text.{Edge, edgesOf, headWrong, bodyWrong, hoaWrong, modesOf, startOf, coloursOf}
 use Rattle.hoa.specs.Edges.{EdgesFit}
@@ -69,7 +69,7 @@ body-lines (e ∷ es) =
 
 -- the lines of a text, each without its line feed
 abbrev pub hoaLines : ℕ → ℕ → ℕ → List Edge → List (List ℕ)
-hoaLines n s k es = hoaWord ∷ numbered statesWord n ∷ numbered startWord s ∷ apWord ∷ accepting k ∷ bodyWord ∷ bodyText es
+hoaLines n s k es = hoaWord ∷ numberedWord statesWord n ∷ numberedWord startWord s ∷ apWord ∷ accepting k ∷ bodyWord ∷ bodyText es
 
 abbrev pub hoaText : ℕ → ℕ → ℕ → List Edge → List ℕ
 hoaText n s k es = textOf (hoaLines n s k es)

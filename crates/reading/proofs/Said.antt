@@ -33,7 +33,7 @@ use Rattle.reading.proofs.Verdicts.{edges-count, arcs-count, readable-y
 
 -- arc i is that of edge i and `a` line i
 read-at : (es : List Edge) (ts : List TextArc) (i : ℕ) → i < length es → i < length ts
-    → getD (arcsRead es ts) i noArc ≡ arcRead (getD es i noEdge) (getD ts i dimacs-arcs.noArc)
+    → getD (arcsRead es ts) i noArc ≡ arcRead (getD es i noEdge) (getD ts i dimacs-arcs.noTextArc)
 unfolding arcsRead
 read-at [] ts i h q = absurd (omega arith)
 read-at (e ∷ es) [] i h q = absurd (omega arith)
@@ -42,7 +42,7 @@ read-at (e ∷ es) (t ∷ ts) (suc i) h q = read-at es ts i (omega arith) (omega
 
 -- whose ends are the same
 same-at : (es : List Edge) (ts : List TextArc) (i : ℕ) → allSame es ts ≡ true → i < length es
-    → sameEnds (getD es i noEdge) (getD ts i dimacs-arcs.noArc) ≡ true
+    → sameEnds (getD es i noEdge) (getD ts i dimacs-arcs.noTextArc) ≡ true
 unfolding allSame
 same-at [] ts i e h = absurd (omega arith)
 same-at (x ∷ es) [] i e h = clash (cc)
@@ -72,7 +72,7 @@ module _ (h d : List (List ℕ)) (right : hoa.hoaWrong h ≡ 0) (too : dimacs.di
       let ts = textArcsOf d in
       let e = getD es i noEdge in
       let long : i < length ts = omega (arith, edges-count h d same, length-map (arcLines d) textArcOn) in
-      let line : getD ts i dimacs-arcs.noArc ≡ textArcOn (arcLine d i) = arc-said d i in
+      let line : getD ts i dimacs-arcs.noTextArc ≡ textArcOn (arcLine d i) = arc-said d i in
       let arc : arcAt (modelIn h d) i ≡ arcRead e (textArcOn (arcLine d i)) =
       read-at es ts i q long ∙ ap {B = Arc} (arcRead e) line in
       let ends : sameEnds e (textArcOn (arcLine d i)) ≡ true =

@@ -17,7 +17,7 @@ use Rattle.hoa.proofs.Edges.{edge-said, edge-count}
 use Rattle.hoa.proofs.EdgeOne.{edge-one}
 use Rattle.dimacs.specs.Text.{TextArc, textArcOn, textArcsOf, arcLines, dimacsWrong}
 use Rattle.dimacs.specs.Text as dimacs
-use Rattle.dimacs.proofs.Arcs.{noArc, arc-said, dimacs-right}
+use Rattle.dimacs.proofs.Arcs.{noTextArc, arc-said, dimacs-right}
 use Rattle.reading.specs.Agreement.{sameEnds, allSame, agree}
 use Rattle.reading.specs.ModelRead.{modelIn}
 use Rattle.reading.specs.Said.{arcLine, Said}
@@ -29,7 +29,7 @@ ends-same e a from to = rw (eq-eqb (suc (e .source)) (a .from) from, eq-eqb (suc
 
 -- as many edges as `a` lines, with the same ends at each place
 all-same : (es : List Edge) (ts : List TextArc) → length es ≡ length ts
-    → ((i : ℕ) → i < length es → sameEnds (getD es i noEdge) (getD ts i noArc) ≡ true) → allSame es ts ≡ true
+    → ((i : ℕ) → i < length es → sameEnds (getD es i noEdge) (getD ts i noTextArc) ≡ true) → allSame es ts ≡ true
 unfolding allSame
 all-same [] [] long f = refl
 all-same [] (t ∷ ts) long f = absurd (omega (arith, long))
@@ -49,7 +49,7 @@ module _ (h d : List (List ℕ)) (right : hoaWrong h ≡ 0) (too : dimacsWrong d
     lines-said = length-map (arcLines d) textArcOn ∙ dimacs-right d too .0 ∙ sym (said .count)
 
     -- the same ends at each place,
-    ends-said : (i : ℕ) → i < length (edgesOf h) → sameEnds (getD (edgesOf h) i noEdge) (getD (textArcsOf d) i noArc) ≡ true
+    ends-said : (i : ℕ) → i < length (edgesOf h) → sameEnds (getD (edgesOf h) i noEdge) (getD (textArcsOf d) i noTextArc) ≡ true
     ends-said i q =
         let e = getD (edgesOf h) i noEdge in
         let arc = said .arcs i (omega (arith, edges-said)) in

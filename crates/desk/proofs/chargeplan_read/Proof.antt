@@ -3,7 +3,7 @@ use mathlib.Core.Path.{_≡_, refl, _∙_}
 use borrow.Author.Needs.{needs}
 use Rattle.refusals.specs.declared.Answer.{Answer}
 use Rattle.reading.specs.declared.Reading.{Reading}
-use Rattle.desk.specs.Desk.{readBy}
+use Rattle.desk.specs.Desk.{readWith}
 use Rattle.desk.proofs.chargeplan_read.Statement.{statement}
 use Rattle.desk.proofs.chargeplan_read.Tie as tie
 
@@ -29,7 +29,7 @@ same-length-5 : tie.Need-same-length-5
 same-length-5 c = search needs
 
 -- equal answers and readings
-read-same : {a b : Answer} {x y : Reading} → a ≡ b → x ≡ y → readBy a x ≡ readBy b y
+read-same : {a b : Answer} {x y : Reading} → a ≡ b → x ≡ y → readWith a x ≡ readWith b y
 read-same ea ex = rw (ea, ex) refl
 
 returns : tie.Need-returns
