@@ -1,6 +1,6 @@
 -- "one block at most for each state": two `State:` lines of a text that is right have two modes. Assumes nothing.
 use mathlib.Core.Path.{_≡_, refl, sym, _∙_}
-use mathlib.Core.Bool.{Bool, true, false, cond, _||_}
+use mathlib.Core.Bool.{Bool, true, false, cond, or-true}
 use mathlib.Core.List.{List, [], _∷_, _++_}
 use Prim.Native.Nat.{ℕ, suc, _+_, _-_, _≤_, _<_}
 use native.Mathlib.Decide.{decLe}
@@ -37,10 +37,6 @@ kept m ls l e = block-more m ls l ∙ rw e
 added : (ls : List (List ℕ)) (l : List ℕ) → isState l ≡ true → hasBlock (stateOf l) (ls ++ l ∷ []) ≡ true
 unfolding opensBlock
 added ls l e = block-more (stateOf l) ls l ∙ rw (e, eq-eqb (stateOf l) (stateOf l) refl) (or-true (hasBlock (stateOf l) ls))
-  where
-    or-true : (t : Bool) → (t || true) ≡ true
-    or-true true = refl
-    or-true false = refl
 
 module _ (ls : List (List ℕ)) (n k : ℕ) where
   -- line j of the body, and the lines after it

@@ -11,10 +11,11 @@ use borrow.Author.Tests.{lt-ltb, eqb-true}
 use Rattle.fields.specs.Fields.{lineOf}
 use Rattle.fields.proofs.Pieces.{ended}
 use Rattle.fields.proofs.Num.{numberedWord, numbered-is, numbered-says}
+use Rattle.fields.proofs.Numbers.{both}
 use Rattle.hoa.specs.Words.{stateWord}
 use Rattle.hoa.specs.Lines.{isState, stateOf}
 use Rattle.hoa.specs.Text.{opensBlock, hasBlock, isNewBlock, mayStand}
-use Rattle.hoa.proofs.EdgeLines.{conflict, both}
+use Rattle.hoa.proofs.EdgeLines.{conflict}
 
 -- the line that opens the block
 pub block-at : (m : ℕ) (ls : List (List ℕ)) → hasBlock m ls ≡ true

@@ -1,12 +1,15 @@
 -- The colours in braces, piece by piece. Assumes nothing.
-use mathlib.Core.Path.{_≡_, refl}
+use mathlib.Core.Path.{_≡_, refl, sym, ap, _∙_}
 use mathlib.Core.Bool.{Bool, true, false, cond, _&&_, _||_}
 use mathlib.Core.List.{List, [], _∷_, map}
-use Prim.Native.Nat.{ℕ, zero, suc, _+_, _-_, _/_, _%_, _^_, _≤_, _<_}
+use Prim.Native.Nat.{ℕ, zero, suc, _+_, _-_, _^_, _≤_, _<_}
 use native.Mathlib.Omega.{arith}
 use lib.Dec.{ltb, eqb}
 use lib.ListN.{length, take, drop, drop-of-length-le}
 use borrow.Author.Tests.{lt-ltb, le-ltb}
+use Rattle.limits.specs.Ceilings.{coloursMost}
+use Rattle.model.specs.Automaton.{bit}
+use Rattle.model.proofs.Bits.{colours-below}
 use Rattle.fields.specs.Bytes.{feed, blank}
 use Rattle.fields.specs.Fields.{afterWord, isOnly, numberOf, afterNumber, split, pieceLength, isWord}
 use Rattle.fields.proofs.Pieces.{split-at}
@@ -69,42 +72,40 @@ pub byte-pieces : (l r : List ℕ) → r ≡ inside l → isWord closeBrace r �
 unfolding coloursSaid
 byte-pieces l r e h = rw (← e, h)
 
--- "a colour byte whose bit j says that the arc meets colour j": the four bits of the byte are the four colours
-abbrev bitOf : ℕ → ℕ → Bool
-bitOf j x = eqb (x / 2 ^ j % 2) 1
+-- a byte of four bits
+byte-bits : (p q r s : Bool) → (x : ℕ) × (x ≡ cond p 1 0 + cond q 2 0 + cond r 4 0 + cond s 8 0)
+    × (bit x 0 ≡ p) × (bit x 1 ≡ q) × (bit x 2 ≡ r) × (bit x 3 ≡ s) × (x < 2 ^ coloursMost)
+byte-bits false false false false = (0, refl, refl, refl, refl, refl, omega arith)
+byte-bits true false false false = (1, refl, refl, refl, refl, refl, omega arith)
+byte-bits false true false false = (2, refl, refl, refl, refl, refl, omega arith)
+byte-bits true true false false = (3, refl, refl, refl, refl, refl, omega arith)
+byte-bits false false true false = (4, refl, refl, refl, refl, refl, omega arith)
+byte-bits true false true false = (5, refl, refl, refl, refl, refl, omega arith)
+byte-bits false true true false = (6, refl, refl, refl, refl, refl, omega arith)
+byte-bits true true true false = (7, refl, refl, refl, refl, refl, omega arith)
+byte-bits false false false true = (8, refl, refl, refl, refl, refl, omega arith)
+byte-bits true false false true = (9, refl, refl, refl, refl, refl, omega arith)
+byte-bits false true false true = (10, refl, refl, refl, refl, refl, omega arith)
+byte-bits true true false true = (11, refl, refl, refl, refl, refl, omega arith)
+byte-bits false false true true = (12, refl, refl, refl, refl, refl, omega arith)
+byte-bits true false true true = (13, refl, refl, refl, refl, refl, omega arith)
+byte-bits false true true true = (14, refl, refl, refl, refl, refl, omega arith)
+byte-bits true true true true = (15, refl, refl, refl, refl, refl, omega arith)
 
-Bits : Bool → Bool → Bool → Bool → ℕ → Type 0
-Bits a b c d x = (bitOf 0 x ≡ a) × (bitOf 1 x ≡ b) × (bitOf 2 x ≡ c) × (bitOf 3 x ≡ d)
-
-bits : (a b c d : Bool) → Bits a b c d (cond a 1 0 + cond b 2 0 + cond c 4 0 + cond d 8 0)
-unfolding Bits
-bits true true true true = (refl, refl, refl, refl)
-bits true true true false = (refl, refl, refl, refl)
-bits true true false true = (refl, refl, refl, refl)
-bits true true false false = (refl, refl, refl, refl)
-bits true false true true = (refl, refl, refl, refl)
-bits true false true false = (refl, refl, refl, refl)
-bits true false false true = (refl, refl, refl, refl)
-bits true false false false = (refl, refl, refl, refl)
-bits false true true true = (refl, refl, refl, refl)
-bits false true true false = (refl, refl, refl, refl)
-bits false true false true = (refl, refl, refl, refl)
-bits false true false false = (refl, refl, refl, refl)
-bits false false true true = (refl, refl, refl, refl)
-bits false false true false = (refl, refl, refl, refl)
-bits false false false true = (refl, refl, refl, refl)
-bits false false false false = (refl, refl, refl, refl)
-
-pub byte-says : (cs : List ℕ) (j : ℕ) → j < 4 → eqb (colourByte cs / 2 ^ j % 2) 1 ≡ contains j cs
-unfolding colourByte Bits
-byte-says cs j h = go j h
+-- "a colour byte whose bit j says that the arc meets colour j": the bits of the byte are the colours in the braces, for the four that a model may
+-- have, and no others
+pub colour-bit : (cs : List ℕ) (j : ℕ) → bit (colourByte cs) j ≡ (ltb j coloursMost && contains j cs)
+unfolding colourByte
+colour-bit cs j =
+    let (x, e, b0, b1, b2, b3, low) = byte-bits (contains 0 cs) (contains 1 cs) (contains 2 cs) (contains 3 cs) in
+    ap {B = Bool} (λ (y : ℕ). bit y j) (sym e) ∙ go x b0 b1 b2 b3 low j
   where
-    said : Bits (contains 0 cs) (contains 1 cs) (contains 2 cs) (contains 3 cs) (colourByte cs)
-    said = bits (contains 0 cs) (contains 1 cs) (contains 2 cs) (contains 3 cs)
-
-    go : (j : ℕ) → j < 4 → bitOf j (colourByte cs) ≡ contains j cs
-    go zero h = said .0
-    go (suc zero) h = said .1
-    go (suc (suc zero)) h = said .2
-    go (suc (suc (suc zero))) h = said .3
-    go (suc (suc (suc (suc j)))) h = absurd (omega arith)
+    go : (x : ℕ) → bit x 0 ≡ contains 0 cs → bit x 1 ≡ contains 1 cs → bit x 2 ≡ contains 2 cs → bit x 3 ≡ contains 3 cs → x < 2 ^ coloursMost
+        → (j : ℕ) → bit x j ≡ (ltb j coloursMost && contains j cs)
+    go x b0 b1 b2 b3 low zero = b0
+    go x b0 b1 b2 b3 low (suc zero) = b1
+    go x b0 b1 b2 b3 low (suc (suc zero)) = b2
+    go x b0 b1 b2 b3 low (suc (suc (suc zero))) = b3
+    go x b0 b1 b2 b3 low (suc (suc (suc (suc j)))) =
+        let high = suc (suc (suc (suc j))) in
+        rw (le-ltb high coloursMost (omega arith)) (colours-below x coloursMost .0 low high (omega arith))

@@ -1,7 +1,7 @@
 -- The number of a wrong line: "the first such line counted from 1 as detail (one past the last line where the text ends early)". Document 02,
 -- Ask 1. Assumes nothing.
 use mathlib.Core.Path.{_≡_, refl, sym, ap, subst, _∙_}
-use mathlib.Core.Bool.{Bool, true, false, not, cond, _||_}
+use mathlib.Core.Bool.{Bool, true, false, not, cond, _||_, and-false}
 use mathlib.Core.List.{List, [], _∷_, _++_}
 use mathlib.Core.Logic.{inl, inr}
 use Prim.Native.Nat.{ℕ, zero, suc, _+_, _-_, _≤_, _<_}
@@ -16,7 +16,7 @@ use Rattle.fields.proofs.Places.{Begins, begins}
 use Rattle.hoa.specs.Lines.{areColours, isBraces, isEdge, isAcceptance}
 use Rattle.hoa.specs.Text.{isNewBlock, mayStand, isEnd, bodyWrong, headWrong, hoaWrong, modesOf, coloursOf}
 use Rattle.hoa.specs.Forms.{headForms, isHead, NoEnd, InForms, FirstWrong, NoneWrong}
-use Rattle.hoa.proofs.EdgeLines.{conflict, and-false}
+use Rattle.hoa.proofs.EdgeLines.{conflict}
 
 -- no form takes a line that is not there
 none-head : (j : ℕ) → getD headForms j (λ l. false) [] ≡ false

@@ -1,6 +1,6 @@
 -- An edge's line that is right: its target is below n and its colours below k, and it is no `State:` line. Assumes nothing.
 use mathlib.Core.Path.{_≡_, refl, sym, _∙_}
-use mathlib.Core.Bool.{Bool, true, false, cond, _&&_, _||_}
+use mathlib.Core.Bool.{Bool, true, false, cond, _&&_, _||_, and-false}
 use mathlib.Core.List.{List, [], _∷_, map}
 use Prim.Native.Nat.{ℕ, zero, suc, _<_}
 use native.Mathlib.Omega.{arith}
@@ -9,6 +9,7 @@ use lib.ListN.{drop}
 use borrow.Author.Tests.{ltb-true, eqb-true}
 use Rattle.fields.specs.Bytes.{feed, blank}
 use Rattle.fields.specs.Fields.{afterWord, isOnly, digitCount, isPlain, numberOf, afterNumber, withByte, split, isWord}
+use Rattle.fields.proofs.Numbers.{both}
 use Rattle.hoa.specs.Words.{closeBrace, openBrace}
 use Rattle.hoa.specs.Lines.{isState, targetOf, targetTail, inside, areColours, isBraces, isEdge}
 use Rattle.hoa.specs.Text.{coloursSaid}
@@ -16,14 +17,6 @@ use Rattle.hoa.specs.Edges.{Below}
 
 pub conflict : {A : Type 0} → true ≡ false → A
 conflict e = absurd (let z : _≡_ {A = ℕ} 0 1 = cc in omega arith)
-
-pub both : (s t : Bool) → (s && t) ≡ true → (s ≡ true) × (t ≡ true)
-both true t e = (refl, e)
-both false t e = conflict (sym e)
-
-pub and-false : (t : Bool) → (t && false) ≡ false
-and-false true = refl
-and-false false = refl
 
 -- Pieces of a list that is split after each b: all but the last end with b.
 abbrev pub Ends : ℕ → List ℕ → Type 0

@@ -14,6 +14,7 @@ use Rattle.fields.specs.Fields.{afterWord, isOnly, digitCount, isPlain, numberO
 use Rattle.fields.proofs.Pieces.{ended}
 use Rattle.fields.proofs.Num.{numberedWord, numbered-is, numbered-says}
 use Rattle.fields.proofs.Forms.{Plain, only-form, word-form, plain-form, plain-some, plain-last, tail-form, word-line}
+use Rattle.fields.proofs.Numbers.{both}
 use Rattle.hoa.specs.Words.{edgeWord, openBrace, closeBrace, infWord, closeWord, acceptWord, blankWord, trueWord}
 use Rattle.hoa.specs.Lines.{
   targetOf,
@@ -31,7 +32,7 @@ use Rattle.hoa.specs.Lines.{
 }
 use Rattle.hoa.specs.Text.{isEnd, edgesFrom, coloursSaid}
 use Rattle.hoa.specs.Edges.{noEdge}
-use Rattle.hoa.proofs.EdgeLines.{conflict, both, Ends, EndAll, split-ends, ends-one, only-ends, after-ends, number-ends, closed-ends}
+use Rattle.hoa.proofs.EdgeLines.{conflict, Ends, EndAll, split-ends, ends-one, only-ends, after-ends, number-ends, closed-ends}
 use Rattle.hoa.proofs.BlockOnce.{end-no-state}
 
 -- an edge's line without braces

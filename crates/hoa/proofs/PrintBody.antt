@@ -7,6 +7,7 @@ use native.Mathlib.Omega.{arith}
 use lib.Dec.{eqb}
 use lib.ListN.{length, length-append}
 use borrow.Author.Tests.{lt-ltb, eqb-true}
+use Rattle.refusals.proofs.Tests.{or-no}
 use Rattle.fields.specs.Fields.{afterWord, isOnly, digitCount, isPlain, afterNumber}
 use Rattle.fields.proofs.Pieces.{ended}
 use Rattle.fields.proofs.Num.{Small, numberedWord, numbered-is, numbered-says}
@@ -79,22 +80,18 @@ opens-state m i low = rw (numbered-is stateWord i low, numbered-says stateWord i
 abbrev pub OnlyThese : List ℕ → List (List ℕ) → Type 0
 OnlyThese v ls = (m : ℕ) → contains m v ≡ false → hasBlock m ls ≡ false
 
-neither : (s t : Bool) → (s || t) ≡ false → (s ≡ false) × (t ≡ false)
-neither true t e = absurd (let z : _≡_ {A = ℕ} 0 1 = cc in omega arith)
-neither false t e = (refl, e)
-
 these-same : (v : List ℕ) (ls : List (List ℕ)) (t : ℕ) (cs : List ℕ) → OnlyThese v ls → OnlyThese v (ls ++ ended (edged t cs) ∷ [])
 these-same v ls t cs f m h = block-more m ls (ended (edged t cs)) ∙ rw (f m h) (opens-edge m t cs)
 
 these-edge : (v : List ℕ) (ls : List (List ℕ)) (s t : ℕ) (cs : List ℕ) → OnlyThese v ls → OnlyThese (s ∷ v) (ls ++ ended (edged t cs) ∷ [])
 unfolding contains
 these-edge v ls s t cs f m h =
-    block-more m ls (ended (edged t cs)) ∙ rw (f m (neither (eqb m s) (contains m v) h .1)) (opens-edge m t cs)
+    block-more m ls (ended (edged t cs)) ∙ rw (f m (or-no (eqb m s) (contains m v) .0 h .1)) (opens-edge m t cs)
 
 these-state : (v : List ℕ) (ls : List (List ℕ)) (s : ℕ) → Small s → OnlyThese v ls → OnlyThese (s ∷ v) (ls ++ ended (stated s) ∷ [])
 unfolding contains
 these-state v ls s low f m h =
-    let (a, b) = neither (eqb m s) (contains m v) h in
+    let (a, b) = or-no (eqb m s) (contains m v) .0 h in
     block-more m ls (ended (stated s)) ∙ rw (f m b) (opens-state m s low ∙ a)
 
 orTrue : (t : Bool) → (t || true) ≡ true

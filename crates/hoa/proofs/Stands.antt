@@ -1,6 +1,6 @@
 -- The ways a line stands in a body that is right. Assumes nothing.
-use mathlib.Core.Path.{_≡_, refl}
-use mathlib.Core.Bool.{Bool, true, false, cond, not, _||_}
+use mathlib.Core.Path.{_≡_, refl, sym, _∙_}
+use mathlib.Core.Bool.{Bool, true, false, cond, not, _&&_, and-false, or-false}
 use mathlib.Core.List.{List, [], _∷_, _++_}
 use Prim.Native.Nat.{ℕ, suc, _+_, _<_}
 use native.Mathlib.Omega.{arith}
@@ -8,13 +8,10 @@ use lib.Dec.{ltb, eqb}
 use lib.ListN.{length, drop}
 use borrow.Author.Tests.{ltb-true, eqb-false, lt-ltb, not-true}
 use Rattle.fields.proofs.Places.{Begins, begins}
+use Rattle.fields.proofs.Numbers.{both}
 use Rattle.hoa.specs.Lines.{isState, stateOf, isEdge}
 use Rattle.hoa.specs.Text.{hasBlock, isNewBlock, mayStand, isEnd, bodyWrong, headWrong, hoaWrong, modesOf, coloursOf}
-use Rattle.hoa.proofs.EdgeLines.{both, and-false, state-no-edge}
-
-or-false : (t : Bool) → (t || false) ≡ true → t ≡ true
-or-false true e = refl
-or-false false e = e
+use Rattle.hoa.proofs.EdgeLines.{state-no-edge}
 
 -- The ways a line stands in a body that is right: the last line, a new block, an edge's line after some other.
 pub data Stands (n k : ℕ) (before : List (List ℕ)) (l : List ℕ) (t : List (List ℕ)) : Type 0 where
@@ -34,7 +31,8 @@ module _ (n k : ℕ) (before : List (List ℕ)) (l : List ℕ) (t : List (List �
   may-block : isState l ≡ true → mayStand n k before l ≡ true → (stateOf l < n) × (hasBlock (stateOf l) before ≡ false)
   unfolding mayStand isNewBlock
   may-block s e =
-      let new = or-false _ (rw (s, state-no-edge n k l s, and-false (ltb 0 (length before))) at e) in
+      let new = sym (or-false (ltb (stateOf l) n && not (hasBlock (stateOf l) before)))
+      ∙ (rw (s, state-no-edge n k l s, and-false (ltb 0 (length before))) at e) in
       let (low, none) = both (ltb (stateOf l) n) (not (hasBlock (stateOf l) before)) new in
       (ltb-true (stateOf l) n low, not-true _ none)
 

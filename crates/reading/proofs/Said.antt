@@ -19,6 +19,7 @@ use Rattle.fields.proofs.Numbers.{both}
 use Rattle.hoa.specs.Text.{Edge, edgesOf, contains, colourByte}
 use Rattle.hoa.specs.Text as hoa
 use Rattle.hoa.specs.Edges.{Below, EdgeFits, EdgesFit, noEdge}
+use Rattle.hoa.proofs.Colours.{colour-bit}
 use Rattle.hoa.proofs.Edges.{edges-right, edge-said, edge-count}
 use Rattle.dimacs.specs.Text.{TextArc, textArcOn, textArcsOf, arcLines}
 use Rattle.dimacs.specs.Text as dimacs
@@ -28,7 +29,7 @@ use Rattle.reading.specs.Agreement.{sameEnds, allSame, agree}
 use Rattle.reading.specs.ModelRead.{arcRead, arcsRead, modelIn, modelRead}
 use Rattle.reading.specs.Reading.{roomIn, readVerdict}
 use Rattle.reading.specs.Said.{arcLine, ArcSaid, Said}
-use Rattle.reading.proofs.Arcs.{colour-bit, none-above}
+use Rattle.reading.proofs.Arcs.{none-above}
 use Rattle.reading.proofs.Verdicts.{edges-count, arcs-count, readable-yes}
 
 -- arc i is that of edge i and `a` line i
