@@ -33,6 +33,10 @@ drawMost = 10000
 abbrev pub gainMost : ℕ
 gainMost = 10000
 
+-- document 02, Ask 5: "Give every arc an action byte, 0 to 15"
+abbrev pub actionMost : ℕ
+actionMost = 15
+
 -- document 02, Ask 1: "plain numbers have one to nine digits"
 abbrev pub digitsMost : ℕ
 digitsMost = 9

@@ -11,6 +11,7 @@ ghost use Rattle.limits.specs.Ceilings.{
   planMost,
   drawMost,
   gainMost,
+  actionMost,
   digitsMost,
   spillMost,
   workWords,
@@ -46,6 +47,9 @@ impl Limits {
     // The greatest gain of an arc.
     pub const GAIN: u16 = 10000;
 
+    // The highest action of an arc.
+    pub const ACTION: u8 = 15;
+
     // The most digits of a plain number in a text.
     pub const DIGITS: usize = 9;
 
@@ -75,6 +79,7 @@ impl Limits {
         ensures plan { λ _. do ⌜ (← ⟦Limits::PLAN⟧ .entry) ≡ planMost ⌝ }
         ensures draw { λ _. do ⌜ (← ⟦Limits::DRAW⟧ .entry) ≡ drawMost ⌝ }
         ensures gain { λ _. do ⌜ (← ⟦Limits::GAIN⟧ .entry) ≡ gainMost ⌝ }
+        ensures action { λ _. do ⌜ (← ⟦Limits::ACTION⟧ .entry) ≡ actionMost ⌝ }
         ensures digits { λ _. do ⌜ (← ⟦Limits::DIGITS⟧ .entry) ≡ digitsMost ⌝ }
         ensures spill { λ _. do ⌜ (← ⟦Limits::SPILL⟧ .entry) ≡ spillMost ⌝ }
         ensures work_words { λ _. do ⌜ (← ⟦Limits::WORK_WORDS⟧ .entry) ≡ workWords ⌝ }

@@ -1,4 +1,4 @@
--- The arcs of five lists: as a list, as the array that is filled from it, and the verdict on them. Assumes nothing.
+-- The arcs of six lists: as a list, as the array that is filled from it, and the verdict on them. Assumes nothing.
 use mathlib.Core.Path.{_≡_, refl, sym, ap, _∙_}
 use mathlib.Core.Bool.{true, false}
 use mathlib.Core.List.{List, _∷_}
@@ -41,15 +41,16 @@ module _ (l : Lists) where
       rw e (ap {B = List Arc} (λ x. arcOf l i ∷ x) (arcs-take m r (suc i)))
 
   -- past the last arc nothing stands
-  pub arc-none : (a : ℕ) → length (l .sources) ≤ a → length (l .targets) ≤ a → length (l .draws) ≤ a → length (l .gains) ≤ a → length (l .colours) ≤ a
-      → arcOf l a ≡ noArc
-  arc-none a hs ht hd hg hc =
+  pub arc-none : (a : ℕ) → length (l .sources) ≤ a → length (l .targets) ≤ a → length (l .draws) ≤ a → length (l .gains) ≤ a
+      → length (l .colours) ≤ a → length (l .actions) ≤ a → arcOf l a ≡ noArc
+  arc-none a hs ht hd hg hc hx =
       simp (
         List·getD-eq-default (l .sources) 0 hs,
         List·getD-eq-default (l .targets) 0 ht,
         List·getD-eq-default (l .draws) 0 hd,
         List·getD-eq-default (l .gains) 0 hg,
         List·getD-eq-default (l .colours) 0 hc,
+        List·getD-eq-default (l .actions) 0 hx,
       )
 
   -- an array whose first i places have the arcs, and whose others are blank
@@ -84,7 +85,11 @@ module _ (l : Lists) where
       ext-getD noArc arcs (arcsFrom l arcsMost 0) (f .long ∙ sym (arcs-length arcsMost 0)) λ a h.
       let q : a < arcsMost = omega (arith, f .long) in
       elim (decLe (length (l .sources)) a) [
-        | yes p ↦ f .blank a p q ∙ sym (arc-none a p (omega (arith, equal .targets)) (omega (arith, equal .draws)) (omega (arith, equal .gains)) (omega (arith, equal .colours))) ∙ sym (arcs-here arcsMost a q)
+        | yes p ↦
+            f .blank a p q
+            ∙ sym (arc-none a p (omega (arith, equal .targets)) (omega (arith, equal .draws)) (omega (arith, equal .gains))
+            (omega (arith, equal .colours)) (omega (arith, equal .actions)))
+            ∙ sym (arcs-here arcsMost a q)
         | no p ↦ f .done a (omega arith) ∙ sym (arcs-here arcsMost a q)
       ]
 

@@ -1,4 +1,4 @@
--- What the verdicts mean: fitness is yes exactly for five equal lists and a fit model, levels exactly for c ≤ b ≤ 8,191; and the model that
+-- What the verdicts mean: fitness is yes exactly for six equal lists and a fit model, levels exactly for c ≤ b ≤ 8,191; and the model that
 -- the code holds is the model of the lists. Assumes nothing.
 use mathlib.Core.Path.{_≡_, refl, sym, ap, _∙_, subst}
 use mathlib.Core.Bool.{Bool, true, false, not, _||_}
@@ -10,7 +10,7 @@ use lib.Dec.{leb, ltb, eqb}
 use lib.ListN.{length, getD, drop}
 use lib.Seq.{drop-cons, drop-length}
 use borrow.Author.Tests.{eqb-false, ne-eqb}
-use Rattle.limits.specs.Ceilings.{modesMost, arcsMost, coloursMost, boundMost, drawMost, gainMost}
+use Rattle.limits.specs.Ceilings.{modesMost, arcsMost, coloursMost, boundMost, drawMost, gainMost, actionMost}
 use Rattle.model.specs.declared.Arc.{Arc}
 use Rattle.refusals.specs.declared.Refusal.{Refusal}
 use Rattle.refusals.specs.declared.Refusal.the-variants.{UnfitArc, ModeCount, StartMode, ArcLists, ColourCount, Levels}
@@ -25,40 +25,50 @@ use Rattle.model.specs.Fitness.{unfitLists, header, headerOf, arcsFitnes
 use Rattle.model.proofs.Bits.{colours-below}
 use Rattle.model.proofs.Arcs.{arcs-length, arcs-take}
 
--- none of four, none of five
+-- none of four, none of six
 or4-no : (a b c d : Bool) → ((a || b || c || d) ≡ false) ↔ ((a ≡ false) × (b ≡ false) × (c ≡ false) × (d ≡ false))
 or4-no false false false d = (λ e. (refl, refl, refl, e), λ e. e .3)
 or4-no true b c d = (λ e. clash (cc), λ e. clash (cc))
 or4-no false true c d = (λ e. clash (cc), λ e. clash (cc))
 or4-no false false true d = (λ e. clash (cc), λ e. clash (cc))
 
-or5-no : (a b c d e : Bool) → ((a || b || c || d || e) ≡ false) ↔ ((a ≡ false) × (b ≡ false) × (c ≡ false) × (d ≡ false) × (e ≡ false))
-or5-no a b c d e = (
-  λ q. let r = or-no (a || b || c || d) e .0 q in let t = or4-no a b c d .0 (r .0) in (t .0, t .1, t .2, t .3, r .1),
-  λ t. or-no (a || b || c || d) e .1 (or4-no a b c d .1 (t .0, t .1, t .2, t .3), t .4),
+or6-no : (a b c d e f : Bool) → ((a || b || c || d || e || f) ≡ false)
+    ↔ ((a ≡ false) × (b ≡ false) × (c ≡ false) × (d ≡ false) × (e ≡ false) × (f ≡ false))
+or6-no a b c d e f = (
+  λ q.
+      let r = or-no (a || b || c || d || e) f .0 q in
+      let s = or-no (a || b || c || d) e .0 (r .0) in
+      let t = or4-no a b c d .0 (s .0) in
+      (t .0, t .1, t .2, t .3, s .1, r .1),
+  λ t. or-no (a || b || c || d || e) f .1 (or-no (a || b || c || d) e .1 (or4-no a b c d .1 (t .0, t .1, t .2, t .3), t .4), t .5),
 )
 
 -- an arc that is not unfit
 pub unfit-no : (n k : ℕ) (a : Arc) → (unfitArc n (2 ^ k) a ≡ false) ↔ ArcFits n k a
 unfolding unfitArc
 unfit-no n k a =
-    let five = or5-no (leb n (a .source)) (leb n (a .target)) (ltb drawMost (a .draw)) (ltb gainMost (a .gain)) (leb (2 ^ k) (a .colours)) in (
+    let six =
+    or6-no (leb n (a .source)) (leb n (a .target)) (ltb drawMost (a .draw)) (ltb gainMost (a .gain)) (leb (2 ^ k) (a .colours))
+    (ltb actionMost (a .action))
+    in (
       λ e.
-          let t = five .0 e in
+          let t = six .0 e in
           record {
             source = le-no n (a .source) .0 (t .0);
             target = le-no n (a .target) .0 (t .1);
             draw-most = lt-no drawMost (a .draw) .0 (t .2);
             gain-most = lt-no gainMost (a .gain) .0 (t .3);
             colours = colours-below (a .colours) k .0 (le-no (2 ^ k) (a .colours) .0 (t .4));
+            action-most = lt-no actionMost (a .action) .0 (t .5);
           },
       λ f.
-          five .1 (
+          six .1 (
             le-no n (a .source) .1 (f .source),
             le-no n (a .target) .1 (f .target),
             lt-no drawMost (a .draw) .1 (f .draw-most),
             lt-no gainMost (a .gain) .1 (f .gain-most),
             le-no (2 ^ k) (a .colours) .1 (colours-below (a .colours) k .1 (f .colours)),
+            lt-no actionMost (a .action) .1 (f .action-most),
           ),
     )
 
@@ -94,14 +104,15 @@ pub header-yes : (n s k : ℕ) (l : Lists) → (headerOf n s k l ≡ Yes) ↔ He
 unfolding unfitLists
 header-yes n s k l =
     let m = length (l .sources) in
-    let five =
-    or5-no (not (eqb (length (l .targets)) m)) (not (eqb (length (l .draws)) m)) (not (eqb (length (l .gains)) m)) (not (eqb (length (l .colours)) m))
-    (ltb arcsMost m)
+    let six =
+    or6-no (not (eqb (length (l .targets)) m)) (not (eqb (length (l .draws)) m)) (not (eqb (length (l .gains)) m))
+    (not (eqb (length (l .colours)) m)) (not (eqb (length (l .actions)) m)) (ltb arcsMost m)
     in
-    let numbers = numbers-yes n s k (unfitLists m (length (l .targets)) (length (l .draws)) (length (l .gains)) (length (l .colours))) in (
+    let unfit = unfitLists m (length (l .targets)) (length (l .draws)) (length (l .gains)) (length (l .colours)) (length (l .actions)) in
+    let numbers = numbers-yes n s k unfit in (
       λ e.
           let (some, few, starts, fits, colours) = numbers .0 e in
-          let o3 = five .0 fits in
+          let o3 = six .0 fits in
           record {
             some-mode = some;
             few-modes = few;
@@ -112,8 +123,9 @@ header-yes n s k l =
                   draws = differ-no (length (l .draws)) m .0 (o3 .1);
                   gains = differ-no (length (l .gains)) m .0 (o3 .2);
                   colours = differ-no (length (l .colours)) m .0 (o3 .3);
+                  actions = differ-no (length (l .actions)) m .0 (o3 .4);
                 };
-            few-arcs = lt-no arcsMost m .0 (o3 .4);
+            few-arcs = lt-no arcsMost m .0 (o3 .5);
             few-colours = colours;
           },
       λ h.
@@ -121,11 +133,12 @@ header-yes n s k l =
             h .some-mode,
             h .few-modes,
             h .starts,
-            five .1 (
+            six .1 (
               differ-no (length (l .targets)) m .1 (h .equal .targets),
               differ-no (length (l .draws)) m .1 (h .equal .draws),
               differ-no (length (l .gains)) m .1 (h .equal .gains),
               differ-no (length (l .colours)) m .1 (h .equal .colours),
+              differ-no (length (l .actions)) m .1 (h .equal .actions),
               lt-no arcsMost m .1 (h .few-arcs),
             ),
             h .few-colours,
@@ -147,7 +160,7 @@ pub arcs-first : (n power : ℕ) (l : List Arc) (d : ℕ) → (arcsVerdict n pow
     ↔ FirstOf (λ j. unfitArc n power (getD l j noArc)) (length l) d
 arcs-first n power l = scan-first _ UnfitArc (length l) (λ k. arcsVerdict n power (drop k l) k) (arcs-scan n power l)
 
--- the verdict is yes exactly for five equal lists and a fit model
+-- the verdict is yes exactly for six equal lists and a fit model
 pub fitness-yes : (n s k : ℕ) (l : Lists) → (fitness n s k l ≡ Yes) ↔ (EqualLists l × Fit (automatonOf n s k l))
 unfolding fitness
 fitness-yes n s k l =

@@ -10,18 +10,19 @@ use Rattle.walks.specs.Weights.{drawOf, gainOf, moveOfWeight}
 use Rattle.model.specs.Automaton.{moveOf}
 use Rattle.model.specs.Lists.{weighted, arcOf}
 
-module _ (ss ts : List ℕ) (ws : List ℤ) (cs : List ℕ) (a : ℕ) where
+module _ (ss ts : List ℕ) (ws : List ℤ) (cs xs : List ℕ) (a : ℕ) where
   -- arc a
-  weighted-arc : arcOf (weighted ss ts ws cs) a
+  weighted-arc : arcOf (weighted ss ts ws cs xs) a
       ≡ record {
         source = getD ss a 0;
         target = getD ts a 0;
         draw = drawOf (getD ws a (pos 0));
         gain = gainOf (getD ws a (pos 0));
         colours = getD cs a 0;
+        action = getD xs a 0;
       }
   weighted-arc = rw (List·getD-map drawOf ws a (pos 0), List·getD-map gainOf ws a (pos 0)) refl
 
   -- it draws and gains what its weight does
-  pub weighted-move : moveOf (arcOf (weighted ss ts ws cs) a) ≡ moveOfWeight (getD ws a (pos 0))
+  pub weighted-move : moveOf (arcOf (weighted ss ts ws cs xs) a) ≡ moveOfWeight (getD ws a (pos 0))
   weighted-move = ap {B = Move} moveOf weighted-arc

@@ -17,7 +17,7 @@ pub record Automaton : Type 0 where
 
 -- what stands for an arc that is not there
 abbrev pub noArc : Arc
-noArc = record { source = 0; target = 0; draw = 0; gain = 0; colours = 0 }
+noArc = record { source = 0; target = 0; draw = 0; gain = 0; colours = 0; action = 0 }
 
 -- the arc with number a
 abbrev pub arcAt : Automaton → ℕ → Arc

@@ -5,7 +5,7 @@ use mathlib.Core.List.{List, [], _∷_}
 use mathlib.Core.Path.{_≡_}
 use lib.Dec.{leb, ltb, eqb}
 use lib.ListN.{length}
-use Rattle.limits.specs.Ceilings.{modesMost, arcsMost, coloursMost, boundMost, drawMost, gainMost}
+use Rattle.limits.specs.Ceilings.{modesMost, arcsMost, coloursMost, boundMost, drawMost, gainMost, actionMost}
 use Rattle.model.specs.declared.Arc.{Arc}
 use Rattle.model.specs.declared.Model.{Model}
 use Rattle.model.specs.declared.Fitted.{Fitted}
@@ -16,10 +16,11 @@ use Rattle.refusals.specs.Refusals.{refuse, andThen}
 use Rattle.model.specs.Automaton.{Automaton, arcAt, bit}
 use Rattle.model.specs.Lists.{Lists, arcsOf, modelOf, blankModel, held}
 
--- "arc lists unequal or longer than 255", by the lengths of the five
-unfoldable pub unfitLists : ℕ → ℕ → ℕ → ℕ → ℕ → Bool
-unfitLists sources targets draws gains colours =
-    not (eqb targets sources) || not (eqb draws sources) || not (eqb gains sources) || not (eqb colours sources) || ltb arcsMost sources
+-- "arc lists unequal or longer than 255", by the lengths of the six
+unfoldable pub unfitLists : ℕ → ℕ → ℕ → ℕ → ℕ → ℕ → Bool
+unfitLists sources targets draws gains colours actions =
+    not (eqb targets sources) || not (eqb draws sources) || not (eqb gains sources) || not (eqb colours sources) || not (eqb actions sources)
+    || ltb arcsMost sources
 
 -- 1 to 4, by the numbers and whether 3 applies, whose condition is another one where lists are lent to be filled
 unfoldable pub header : ℕ → ℕ → ℕ → Bool → Verdict
@@ -31,10 +32,12 @@ header n s k unfit =
     Yes)))
 
 -- "an arc's source or target not below n, weight outside its range, or a colour bit at or above k"; document 02, Ask 4: "refusal 5 checks the
--- two ranges in place of the weight's". A byte has a bit at or above k where it is at least power, 2 ^ k: the law colours-below.
+-- two ranges in place of the weight's"; Ask 5: "an action above 15 falls under 5 in every call". A byte has a bit at or above k where it is
+-- at least power, 2 ^ k: the law colours-below.
 unfoldable pub unfitArc : ℕ → ℕ → Arc → Bool
 unfitArc n power a =
     leb n (a .source) || leb n (a .target) || ltb drawMost (a .draw) || ltb gainMost (a .gain) || leb power (a .colours)
+    || ltb actionMost (a .action)
 
 -- 5, with the lowest such arc; the list's first arc has the number i
 unfoldable pub arcsVerdict : ℕ → ℕ → List Arc → ℕ → Verdict
@@ -44,7 +47,8 @@ arcsVerdict n power (a ∷ l) i = refuse (unfitArc n power a) (UnfitArc i) (arcs
 -- 1 to 4, of the lists
 abbrev pub headerOf : ℕ → ℕ → ℕ → Lists → Verdict
 headerOf n s k l =
-    header n s k (unfitLists (length (l .sources)) (length (l .targets)) (length (l .draws)) (length (l .gains)) (length (l .colours)))
+    header n s k
+    (unfitLists (length (l .sources)) (length (l .targets)) (length (l .draws)) (length (l .gains)) (length (l .colours)) (length (l .actions)))
 
 -- 5, of the lists
 abbrev pub arcsFitness : ℕ → ℕ → Lists → Verdict
@@ -70,12 +74,13 @@ fittedArcs n s k l = fittedIf (arcsFitness n (2 ^ k) l) (modelOf n s k l)
 unfoldable pub levelsOf : ℕ → ℕ → Verdict
 levelsOf b c = refuse (ltb boundMost b || ltb b c) Levels Yes
 
--- What is fit, as facts. "Arcs come as .. lent lists of equal length", five since Ask 4.
+-- What is fit, as facts. "Arcs come as .. lent lists of equal length", six since Ask 5.
 pub record EqualLists (l : Lists) : Type 0 where
   pub targets : length (l .targets) ≡ length (l .sources)
   pub draws : length (l .draws) ≡ length (l .sources)
   pub gains : length (l .gains) ≡ length (l .sources)
   pub colours : length (l .colours) ≡ length (l .sources)
+  pub actions : length (l .actions) ≡ length (l .sources)
 
 -- none of 1 to 4 applies
 pub record Header (n s k : ℕ) (l : Lists) : Type 0 where
@@ -93,6 +98,7 @@ pub record ArcFits (n k : ℕ) (a : Arc) : Type 0 where
   pub draw-most : a .draw ≤ drawMost
   pub gain-most : a .gain ≤ gainMost
   pub colours : (j : ℕ) → k ≤ j → bit (a .colours) j ≡ false
+  pub action-most : a .action ≤ actionMost
 
 -- "A model is fit where none of the numbers 1 to 5 below applies to it." (Theorem fitness-yes.)
 pub record Fit (g : Automaton) : Type 0 where

@@ -1,5 +1,5 @@
--- The model of five lent lists, and the model as the code holds it. Document 01: "Arcs come as four lent lists of equal length"; document 02,
--- Ask 4: "a draw and a gain .. in two lent lists that replace the weights'."
+-- The model of six lent lists, and the model as the code holds it. Document 01: "Arcs come as four lent lists of equal length"; document 02,
+-- Ask 4: "a draw and a gain .. in two lent lists that replace the weights'"; Ask 5: "Give every arc an action byte .. in one more lent list".
 use Prim.Native.Nat.{ℕ, zero, suc}
 use mathlib.Core.List.{List, [], _∷_, map}
 use lib.IntN.{ℤ}
@@ -16,14 +16,15 @@ pub record Lists : Type 0 where
   pub draws : List ℕ
   pub gains : List ℕ
   pub colours : List ℕ
+  pub actions : List ℕ
 
-abbrev pub lists : List ℕ → List ℕ → List ℕ → List ℕ → List ℕ → Lists
-lists ss ts ds gs cs = record { sources = ss; targets = ts; draws = ds; gains = gs; colours = cs }
+abbrev pub lists : List ℕ → List ℕ → List ℕ → List ℕ → List ℕ → List ℕ → Lists
+lists ss ts ds gs cs xs = record { sources = ss; targets = ts; draws = ds; gains = gs; colours = cs; actions = xs }
 
 -- the lists of a model with one weight for each arc, as they were before Ask 4: "An old weight w means draw −w, gain 0 where w is negative,
 -- else draw 0, gain w"
-abbrev pub weighted : List ℕ → List ℕ → List ℤ → List ℕ → Lists
-weighted ss ts ws cs = lists ss ts (map drawOf ws) (map gainOf ws) cs
+abbrev pub weighted : List ℕ → List ℕ → List ℤ → List ℕ → List ℕ → Lists
+weighted ss ts ws cs xs = lists ss ts (map drawOf ws) (map gainOf ws) cs xs
 
 -- arc a: what stands at place a of each list
 abbrev pub arcOf : Lists → ℕ → Arc
@@ -34,6 +35,7 @@ arcOf l a =
       draw = getD (l .draws) a 0;
       gain = getD (l .gains) a 0;
       colours = getD (l .colours) a 0;
+      action = getD (l .actions) a 0;
     }
 
 -- m arcs, numbered from a on
@@ -54,7 +56,7 @@ abbrev pub modelOf : ℕ → ℕ → ℕ → Lists → Model
 modelOf n s k l = record { modes = n; start = s; colours = k; count = length (l .sources); arcs = arcsFrom l arcsMost 0 }
 
 abbrev pub noLists : Lists
-noLists = lists [] [] [] [] []
+noLists = lists [] [] [] [] [] []
 
 -- what is handed back where a model is refused
 abbrev pub blankModel : Model

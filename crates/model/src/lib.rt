@@ -8,13 +8,14 @@ use limits::Limits;
 use refusals::Refusal;
 use refusals::Verdict;
 
-// An arc: its two modes, its draw and its gain, and its colour byte, whose bit j says that the arc meets colour j.
+// An arc: its two modes, its draw and its gain, its colour byte, whose bit j says that the arc meets colour j, and its action.
 pub struct Arc {
     pub source: u8,
     pub target: u8,
     pub draw: u16,
     pub gain: u16,
     pub colours: u8,
+    pub action: u8,
 }
 
 // What stands where no arc is.
@@ -24,6 +25,7 @@ const NO_ARC: Arc = Arc {
     draw: 0,
     gain: 0,
     colours: 0,
+    action: 0,
 };
 
 // A model by value. The first `count` arcs are the model's; the others are blank.
@@ -41,9 +43,16 @@ pub struct Fitted {
     pub model: Model,
 }
 
-// Refusal 3, from the lengths of the five lists.
-fn unfit_lists(sources: usize, targets: usize, draws: usize, gains: usize, colours: usize) -> bool
-    ensures { λ r. ⌜ r ≡ unfitLists sources targets draws gains colours ⌝ }
+// Refusal 3, from the lengths of the six lists.
+fn unfit_lists(
+    sources: usize,
+    targets: usize,
+    draws: usize,
+    gains: usize,
+    colours: usize,
+    actions: usize,
+) -> bool
+    ensures { λ r. ⌜ r ≡ unfitLists sources targets draws gains colours actions ⌝ }
 {
     if targets != sources {
         return true;
@@ -55,6 +64,9 @@ fn unfit_lists(sources: usize, targets: usize, draws: usize, gains: usize, colou
         return true;
     }
     if colours != sources {
+        return true;
+    }
+    if actions != sources {
         return true;
     }
     sources > Limits::ARCS
@@ -111,7 +123,10 @@ fn unfit_arc(arc: Arc, n: u32, power: u32) -> bool
     if arc.gain > Limits::GAIN {
         return true;
     }
-    (arc.colours as u32) >= power
+    if (arc.colours as u32) >= power {
+        return true;
+    }
+    arc.action > Limits::ACTION
 }
 
 // 2 to the k: the least number that has a bit at or above k.
@@ -149,32 +164,45 @@ fn check_arcs(
     draws: &[u16],
     gains: &[u16],
     colours: &[u8],
+    actions: &[u8],
 ) -> Fitted
-    requires { ⌜ Header n start k (lists (now sources) (now targets) (now draws) (now gains) (now colours)) ⌝ }
-    ensures { λ r. ⌜ r ≡ fittedArcs n start k (lists (now (sources .entry)) (now (targets .entry)) (now (draws .entry)) (now (gains .entry)) (now (colours .entry))) ⌝ }
+    requires { ⌜ Header n start k (lists (now sources) (now targets) (now draws) (now gains) (now colours) (now actions)) ⌝ }
+    ensures { λ r. ⌜ r ≡ fittedArcs n start k (lists (now (sources .entry)) (now (targets .entry)) (now (draws .entry)) (now (gains .entry)) (now (colours .entry)) (now (actions .entry))) ⌝ }
 {
     let power = two_to(k);
     let mut arcs = [NO_ARC; Limits::ARCS];
     let mut i = 0;
     while i < sources.len() {
+        let source = sources[i];
+        let target = targets[i];
+        let draw = draws[i];
+        let gain = gains[i];
+        let met = colours[i];
+        let action = actions[i];
         let arc = Arc {
-            source: sources[i],
-            target: targets[i],
-            draw: draws[i],
-            gain: gains[i],
-            colours: colours[i],
+            source,
+            target,
+            draw,
+            gain,
+            colours: met,
+            action,
         };
         if unfit_arc(arc, n, power) {
-            return refused(Refusal::UnfitArc(i as u32));
+            let number = i as u32;
+            return refused(Refusal::UnfitArc(number));
         }
         arcs[i] = arc;
         i += 1;
     }
+    let modes = n as u8;
+    let start = start as u8;
+    let k = k as u8;
+    let count = sources.len() as u8;
     let model = Model {
-        modes: n as u8,
-        start: start as u8,
-        colours: k as u8,
-        count: sources.len() as u8,
+        modes,
+        start,
+        colours: k,
+        count,
         arcs,
     };
     Fitted {
@@ -183,7 +211,7 @@ fn check_arcs(
     }
 }
 
-// Fitness of a model that comes as numbers and five lists: the first of 1 to 5 that applies, or the model. For all numbers and lists.
+// Fitness of a model that comes as numbers and six lists: the first of 1 to 5 that applies, or the model. For all numbers and lists.
 pub fn check_model(
     n: u32,
     start: u32,
@@ -193,8 +221,9 @@ pub fn check_model(
     draws: &[u16],
     gains: &[u16],
     colours: &[u8],
+    actions: &[u8],
 ) -> Fitted
-    ensures { λ r. ⌜ r ≡ fittedOf n start k (lists (now (sources .entry)) (now (targets .entry)) (now (draws .entry)) (now (gains .entry)) (now (colours .entry))) ⌝ }
+    ensures { λ r. ⌜ r ≡ fittedOf n start k (lists (now (sources .entry)) (now (targets .entry)) (now (draws .entry)) (now (gains .entry)) (now (colours .entry)) (now (actions .entry))) ⌝ }
 {
     let unfit = unfit_lists(
         sources.len(),
@@ -202,10 +231,13 @@ pub fn check_model(
         draws.len(),
         gains.len(),
         colours.len(),
+        actions.len(),
     );
     let header = check_header(n, start, k, unfit);
     match header {
-        Verdict::Yes => check_arcs(n, start, k, sources, targets, draws, gains, colours),
+        Verdict::Yes => check_arcs(
+            n, start, k, sources, targets, draws, gains, colours, actions,
+        ),
         Verdict::Refused(refusal) => refused(refusal),
     }
 }

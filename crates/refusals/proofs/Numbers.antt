@@ -7,7 +7,7 @@ use native.Mathlib.Omega.{arith}
 use lib.Dec.{eqb}
 use Rattle.refusals.specs.declared.Answer.{Answer}
 use Rattle.refusals.specs.declared.Refusal.{Refusal}
-use Rattle.refusals.specs.declared.Refusal.the-variants.{ModeCount, StartMode, ArcLists, ColourCount, UnfitArc, Levels, Product, WorkingSpace, PlanBuffer, NoPlan, PlanLength, ArcNumber, OtherMode, OpenCycle, ImpossibleStep, FallingCycle, MissingColour, NoSuchColour, HoaLine, DimacsLine, TextsDisagree, MixedGauge}
+use Rattle.refusals.specs.declared.Refusal.the-variants.{ModeCount, StartMode, ArcLists, ColourCount, UnfitArc, Levels, Product, WorkingSpace, PlanBuffer, NoPlan, PlanLength, ArcNumber, OtherMode, OpenCycle, ImpossibleStep, FallingCycle, MissingColour, NoSuchColour, HoaLine, DimacsLine, TextsDisagree, MixedGauge, JoinSize}
 use Rattle.refusals.specs.declared.Verdict.{Verdict}
 use Rattle.refusals.specs.declared.Verdict.the-variants.{Yes, Refused}
 use Rattle.refusals.specs.Refusals.{numbered, answerOf}
@@ -36,6 +36,7 @@ refusal-number (HoaLine d) = omega arith
 refusal-number (DimacsLine d) = omega arith
 refusal-number TextsDisagree = omega arith
 refusal-number MixedGauge = omega arith
+refusal-number JoinSize = omega arith
 
 -- the refusal that a number and a detail stand for
 abbrev refusalOf : Answer → Refusal
@@ -61,7 +62,8 @@ refusalOf x =
     (cond (eqb (x .number) 19) (HoaLine (x .detail))
     (cond (eqb (x .number) 20) (DimacsLine (x .detail))
     (cond (eqb (x .number) 21) TextsDisagree
-    MixedGauge))))))))))))))))))))
+    (cond (eqb (x .number) 22) MixedGauge
+    JoinSize)))))))))))))))))))))
 
 refusal-back : (r : Refusal) → refusalOf (numbered r) ≡ r
 refusal-back ModeCount = refl
@@ -86,6 +88,7 @@ refusal-back (HoaLine d) = refl
 refusal-back (DimacsLine d) = refl
 refusal-back TextsDisagree = refl
 refusal-back MixedGauge = refl
+refusal-back JoinSize = refl
 
 -- a number and a detail are those of one refusal alone
 pub refusal-one : (q r : Refusal) → numbered q ≡ numbered r → q ≡ r

@@ -26,6 +26,7 @@ pub enum Refusal {
     DimacsLine(u64),
     TextsDisagree,
     MixedGauge,
+    JoinSize,
 }
 
 // A number and its detail, 0 where none is named. A detail may be the line of a text, which no ceiling bounds.
@@ -69,6 +70,7 @@ impl Refusal {
             Refusal::DimacsLine(line) => row(20, line),
             Refusal::TextsDisagree => row(21, 0),
             Refusal::MixedGauge => row(22, 0),
+            Refusal::JoinSize => row(23, 0),
         }
     }
 }

@@ -10,18 +10,20 @@ use Rattle.model.proofs.check_arcs.Statement.{statement}
 use Rattle.model.proofs.check_arcs.Tie as tie
 
 abbrev Inv-loop : tie.InvT-loop
-Inv-loop n start k sources targets draws gains colours power arcs₀ i₀ arcs i =
-    Copying n power (lists sources targets draws gains colours) arcs i
+Inv-loop n start k sources targets draws gains colours actions power arcs₀ i₀ arcs i =
+    Copying n power (lists sources targets draws gains colours actions) arcs i
 
 abbrev μ-loop : tie.MeasureT-loop
-μ-loop n start k sources targets draws gains colours power arcs₀ i₀ arcs i = length sources - i
+μ-loop n start k sources targets draws gains colours actions power arcs₀ i₀ arcs i = length sources - i
 
 -- from the power to the beginning, and the lists
 abbrev start : tie.After-two-to Inv-loop μ-loop → tie.Start Inv-loop μ-loop
-start c = c .before .before .before .before .before .before
+start c = c .before .before .before .before .before .before .before
 
 abbrev lists-of : tie.Start Inv-loop μ-loop → Lists
-lists-of s = lists (s .args .sources .now) (s .args .targets .now) (s .args .draws .now) (s .args .gains .now) (s .args .colours .now)
+lists-of s =
+    lists (s .args .sources .now) (s .args .targets .now) (s .args .draws .now) (s .args .gains .now) (s .args .colours .now)
+    (s .args .actions .now)
 
 two-to-requires : tie.Need-two-to-requires Inv-loop μ-loop
 two-to-requires c κs = search needs
@@ -30,39 +32,42 @@ loop-holds : tie.Need-loop-holds Inv-loop μ-loop
 loop-holds c =
     copying-none (start c .args .n) (c .two-to .result) (lists-of (start c))
 
-shared-slice-read-t18 : tie.Need-shared-slice-read-t18 Inv-loop μ-loop
-shared-slice-read-t18 c = search needs
+shared-slice-read-source : tie.Need-shared-slice-read-source Inv-loop μ-loop
+shared-slice-read-source c = search needs
 
-shared-slice-read-t20 : tie.Need-shared-slice-read-t20 Inv-loop μ-loop
-shared-slice-read-t20 c = search needs
+shared-slice-read-target : tie.Need-shared-slice-read-target Inv-loop μ-loop
+shared-slice-read-target c = search needs
 
-mul-t15 : tie.Need-mul-t15 Inv-loop μ-loop
-mul-t15 c = search needs
+mul-draw : tie.Need-mul-draw Inv-loop μ-loop
+mul-draw c = search needs
 
-shared-slice-read-t22 : tie.Need-shared-slice-read-t22 Inv-loop μ-loop
-shared-slice-read-t22 c = search needs
+shared-slice-read-draw : tie.Need-shared-slice-read-draw Inv-loop μ-loop
+shared-slice-read-draw c = search needs
 
-mul-t23 : tie.Need-mul-t23 Inv-loop μ-loop
-mul-t23 c = search needs
+mul-gain : tie.Need-mul-gain Inv-loop μ-loop
+mul-gain c = search needs
 
-shared-slice-read-t25 : tie.Need-shared-slice-read-t25 Inv-loop μ-loop
-shared-slice-read-t25 c = search needs
+shared-slice-read-gain : tie.Need-shared-slice-read-gain Inv-loop μ-loop
+shared-slice-read-gain c = search needs
 
-shared-slice-read-t27 : tie.Need-shared-slice-read-t27 Inv-loop μ-loop
-shared-slice-read-t27 c = search needs
+shared-slice-read-met : tie.Need-shared-slice-read-met Inv-loop μ-loop
+shared-slice-read-met c = search needs
+
+shared-slice-read-action : tie.Need-shared-slice-read-action Inv-loop μ-loop
+shared-slice-read-action c = search needs
 
 unfit-arc-requires : tie.Need-unfit-arc-requires Inv-loop μ-loop
 unfit-arc-requires c κs = search needs
 
-cast-t29 : tie.Need-cast-t29 Inv-loop μ-loop
-cast-t29 c = search needs
+cast-number : tie.Need-cast-number Inv-loop μ-loop
+cast-number c = search needs
 
 refused-requires : tie.Need-refused-requires Inv-loop μ-loop
 refused-requires c κs = search needs
 
 returns : tie.Need-returns Inv-loop μ-loop
 returns c =
-    let d = c .before .before .before .before .before .before .before .before .before in
+    let d = c .before .before .before .before .before .before .before .before .before .before in
     let a = start (d .before) .args in
     let l = lists-of (start (d .before)) in
     c .refused .ensures
@@ -84,23 +89,23 @@ loop-less c = search needs
 
 loop-again : tie.Need-loop-again Inv-loop μ-loop
 loop-again c =
-    let d = c .before .before .before .before .before .before .before .before in
+    let d = c .before .before .before .before .before .before .before .before .before in
     let a = start (d .before) .args in
     let h = start (d .before) .pre in
     copying-more (a .n) (d .before .two-to .result) (lists-of (start (d .before)))
     (d .loop .arcs) (d .loop .i) (d .loop .inv) _ (omega arith) (h .few-arcs) refl (sym (c .before .unfit-arc .ensures) ∙ c .if1 .left)
 
-cast-t33 : tie.Need-cast-t33 Inv-loop μ-loop
-cast-t33 c = search needs
+cast-modes : tie.Need-cast-modes Inv-loop μ-loop
+cast-modes c = search needs
 
-cast-t34 : tie.Need-cast-t34 Inv-loop μ-loop
-cast-t34 c = search needs
+cast-start : tie.Need-cast-start Inv-loop μ-loop
+cast-start c = search needs
 
-cast-t35 : tie.Need-cast-t35 Inv-loop μ-loop
-cast-t35 c = search needs
+cast-k : tie.Need-cast-k Inv-loop μ-loop
+cast-k c = search needs
 
-cast-t37 : tie.Need-cast-t37 Inv-loop μ-loop
-cast-t37 c = search needs
+cast-count : tie.Need-cast-count Inv-loop μ-loop
+cast-count c = search needs
 
 returns-2 : tie.Need-returns-2 Inv-loop μ-loop
 returns-2 c =
@@ -119,15 +124,16 @@ check-arcs-spec =
     μ-loop
     two-to-requires
     loop-holds
-    shared-slice-read-t18
-    shared-slice-read-t20
-    mul-t15
-    shared-slice-read-t22
-    mul-t23
-    shared-slice-read-t25
-    shared-slice-read-t27
+    shared-slice-read-source
+    shared-slice-read-target
+    mul-draw
+    shared-slice-read-draw
+    mul-gain
+    shared-slice-read-gain
+    shared-slice-read-met
+    shared-slice-read-action
     unfit-arc-requires
-    cast-t29
+    cast-number
     refused-requires
     returns
     mul-arcs
@@ -135,8 +141,8 @@ check-arcs-spec =
     add-i
     loop-less
     loop-again
-    cast-t33
-    cast-t34
-    cast-t35
-    cast-t37
+    cast-modes
+    cast-start
+    cast-k
+    cast-count
     returns-2)

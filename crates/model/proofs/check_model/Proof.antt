@@ -19,10 +19,12 @@ enum-told c = search needs
 
 -- from the check to the beginning, and the lists
 abbrev start : tie.After-check-header → tie.Start
-start d = d .before .before .before .before .before .before .before
+start d = d .before .before .before .before .before .before .before .before
 
 abbrev lists-of : tie.Start → Lists
-lists-of s = lists (s .args .sources .now) (s .args .targets .now) (s .args .draws .now) (s .args .gains .now) (s .args .colours .now)
+lists-of s =
+    lists (s .args .sources .now) (s .args .targets .now) (s .args .draws .now) (s .args .gains .now) (s .args .colours .now)
+    (s .args .actions .now)
 
 -- what the check says is 1 to 4 of the lists
 abbrev told : (d : tie.After-check-header) → d .check-header .result ≡ headerOf (start d .args .n) (start d .args .start) (start d .args .k) (lists-of (start d))

@@ -34,20 +34,34 @@ returns-4 c =
       lt-ltb _ _ (c .if4 .taken),
     )
 
-cast-result : tie.Need-cast-result
-cast-result c = search needs
+cast-if5 : tie.Need-cast-if5
+cast-if5 c = search needs
 
 returns-5 : tie.Need-returns-5
 unfolding unfitArc
 returns-5 c =
-    let e = c .before in
+    let e = c .before .before in
     let d = e .before .before in
     simp (
       lt-leb _ _ (d .before .before .before .before .if1 .left),
       lt-leb _ _ (d .before .before .if2 .left),
       le-ltb _ _ (d .if3 .left),
       le-ltb _ _ (e .if4 .left),
+      le-leb _ _ (c .if5 .taken),
+    )
+
+returns-6 : tie.Need-returns-6
+unfolding unfitArc
+returns-6 c =
+    let e = c .before .before .before in
+    let d = e .before .before in
+    simp (
+      lt-leb _ _ (d .before .before .before .before .if1 .left),
+      lt-leb _ _ (d .before .before .if2 .left),
+      le-ltb _ _ (d .if3 .left),
+      le-ltb _ _ (e .if4 .left),
+      lt-leb _ _ (c .before .if5 .left),
     )
 
 pub unfit-arc-spec : {M : Type 1} → statement M
-unfit-arc-spec = tie.close (tie.spec cast-if1 returns cast-if2 returns-2 returns-3 returns-4 cast-result returns-5)
+unfit-arc-spec = tie.close (tie.spec cast-if1 returns cast-if2 returns-2 returns-3 returns-4 cast-if5 returns-5 returns-6)

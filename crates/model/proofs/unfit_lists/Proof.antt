@@ -26,7 +26,25 @@ returns-5 : tie.Need-returns-5
 unfolding unfitLists
 returns-5 c =
     let d = c .before .before in
-    simp (eq-eqb _ _ (d .before .if1 .left), eq-eqb _ _ (d .if2 .left), eq-eqb _ _ (c .before .if3 .left), eq-eqb _ _ (c .if4 .left))
+    simp (
+      eq-eqb _ _ (d .before .before .if1 .left),
+      eq-eqb _ _ (d .before .if2 .left),
+      eq-eqb _ _ (d .if3 .left),
+      eq-eqb _ _ (c .before .if4 .left),
+      ne-eqb _ _ (c .if5 .taken),
+    )
+
+returns-6 : tie.Need-returns-6
+unfolding unfitLists
+returns-6 c =
+    let d = c .before .before in
+    simp (
+      eq-eqb _ _ (d .before .before .if1 .left),
+      eq-eqb _ _ (d .before .if2 .left),
+      eq-eqb _ _ (d .if3 .left),
+      eq-eqb _ _ (c .before .if4 .left),
+      eq-eqb _ _ (c .if5 .left),
+    )
 
 pub unfit-lists-spec : {M : Type 1} → statement M
-unfit-lists-spec = tie.close (tie.spec returns returns-2 returns-3 returns-4 returns-5)
+unfit-lists-spec = tie.close (tie.spec returns returns-2 returns-3 returns-4 returns-5 returns-6)

@@ -152,6 +152,12 @@ enum-told-15 c = search needs
 row-requires-22 : tie.Need-row-requires-22
 row-requires-22 c κs = search needs
 
+enum-told-16 : tie.Need-enum-told-16
+enum-told-16 c = search needs
+
+row-requires-23 : tie.Need-row-requires-23
+row-requires-23 c κs = search needs
+
 returns : tie.Need-returns
 returns c = c .row .ensures ∙ sym (ap numbered (c .before .enum-told .given .1))
 
@@ -218,6 +224,9 @@ returns-21 c = c .row21 .ensures ∙ sym (ap numbered (c .before .enum-told14 .g
 returns-22 : tie.Need-returns-22
 returns-22 c = c .row22 .ensures ∙ sym (ap numbered (c .before .enum-told15 .given .1))
 
+returns-23 : tie.Need-returns-23
+returns-23 c = c .row23 .ensures ∙ sym (ap numbered (c .before .enum-told16 .given .1))
+
 pub answer-spec : {M : Type 1} → statement M
 answer-spec =
     tie.close
@@ -271,6 +280,8 @@ answer-spec =
     row-requires-21
     enum-told-15
     row-requires-22
+    enum-told-16
+    row-requires-23
     returns
     returns-2
     returns-3
@@ -292,4 +303,5 @@ answer-spec =
     returns-19
     returns-20
     returns-21
-    returns-22)
+    returns-22
+    returns-23)
