@@ -236,7 +236,15 @@ pub fn check_model(
     let header = check_header(n, start, k, unfit);
     match header {
         Verdict::Yes => check_arcs(
-            n, start, k, sources, targets, draws, gains, colours, actions,
+            n,
+            start,
+            k,
+            sources,
+            targets,
+            draws,
+            gains,
+            colours,
+            actions,
         ),
         Verdict::Refused(refusal) => refused(refusal),
     }
