@@ -173,13 +173,14 @@ impl Gauge {
         draws: &[u16],
         gains: &[u16],
         colours: &[u8],
+        actions: &[u8],
         c: u32,
         b: u32,
     ) -> Gauged
-        ensures gauged { λ r. ⌜ r ≡ startedOf n start k (lists (now (sources .entry)) (now (targets .entry)) (now (draws .entry)) (now (gains .entry)) (now (colours .entry))) b c ⌝ }
-        ensures answer { λ r. ⌜ answerOf (r .verdict) ≡ startedAnswer n start k (lists (now (sources .entry)) (now (targets .entry)) (now (draws .entry)) (now (gains .entry)) (now (colours .entry))) b c ⌝ }
+        ensures gauged { λ r. ⌜ r ≡ startedOf n start k (lists (now (sources .entry)) (now (targets .entry)) (now (draws .entry)) (now (gains .entry)) (now (colours .entry)) (now (actions .entry))) b c ⌝ }
+        ensures answer { λ r. ⌜ answerOf (r .verdict) ≡ startedAnswer n start k (lists (now (sources .entry)) (now (targets .entry)) (now (draws .entry)) (now (gains .entry)) (now (colours .entry)) (now (actions .entry))) b c ⌝ }
     {
-        let fitted = check_model(n, start, k, sources, targets, draws, gains, colours);
+        let fitted = check_model(n, start, k, sources, targets, draws, gains, colours, actions);
         let verdict = fitted.verdict;
         match verdict {
             Verdict::Yes => start_levelled(
@@ -205,13 +206,14 @@ impl Gauge {
         draws: &[u16],
         gains: &[u16],
         colours: &[u8],
+        actions: &[u8],
         b: u32,
         arc: u32,
     ) -> Gauged
-        ensures gauged { λ r. ⌜ r ≡ steppedOf n start k (lists (now (sources .entry)) (now (targets .entry)) (now (draws .entry)) (now (gains .entry)) (now (colours .entry))) b arc self ⌝ }
-        ensures answer { λ r. ⌜ answerOf (r .verdict) ≡ steppedAnswer n start k (lists (now (sources .entry)) (now (targets .entry)) (now (draws .entry)) (now (gains .entry)) (now (colours .entry))) b arc self ⌝ }
+        ensures gauged { λ r. ⌜ r ≡ steppedOf n start k (lists (now (sources .entry)) (now (targets .entry)) (now (draws .entry)) (now (gains .entry)) (now (colours .entry)) (now (actions .entry))) b arc self ⌝ }
+        ensures answer { λ r. ⌜ answerOf (r .verdict) ≡ steppedAnswer n start k (lists (now (sources .entry)) (now (targets .entry)) (now (draws .entry)) (now (gains .entry)) (now (colours .entry)) (now (actions .entry))) b arc self ⌝ }
     {
-        let fitted = check_model(n, start, k, sources, targets, draws, gains, colours);
+        let fitted = check_model(n, start, k, sources, targets, draws, gains, colours, actions);
         let verdict = fitted.verdict;
         match verdict {
             Verdict::Yes => step_levelled(self, fitted.model, b, arc),

@@ -3,7 +3,8 @@
 use Prim.Native.Nat.{ℕ}
 use mathlib.Core.Path.{_≡_}
 use mathlib.Core.List.{List, [], _∷_}
-use lib.IntN.{pos, negsuc}
+use lib.IntN.{ℤ, pos, negsuc}
+use lib.ListN.{length, replicate}
 use Rattle.refusals.specs.declared.Answer.{Answer}
 use Rattle.refusals.specs.declared.Verdict.the-variants.{Yes}
 use Rattle.refusals.specs.Refusals.{answer, andThen}
@@ -57,25 +58,29 @@ module _ {A : Type 0} where
 abbrev pub row : ℕ → ℕ → Lists → ℕ → ℕ → Claim → Example
 row n k l b c x = record { modes = n; colours = k; arcs = l; bound = b; credit = c; claim = x }
 
+-- the lists of arcs that have these weights; document 01's arcs have no action, so each has action 0
+abbrev pub byWeight : List ℕ → List ℕ → List ℤ → List ℕ → Lists
+byWeight ss ts ws cs = weighted ss ts ws cs (replicate (length ss) 0)
+
 -- A's model: "n 1, k 0, arc 0→0, 0"
 abbrev pub ofA : ℕ → ℕ → Claim → Example
-ofA = row 1 0 (weighted (0 ∷ []) (0 ∷ []) (pos 0 ∷ []) (0 ∷ []))
+ofA = row 1 0 (byWeight (0 ∷ []) (0 ∷ []) (pos 0 ∷ []) (0 ∷ []))
 
 -- B's model, also of C and D: "as A with weight −1"
 abbrev pub ofB : ℕ → ℕ → Claim → Example
-ofB = row 1 0 (weighted (0 ∷ []) (0 ∷ []) (negsuc 0 ∷ []) (0 ∷ []))
+ofB = row 1 0 (byWeight (0 ∷ []) (0 ∷ []) (negsuc 0 ∷ []) (0 ∷ []))
 
 -- E's model, also of F: "n 2, k 0, arcs 0→1, +3 and 1→0, −3"
 abbrev pub ofE : ℕ → ℕ → Claim → Example
-ofE = row 2 0 (weighted (0 ∷ 1 ∷ []) (1 ∷ 0 ∷ []) (pos 3 ∷ negsuc 2 ∷ []) (0 ∷ 0 ∷ []))
+ofE = row 2 0 (byWeight (0 ∷ 1 ∷ []) (1 ∷ 0 ∷ []) (pos 3 ∷ negsuc 2 ∷ []) (0 ∷ 0 ∷ []))
 
 -- G's model, also of H and I: "n 2, k 1, arcs 0→0, +1; 0→1, −5; 1→1, 0, colour 0"
 abbrev pub ofG : ℕ → ℕ → Claim → Example
-ofG = row 2 1 (weighted (0 ∷ 0 ∷ 1 ∷ []) (0 ∷ 1 ∷ 1 ∷ []) (pos 1 ∷ negsuc 4 ∷ pos 0 ∷ []) (0 ∷ 0 ∷ 1 ∷ []))
+ofG = row 2 1 (byWeight (0 ∷ 0 ∷ 1 ∷ []) (0 ∷ 1 ∷ 1 ∷ []) (pos 1 ∷ negsuc 4 ∷ pos 0 ∷ []) (0 ∷ 0 ∷ 1 ∷ []))
 
 -- J's model, also of K and L: "n 1, k 2, arcs 0→0, −2, colour 0 and 0→0, +2, colour 1"
 abbrev pub ofJ : ℕ → ℕ → Claim → Example
-ofJ = row 1 2 (weighted (0 ∷ 0 ∷ []) (0 ∷ 0 ∷ []) (negsuc 1 ∷ pos 2 ∷ []) (1 ∷ 2 ∷ []))
+ofJ = row 1 2 (byWeight (0 ∷ 0 ∷ []) (0 ∷ 0 ∷ []) (negsuc 1 ∷ pos 2 ∷ []) (1 ∷ 2 ∷ []))
 
 -- the table: A to L, in order
 abbrev pub examples : List Example

@@ -276,15 +276,16 @@ pub fn judge_model(
     draws: &[u16],
     gains: &[u16],
     colours: &[u8],
+    actions: &[u8],
     c: u32,
     b: u32,
     p: u32,
     q: u32,
     plan: &[u8],
 ) -> JudgedModel
-    ensures { λ r. ⌜ r ≡ judgedModel n start k (lists (now (sources .entry)) (now (targets .entry)) (now (draws .entry)) (now (gains .entry)) (now (colours .entry))) b c p q (now (plan .entry)) ⌝ }
+    ensures { λ r. ⌜ r ≡ judgedModel n start k (lists (now (sources .entry)) (now (targets .entry)) (now (draws .entry)) (now (gains .entry)) (now (colours .entry)) (now (actions .entry))) b c p q (now (plan .entry)) ⌝ }
 {
-    let fitted = check_model(n, start, k, sources, targets, draws, gains, colours);
+    let fitted = check_model(n, start, k, sources, targets, draws, gains, colours, actions);
     let verdict = fitted.verdict;
     let model = fitted.model;
     match verdict {
@@ -309,14 +310,15 @@ pub fn judge(
     draws: &[u16],
     gains: &[u16],
     colours: &[u8],
+    actions: &[u8],
     c: u32,
     b: u32,
     p: u32,
     q: u32,
     plan: &[u8],
 ) -> Verdict
-    ensures verdict { λ r. ⌜ r ≡ judged n start k (lists (now (sources .entry)) (now (targets .entry)) (now (draws .entry)) (now (gains .entry)) (now (colours .entry))) b c p q (now (plan .entry)) ⌝ }
-    ensures answer { λ r. ⌜ answerOf r ≡ judgedAnswer n start k (lists (now (sources .entry)) (now (targets .entry)) (now (draws .entry)) (now (gains .entry)) (now (colours .entry))) b c p q (now (plan .entry)) ⌝ }
+    ensures verdict { λ r. ⌜ r ≡ judged n start k (lists (now (sources .entry)) (now (targets .entry)) (now (draws .entry)) (now (gains .entry)) (now (colours .entry)) (now (actions .entry))) b c p q (now (plan .entry)) ⌝ }
+    ensures answer { λ r. ⌜ answerOf r ≡ judgedAnswer n start k (lists (now (sources .entry)) (now (targets .entry)) (now (draws .entry)) (now (gains .entry)) (now (colours .entry)) (now (actions .entry))) b c p q (now (plan .entry)) ⌝ }
 {
     let judged = judge_model(
         n,
@@ -327,6 +329,7 @@ pub fn judge(
         draws,
         gains,
         colours,
+        actions,
         c,
         b,
         p,

@@ -21,14 +21,14 @@ use Rattle.gauge.proofs.Gauge as T
 use Rattle.lent_gauge.proofs.step as f
 
 -- how each parameter's machine values are spelled, and that its type tells them
-abbrev pub spelled : (κs : Lfts 6) → Spells (typesAt (f.signature .params) κs)
-spelled κs = (ptr-vals, (uint-vals w32, (uint-vals w32, (uint-vals w32, (slice-vals, (slice-vals, (slice-vals, (slice-vals, (slice-vals, (uint-vals w32, (uint-vals w32, tt)))))))))))
+abbrev pub spelled : (κs : Lfts 7) → Spells (typesAt (f.signature .params) κs)
+spelled κs = (ptr-vals, (uint-vals w32, (uint-vals w32, (uint-vals w32, (slice-vals, (slice-vals, (slice-vals, (slice-vals, (slice-vals, (slice-vals, (uint-vals w32, (uint-vals w32, tt))))))))))))
 
-pub told : (κs : Lfts 6) → Tellss (typesAt (f.signature .params) κs) (Ises (typesAt (f.signature .params) κs)) (spelled κs)
+pub told : (κs : Lfts 7) → Tellss (typesAt (f.signature .params) κs) (Ises (typesAt (f.signature .params) κs)) (spelled κs)
 told κs =
-    (mut-tells (named 0) (κs .0) T.the-row, (uint-tells w32, (uint-tells w32, (uint-tells w32, (shr-slice-tells (named 1) (κs .1 .0) u8, (shr-slice-tells (named 2) (κs .1 .1 .0) u8, (shr-slice-tells (named 3) (κs .1 .1 .1 .0) u16, (shr-slice-tells (named 4) (κs .1 .1 .1 .1 .0) u16, (shr-slice-tells (named 5) (κs .1 .1 .1 .1 .1 .0) u8, (uint-tells w32, (uint-tells w32, tt)))))))))))
+    (mut-tells (named 0) (κs .0) T.the-row, (uint-tells w32, (uint-tells w32, (uint-tells w32, (shr-slice-tells (named 1) (κs .1 .0) u8, (shr-slice-tells (named 2) (κs .1 .1 .0) u8, (shr-slice-tells (named 3) (κs .1 .1 .1 .0) u16, (shr-slice-tells (named 4) (κs .1 .1 .1 .1 .0) u16, (shr-slice-tells (named 5) (κs .1 .1 .1 .1 .1 .0) u8, (shr-slice-tells (named 6) (κs .1 .1 .1 .1 .1 .1 .0) u8, (uint-tells w32, (uint-tells w32, tt))))))))))))
 
-module _ (κs : Lfts 6) (a : Args f.signature κs) where
+module _ (κs : Lfts 7) (a : Args f.signature κs) where
   -- where the gauge lies, and the gauge at entry
   abbrev pub p : ℕ
   p = a .0 .ptr .0
@@ -50,13 +50,15 @@ module _ (κs : Lfts 6) (a : Args f.signature κs) where
   k = a .1 .1 .1 .0
 
   abbrev pub bound : ℕ
-  bound = a .1 .1 .1 .1 .1 .1 .1 .1 .1 .0
+  bound = a .1 .1 .1 .1 .1 .1 .1 .1 .1 .1 .0
 
   abbrev pub arc : ℕ
-  arc = a .1 .1 .1 .1 .1 .1 .1 .1 .1 .1 .0
+  arc = a .1 .1 .1 .1 .1 .1 .1 .1 .1 .1 .1 .0
 
   abbrev pub model : Lists
-  model = lists (a .1 .1 .1 .1 .0 .now) (a .1 .1 .1 .1 .1 .0 .now) (a .1 .1 .1 .1 .1 .1 .0 .now) (a .1 .1 .1 .1 .1 .1 .1 .0 .now) (a .1 .1 .1 .1 .1 .1 .1 .1 .0 .now)
+  model =
+      lists (a .1 .1 .1 .1 .0 .now) (a .1 .1 .1 .1 .1 .0 .now) (a .1 .1 .1 .1 .1 .1 .0 .now) (a .1 .1 .1 .1 .1 .1 .1 .0 .now)
+      (a .1 .1 .1 .1 .1 .1 .1 .1 .0 .now) (a .1 .1 .1 .1 .1 .1 .1 .1 .1 .0 .now)
 
   -- what the step on the arc gives
   abbrev pub found : Gauged
@@ -78,9 +80,12 @@ module _ (κs : Lfts 6) (a : Args f.signature κs) where
   abbrev v-colours : Val
   v-colours = sliceVal (a .1 .1 .1 .1 .1 .1 .1 .1 .0 .ptr) (length (a .1 .1 .1 .1 .1 .1 .1 .1 .0 .now))
 
+  abbrev v-actions : Val
+  v-actions = sliceVal (a .1 .1 .1 .1 .1 .1 .1 .1 .1 .0 .ptr) (length (a .1 .1 .1 .1 .1 .1 .1 .1 .1 .0 .now))
+
   abbrev pub vals : Vals f.signature κs
   vals =
-      (vptr p o ∷ [], (vint w32 n ∷ [], (vint w32 start ∷ [], (vint w32 k ∷ [], (v-sources ∷ [], (v-targets ∷ [], (v-draws ∷ [], (v-gains ∷ [], (v-colours ∷ [], (vint w32 bound ∷ [], (vint w32 arc ∷ [], tt)))))))))))
+      (vptr p o ∷ [], (vint w32 n ∷ [], (vint w32 start ∷ [], (vint w32 k ∷ [], (v-sources ∷ [], (v-targets ∷ [], (v-draws ∷ [], (v-gains ∷ [], (v-colours ∷ [], (v-actions ∷ [], (vint w32 bound ∷ [], (vint w32 arc ∷ [], tt))))))))))))
 
   abbrev pub passed : List Val
-  passed = vptr p o ∷ vint w32 n ∷ vint w32 start ∷ vint w32 k ∷ v-sources ∷ v-targets ∷ v-draws ∷ v-gains ∷ v-colours ∷ vint w32 bound ∷ vint w32 arc ∷ []
+  passed = vptr p o ∷ vint w32 n ∷ vint w32 start ∷ vint w32 k ∷ v-sources ∷ v-targets ∷ v-draws ∷ v-gains ∷ v-colours ∷ v-actions ∷ vint w32 bound ∷ vint w32 arc ∷ []

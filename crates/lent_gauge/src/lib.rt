@@ -23,12 +23,13 @@ fn step_by_value(
     draws: &[u16],
     gains: &[u16],
     colours: &[u8],
+    actions: &[u8],
     b: u32,
     arc: u32,
 ) -> Moved
-    ensures { λ r. ⌜ r ≡ moved (steppedOf n start k (lists (now (sources .entry)) (now (targets .entry)) (now (draws .entry)) (now (gains .entry)) (now (colours .entry))) b arc gauge) ⌝ }
+    ensures { λ r. ⌜ r ≡ moved (steppedOf n start k (lists (now (sources .entry)) (now (targets .entry)) (now (draws .entry)) (now (gains .entry)) (now (colours .entry)) (now (actions .entry))) b arc gauge) ⌝ }
 {
-    let gauged = gauge.step(n, start, k, sources, targets, draws, gains, colours, b, arc);
+    let gauged = gauge.step(n, start, k, sources, targets, draws, gains, colours, actions, b, arc);
     let verdict = gauged.verdict;
     let after = gauged.gauge;
     Moved {
@@ -49,10 +50,11 @@ pub fn step(
     draws: &[u16],
     gains: &[u16],
     colours: &[u8],
+    actions: &[u8],
     b: u32,
     arc: u32,
 ) -> Answer
-    ensures { λ r. ⌜ LentStep n start k (lists (now (sources .entry)) (now (targets .entry)) (now (draws .entry)) (now (gains .entry)) (now (colours .entry))) b arc (now (gauge .entry)) (now (gauge .exit)) r ⌝ }
+    ensures { λ r. ⌜ LentStep n start k (lists (now (sources .entry)) (now (targets .entry)) (now (draws .entry)) (now (gains .entry)) (now (colours .entry)) (now (actions .entry))) b arc (now (gauge .entry)) (now (gauge .exit)) r ⌝ }
 {
     let done = step_by_value(
         *gauge,
@@ -64,6 +66,7 @@ pub fn step(
         draws,
         gains,
         colours,
+        actions,
         b,
         arc,
     );

@@ -102,6 +102,7 @@ pub fn walk(
     draws: &[u16],
     gains: &[u16],
     colours: &[u8],
+    actions: &[u8],
     c: u32,
     b: u32,
     p: u32,
@@ -110,8 +111,8 @@ pub fn walk(
     j: u32,
     allowance: u16,
 ) -> Walked
-    ensures walked { λ r. ⌜ r ≡ walkOf n start k (lists (now (sources .entry)) (now (targets .entry)) (now (draws .entry)) (now (gains .entry)) (now (colours .entry))) b c p q (now (plan .entry)) j allowance ⌝ }
-    ensures answer { λ r. ⌜ walkAnswer r ≡ walkedAnswer n start k (lists (now (sources .entry)) (now (targets .entry)) (now (draws .entry)) (now (gains .entry)) (now (colours .entry))) b c p q (now (plan .entry)) j allowance ⌝ }
+    ensures walked { λ r. ⌜ r ≡ walkOf n start k (lists (now (sources .entry)) (now (targets .entry)) (now (draws .entry)) (now (gains .entry)) (now (colours .entry)) (now (actions .entry))) b c p q (now (plan .entry)) j allowance ⌝ }
+    ensures answer { λ r. ⌜ walkAnswer r ≡ walkedAnswer n start k (lists (now (sources .entry)) (now (targets .entry)) (now (draws .entry)) (now (gains .entry)) (now (colours .entry)) (now (actions .entry))) b c p q (now (plan .entry)) j allowance ⌝ }
 {
     let judged = judge_model(
         n,
@@ -122,6 +123,7 @@ pub fn walk(
         draws,
         gains,
         colours,
+        actions,
         c,
         b,
         p,

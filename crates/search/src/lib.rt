@@ -106,14 +106,15 @@ fn check_search(
     draws: &[u16],
     gains: &[u16],
     colours: &[u8],
+    actions: &[u8],
     c: u32,
     b: u32,
     words: usize,
     bytes: usize,
 ) -> Fitted
-    ensures { λ r. ⌜ r ≡ checkedOf n start k (lists (now (sources .entry)) (now (targets .entry)) (now (draws .entry)) (now (gains .entry)) (now (colours .entry))) b c words bytes ⌝ }
+    ensures { λ r. ⌜ r ≡ checkedOf n start k (lists (now (sources .entry)) (now (targets .entry)) (now (draws .entry)) (now (gains .entry)) (now (colours .entry)) (now (actions .entry))) b c words bytes ⌝ }
 {
-    let fitted = check_model(n, start, k, sources, targets, draws, gains, colours);
+    let fitted = check_model(n, start, k, sources, targets, draws, gains, colours, actions);
     let verdict = fitted.verdict;
     let model = fitted.model;
     match verdict {
@@ -162,12 +163,13 @@ pub fn search(
     draws: &[u16],
     gains: &[u16],
     colours: &[u8],
+    actions: &[u8],
     c: u32,
     b: u32,
     work: &mut [u16],
     plan: &mut [u8],
 ) -> Searched
-    ensures { λ r. ⌜ SearchOf n start k (lists (now (sources .entry)) (now (targets .entry)) (now (draws .entry)) (now (gains .entry)) (now (colours .entry))) b c (now (work .entry)) (now (plan .entry)) (now (work .exit)) (now (plan .exit)) r ⌝ }
+    ensures { λ r. ⌜ SearchOf n start k (lists (now (sources .entry)) (now (targets .entry)) (now (draws .entry)) (now (gains .entry)) (now (colours .entry)) (now (actions .entry))) b c (now (work .entry)) (now (plan .entry)) (now (work .exit)) (now (plan .exit)) r ⌝ }
 {
     let checked = check_search(
         n,
@@ -178,6 +180,7 @@ pub fn search(
         draws,
         gains,
         colours,
+        actions,
         c,
         b,
         work.len(),

@@ -44,6 +44,7 @@ fn check_answer(
     draws: &[u16],
     gains: &[u16],
     colours: &[u8],
+    actions: &[u8],
     numbers: Numbers,
     searched: Searched,
     expected: bool,
@@ -54,7 +55,7 @@ fn check_answer(
             if !expected {
                 return Outcome::Difference;
             }
-            if !is_plan_right(sources, targets, draws, gains, colours, numbers, p, q, plan) {
+            if !is_plan_right(sources, targets, draws, gains, colours, actions, numbers, p, q, plan) {
                 return Outcome::Difference;
             }
             Outcome::Plan
@@ -82,6 +83,7 @@ fn compare(
     draws: &[u16],
     gains: &[u16],
     colours: &[u8],
+    actions: &[u8],
     numbers: Numbers,
     expected: bool,
     work: &mut [u16],
@@ -98,6 +100,7 @@ fn compare(
         draws,
         gains,
         colours,
+        actions,
         numbers.credit,
         numbers.bound,
         work,
@@ -112,6 +115,7 @@ fn compare(
         draws,
         gains,
         colours,
+        actions,
         numbers,
         searched,
         expected,
@@ -126,6 +130,7 @@ fn expects(
     draws: &[u16],
     gains: &[u16],
     colours: &[u8],
+    actions: &[u8],
     numbers: Numbers,
     pairs: usize,
 ) -> bool
@@ -139,6 +144,7 @@ fn expects(
         draws,
         gains,
         colours,
+        actions,
         numbers,
         &mut candidates[..pairs],
         &mut marked[..pairs],
@@ -152,6 +158,7 @@ fn lend(
     draws: &[u16],
     gains: &[u16],
     colours: &[u8],
+    actions: &[u8],
     numbers: Numbers,
     extra: usize,
 ) -> Outcome {
@@ -163,7 +170,7 @@ fn lend(
     if room > ROOM {
         return Outcome::Difference;
     }
-    let expected = expects(sources, targets, draws, gains, colours, numbers, pairs);
+    let expected = expects(sources, targets, draws, gains, colours, actions, numbers, pairs);
     let mut work = [0u16; WORDS];
     let mut plan = [0u8; BYTES];
     let words = Limits::WORK_WORDS * room + extra % 4;
@@ -174,6 +181,7 @@ fn lend(
         draws,
         gains,
         colours,
+        actions,
         numbers,
         expected,
         &mut work[..words],

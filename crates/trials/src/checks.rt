@@ -16,6 +16,7 @@ fn is_judged(
     draws: &[u16],
     gains: &[u16],
     colours: &[u8],
+    actions: &[u8],
     numbers: Numbers,
     p: u32,
     q: u32,
@@ -30,6 +31,7 @@ fn is_judged(
         draws,
         gains,
         colours,
+        actions,
         numbers.credit,
         numbers.bound,
         p,
@@ -47,6 +49,7 @@ fn is_walked_for(
     draws: &[u16],
     gains: &[u16],
     colours: &[u8],
+    actions: &[u8],
     numbers: Numbers,
     p: u32,
     q: u32,
@@ -64,6 +67,7 @@ fn is_walked_for(
         draws,
         gains,
         colours,
+        actions,
         numbers.credit,
         numbers.bound,
         p,
@@ -87,6 +91,7 @@ fn is_walked(
     draws: &[u16],
     gains: &[u16],
     colours: &[u8],
+    actions: &[u8],
     numbers: Numbers,
     p: u32,
     q: u32,
@@ -102,6 +107,7 @@ fn is_walked(
             draws,
             gains,
             colours,
+            actions,
             numbers,
             p,
             q,
@@ -122,6 +128,7 @@ pub fn is_plan_right(
     draws: &[u16],
     gains: &[u16],
     colours: &[u8],
+    actions: &[u8],
     numbers: Numbers,
     p: u32,
     q: u32,
@@ -138,10 +145,10 @@ pub fn is_plan_right(
         return false;
     }
     let plan = &buffer[..length];
-    if !is_judged(sources, targets, draws, gains, colours, numbers, p, q, plan) {
+    if !is_judged(sources, targets, draws, gains, colours, actions, numbers, p, q, plan) {
         return false;
     }
-    if !is_walked(sources, targets, draws, gains, colours, numbers, p, q, plan) {
+    if !is_walked(sources, targets, draws, gains, colours, actions, numbers, p, q, plan) {
         return false;
     }
     is_right(
@@ -150,6 +157,7 @@ pub fn is_plan_right(
         draws,
         gains,
         colours,
+        actions,
         numbers,
         p as usize,
         plan,

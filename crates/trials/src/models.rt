@@ -1,4 +1,4 @@
-// Random models: a fixed generator, families of models, and the five lists of one.
+// Random models: a fixed generator, families of models, and the six lists of one.
 ghost use Prim.Native.Nat.{_≤_};
 use crate::lists::put;
 use crate::lists::put_word;
@@ -190,6 +190,7 @@ pub fn put_arcs(
             draws,
             gains,
             colours,
+            actions,
         );
         i += 1;
     }

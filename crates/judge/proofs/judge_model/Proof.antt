@@ -14,10 +14,12 @@ enum-told c = search needs
 
 -- from the check to the beginning, and the lists
 abbrev start : tie.After-check-model → tie.Start
-start r = r .before .before .before .before .before .before .before
+start r = r .before .before .before .before .before .before .before .before
 
 abbrev lists-of : tie.Start → Lists
-lists-of s = lists (s .args .sources .now) (s .args .targets .now) (s .args .draws .now) (s .args .gains .now) (s .args .colours .now)
+lists-of s =
+    lists (s .args .sources .now) (s .args .targets .now) (s .args .draws .now) (s .args .gains .now) (s .args .colours .now)
+    (s .args .actions .now)
 
 judge-levels-requires : tie.Need-judge-levels-requires
 judge-levels-requires c κs =

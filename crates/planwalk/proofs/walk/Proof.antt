@@ -20,10 +20,12 @@ enum-told c = search needs
 
 -- from judging to the beginning, and the lists
 abbrev start : tie.After-judge-model → tie.Start
-start r = r .before .before .before .before .before .before .before
+start r = r .before .before .before .before .before .before .before .before
 
 abbrev lists-of : tie.Start → Lists
-lists-of s = lists (s .args .sources .now) (s .args .targets .now) (s .args .draws .now) (s .args .gains .now) (s .args .colours .now)
+lists-of s =
+    lists (s .args .sources .now) (s .args .targets .now) (s .args .draws .now) (s .args .gains .now) (s .args .colours .now)
+    (s .args .actions .now)
 
 returns : tie.Need-returns
 returns c =

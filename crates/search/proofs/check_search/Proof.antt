@@ -48,10 +48,12 @@ module _ (n s k : ℕ) (l : Lists) (y : Fitted) (told : y ≡ fittedOf n s k l) 
 
 -- from the model's check to the beginning, and the lists
 abbrev start : tie.After-check-model → tie.Start
-start r = r .before .before .before .before .before .before
+start r = r .before .before .before .before .before .before .before
 
 abbrev lists-of : tie.Start → Lists
-lists-of s = lists (s .args .sources .now) (s .args .targets .now) (s .args .draws .now) (s .args .gains .now) (s .args .colours .now)
+lists-of s =
+    lists (s .args .sources .now) (s .args .targets .now) (s .args .draws .now) (s .args .gains .now) (s .args .colours .now)
+    (s .args .actions .now)
 
 check-model-requires : tie.Need-check-model-requires
 check-model-requires c κs = search needs

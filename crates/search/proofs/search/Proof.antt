@@ -26,13 +26,15 @@ enum-told c = search needs
 
 -- from the check to the beginning, from the yes to the check, and the lists
 abbrev start : tie.After-check-search → tie.Start
-start d = d .before .before .before .before .before .before .before .before
+start d = d .before .before .before .before .before .before .before .before .before
 
 abbrev checked : tie.After-enum-told → tie.After-check-search
 checked t = t .before .before .before
 
 abbrev lists-of : tie.Start → Lists
-lists-of s = lists (s .args .sources .now) (s .args .targets .now) (s .args .draws .now) (s .args .gains .now) (s .args .colours .now)
+lists-of s =
+    lists (s .args .sources .now) (s .args .targets .now) (s .args .draws .now) (s .args .gains .now) (s .args .colours .now)
+    (s .args .actions .now)
 
 -- where the check says yes, the model is fit and none of 6 to 9 applies
 solvable : (t : tie.After-enum-told) → let a = start (checked t) .args in

@@ -15,10 +15,12 @@ enum-told c = search needs
 
 -- from the check to the beginning, and the lists
 abbrev start : tie.After-check-model → tie.Start
-start d = d .before .before .before .before .before .before
+start d = d .before .before .before .before .before .before .before
 
 abbrev lists-of : tie.Start → Lists
-lists-of s = lists (s .args .sources .now) (s .args .targets .now) (s .args .draws .now) (s .args .gains .now) (s .args .colours .now)
+lists-of s =
+    lists (s .args .sources .now) (s .args .targets .now) (s .args .draws .now) (s .args .gains .now) (s .args .colours .now)
+    (s .args .actions .now)
 
 step-levelled-requires : tie.Need-step-levelled-requires
 step-levelled-requires c κs =
