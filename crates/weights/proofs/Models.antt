@@ -43,10 +43,10 @@ gain-range (pos x) = refl
 gain-range (negsuc x) = refl
 
 -- one list of weights for the two of draws and gains
-or-twice : (a x c d : Bool) → (a || x || x || c || d) ≡ (a || x || c || d)
-or-twice true x c d = refl
-or-twice false true c d = refl
-or-twice false false c d = refl
+or-twice : (a x : Bool) → (a || x || x) ≡ (a || x)
+or-twice true x = refl
+or-twice false true = refl
+or-twice false false = refl
 
 -- what follows a step may be given in another way
 after-step : (t : Step) (f h : ℕ → End) → ((y : ℕ) → f y ≡ h y) → afterStep t f ≡ afterStep t h
@@ -75,7 +75,7 @@ module _ (l : WeightLists) where
       rw (
         length-map (l .weights) drawOf,
         length-map (l .weights) gainOf,
-        or-twice (not (eqb (length (l .targets)) m)) (not (eqb (length (l .weights)) m)) (not (eqb (length (l .colours)) m)) (ltb arcsMost m),
+        or-twice (not (eqb (length (l .targets)) m)) (not (eqb (length (l .weights)) m)),
       ) refl
 
   -- 5
@@ -102,7 +102,7 @@ module _ (l : WeightLists) where
               ∙ sym (ap {B = Move} moveOfWeight (List·getD-eq-default (take m (l .weights)) (pos 0) (omega (arith, length-take m (l .weights)))))
           | no h ↦
               ap {B = Move} moveOf (arcs-here (listsOf l) m a (omega arith))
-              ∙ weighted-move (l .sources) (l .targets) (l .weights) (l .colours) a
+              ∙ weighted-move (l .sources) (l .targets) (l .weights) (l .colours) (l .actions) a
               ∙ ap {B = Move} moveOfWeight (sym (getD-take m (l .weights) a (pos 0) (omega arith)))
         ]
 

@@ -47,7 +47,7 @@ part-none (negsuc x) = inr refl
 pub one-part : (l : Lists) → OnePart l ↔ ((w : WeightLists) × (listsOf w ≡ l))
 one-part l = (
   λ h. (
-    record { sources = l .sources; targets = l .targets; weights = weightsOf (l .draws) (l .gains); colours = l .colours },
+    record { sources = l .sources; targets = l .targets; weights = weightsOf (l .draws) (l .gains); colours = l .colours; actions = l .actions },
     rw (draws-back (l .draws) (l .gains) (h .equal), gains-back (l .draws) (l .gains) (h .equal) (h .none)) refl,
   ),
   λ (w, e). rw (sym e) (record {

@@ -120,7 +120,7 @@ abbrev pub SearchByWeight : ℕ → ℕ → ℕ → WeightLists → ℕ → ℕ 
 SearchByWeight n s k l b c work plan work′ plan′ r =
     SearchIfByWeight (andThen (fitnessByWeight n s k l) (levelsAndSpaces n k b c (length work) (length plan))) n s k l b c work plan work′ plan′ r
 
--- "the same verdicts as before": every call on the five lists l answers what the weights l′ say, whatever else it is given
+-- "the same verdicts as before": every call on the six lists l answers what the weights l′ say, whatever else it is given
 pub record SameAnswers (l : Lists) (l′ : WeightLists) : Type 0 where
   pub judging : (n s k b c p q : ℕ) (w : List ℕ) → judged n s k l b c p q w ≡ judgedByWeight n s k l′ b c p q w
   pub starting : (n s k b c : ℕ) → startedOf n s k l b c ≡ startedByWeight n s k l′ b c

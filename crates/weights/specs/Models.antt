@@ -9,7 +9,7 @@ use lib.Dec.{leb, ltb, eqb}
 use lib.IntN.{ℤ, pos, negℤ}
 use lib.ListN.{length, getD, take}
 use lib.Signed.{ltZ}
-use Rattle.limits.specs.Ceilings.{modesMost, arcsMost, coloursMost}
+use Rattle.limits.specs.Ceilings.{modesMost, arcsMost, coloursMost, actionMost}
 use Rattle.walks.specs.Walk.{End, Ends, afterStep, IsPossible, times}
 use Rattle.walks.specs.Weights.{weighed}
 use Rattle.refusals.specs.declared.Refusal.the-variants.{ModeCount, StartMode, ArcLists, ColourCount, UnfitArc}
@@ -20,16 +20,17 @@ use Rattle.model.specs.Automaton.{Automaton}
 use Rattle.model.specs.Lists.{Lists, weighted, automatonOf}
 use Rattle.model.specs.Plans.{Plan, IsPlan, Accepted}
 
--- "Arcs come as four lent lists of equal length"
+-- "Arcs come as four lent lists of equal length"; Ask 5's actions are a fifth
 pub record WeightLists : Type 0 where
   pub sources : List ℕ
   pub targets : List ℕ
   pub weights : List ℤ
   pub colours : List ℕ
+  pub actions : List ℕ
 
--- the five lists that stand for them, and the model that these define
+-- the six lists that stand for them, and the model that these define
 abbrev pub listsOf : WeightLists → Lists
-listsOf l = weighted (l .sources) (l .targets) (l .weights) (l .colours)
+listsOf l = weighted (l .sources) (l .targets) (l .weights) (l .colours) (l .actions)
 
 abbrev pub modelBy : ℕ → ℕ → ℕ → WeightLists → Automaton
 modelBy n s k l = automatonOf n s k (listsOf l)
@@ -50,26 +51,27 @@ weightLeast = negℤ (pos 10000)
 abbrev pub weightMost : ℤ
 weightMost = pos 10000
 
--- "arc lists unequal or longer than 255", by the lengths of the four
-abbrev pub unfitListsByWeight : ℕ → ℕ → ℕ → ℕ → Bool
-unfitListsByWeight sources targets weights colours =
-    not (eqb targets sources) || not (eqb weights sources) || not (eqb colours sources) || ltb arcsMost sources
+-- "arc lists unequal or longer than 255", by the lengths of the five
+abbrev pub unfitListsByWeight : ℕ → ℕ → ℕ → ℕ → ℕ → Bool
+unfitListsByWeight sources targets weights colours actions =
+    not (eqb targets sources) || not (eqb weights sources) || not (eqb colours sources) || not (eqb actions sources) || ltb arcsMost sources
 
 -- 1 to 4
 abbrev pub headerByWeight : ℕ → ℕ → ℕ → WeightLists → Verdict
 headerByWeight n s k l =
     refuse (eqb n 0 || ltb modesMost n) ModeCount
     (refuse (leb n s) StartMode
-    (refuse (unfitListsByWeight (length (l .sources)) (length (l .targets)) (length (l .weights)) (length (l .colours))) ArcLists
+    (refuse
+    (unfitListsByWeight (length (l .sources)) (length (l .targets)) (length (l .weights)) (length (l .colours)) (length (l .actions))) ArcLists
     (refuse (ltb coloursMost k) ColourCount
     Yes)))
 
--- "an arc's source or target not below n, weight outside its range, or a colour bit at or above k"; power is 2 ^ k
+-- "an arc's source or target not below n, weight outside its range, or a colour bit at or above k", or an action above 15; power is 2 ^ k
 abbrev pub unfitArcByWeight : ℕ → ℕ → WeightLists → ℕ → Bool
 unfitArcByWeight n power l a =
     let w = getD (l .weights) a (pos 0) in
     leb n (getD (l .sources) a 0) || leb n (getD (l .targets) a 0) || ltZ w weightLeast || ltZ weightMost w
-    || leb power (getD (l .colours) a 0)
+    || leb power (getD (l .colours) a 0) || ltb actionMost (getD (l .actions) a 0)
 
 -- 5, with the lowest such arc, of m arcs from a on
 unfoldable pub arcsByWeight : ℕ → ℕ → WeightLists → ℕ → ℕ → Verdict
