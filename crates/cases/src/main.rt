@@ -24,6 +24,7 @@ fn print_draining(letter: u8, level: u32) {
     let draws = [1u16];
     let gains = [0u16];
     let colours = [0u8];
+    let actions = [0u8];
     let plan = [0u8];
     let verdict = judge(
         1,
@@ -34,6 +35,7 @@ fn print_draining(letter: u8, level: u32) {
         &draws,
         &gains,
         &colours,
+        &actions,
         level,
         level,
         0,
@@ -50,6 +52,7 @@ fn print_balanced(letter: u8, level: u32) {
     let draws = [0u16, 3u16];
     let gains = [3u16, 0u16];
     let colours = [0u8, 0u8];
+    let actions = [0u8, 0u8];
     let plan = [0u8, 1u8];
     let verdict = judge(
         2,
@@ -60,6 +63,7 @@ fn print_balanced(letter: u8, level: u32) {
         &draws,
         &gains,
         &colours,
+        &actions,
         level,
         level,
         0,
@@ -76,6 +80,7 @@ fn print_charged(letter: u8) {
     let draws = [0u16, 5u16, 0u16];
     let gains = [1u16, 0u16, 0u16];
     let colours = [0u8, 0u8, 1u8];
+    let actions = [0u8, 0u8, 0u8];
     let plan = [0u8, 0u8, 0u8, 0u8, 0u8, 1u8, 2u8];
     let verdict = judge(
         2,
@@ -86,6 +91,7 @@ fn print_charged(letter: u8) {
         &draws,
         &gains,
         &colours,
+        &actions,
         0,
         5,
         6,
@@ -102,6 +108,7 @@ fn print_coloured(letter: u8, round: &[u8], q: u32) {
     let draws = [2u16, 0u16];
     let gains = [0u16, 2u16];
     let colours = [1u8, 2u8];
+    let actions = [0u8, 0u8];
     let verdict = judge(
         1,
         0,
@@ -111,6 +118,7 @@ fn print_coloured(letter: u8, round: &[u8], q: u32) {
         &draws,
         &gains,
         &colours,
+        &actions,
         0,
         2,
         0,

@@ -68,13 +68,14 @@ pub extern "C" fn chargeplan_judge(
     draws: &[u16],
     gains: &[u16],
     colours: &[u8],
+    actions: &[u8],
     c: u32,
     b: u32,
     p: u32,
     q: u32,
     plan: &[u8],
 ) -> u64
-    ensures { λ r. ⌜ r ≡ deskJudged n start k (lists (now (sources .entry)) (now (targets .entry)) (now (draws .entry)) (now (gains .entry)) (now (colours .entry))) b c p q (now (plan .entry)) ⌝ }
+    ensures { λ r. ⌜ r ≡ deskJudged n start k (lists (now (sources .entry)) (now (targets .entry)) (now (draws .entry)) (now (gains .entry)) (now (colours .entry)) (now (actions .entry))) b c p q (now (plan .entry)) ⌝ }
 {
     let verdict = judge(
         n,
@@ -85,6 +86,7 @@ pub extern "C" fn chargeplan_judge(
         draws,
         gains,
         colours,
+        actions,
         c,
         b,
         p,
@@ -106,12 +108,13 @@ pub extern "C" fn chargeplan_search(
     draws: &[u16],
     gains: &[u16],
     colours: &[u8],
+    actions: &[u8],
     c: u32,
     b: u32,
     work: &mut [u16],
     plan: &mut [u8],
 ) -> u64
-    ensures { λ r. ⌜ DeskSearched n start k (lists (now (sources .entry)) (now (targets .entry)) (now (draws .entry)) (now (gains .entry)) (now (colours .entry))) b c (now (work .entry)) (now (plan .entry)) (now (work .exit)) (now (plan .exit)) r ⌝ }
+    ensures { λ r. ⌜ DeskSearched n start k (lists (now (sources .entry)) (now (targets .entry)) (now (draws .entry)) (now (gains .entry)) (now (colours .entry)) (now (actions .entry))) b c (now (work .entry)) (now (plan .entry)) (now (work .exit)) (now (plan .exit)) r ⌝ }
 {
     let searched = search(
         n,
@@ -122,6 +125,7 @@ pub extern "C" fn chargeplan_search(
         draws,
         gains,
         colours,
+        actions,
         c,
         b,
         work,
@@ -144,12 +148,13 @@ pub extern "C" fn chargeplan_gauge_start(
     draws: &[u16],
     gains: &[u16],
     colours: &[u8],
+    actions: &[u8],
     c: u32,
     b: u32,
 ) -> Started
-    ensures { λ r. ⌜ r ≡ deskStarted n start k (lists (now (sources .entry)) (now (targets .entry)) (now (draws .entry)) (now (gains .entry)) (now (colours .entry))) b c ⌝ }
+    ensures { λ r. ⌜ r ≡ deskStarted n start k (lists (now (sources .entry)) (now (targets .entry)) (now (draws .entry)) (now (gains .entry)) (now (colours .entry)) (now (actions .entry))) b c ⌝ }
 {
-    let gauged = Gauge::start(n, start, k, sources, targets, draws, gains, colours, c, b);
+    let gauged = Gauge::start(n, start, k, sources, targets, draws, gains, colours, actions, c, b);
     let verdict = gauged.verdict;
     let gauge = gauged.gauge;
     let answer = pack_alone(verdict.answer());
@@ -169,10 +174,11 @@ pub extern "C" fn chargeplan_gauge_step(
     draws: &[u16],
     gains: &[u16],
     colours: &[u8],
+    actions: &[u8],
     b: u32,
     arc: u32,
 ) -> u64
-    ensures { λ r. ⌜ DeskStepped n start k (lists (now (sources .entry)) (now (targets .entry)) (now (draws .entry)) (now (gains .entry)) (now (colours .entry))) b arc (now (gauge .entry)) (now (gauge .exit)) r ⌝ }
+    ensures { λ r. ⌜ DeskStepped n start k (lists (now (sources .entry)) (now (targets .entry)) (now (draws .entry)) (now (gains .entry)) (now (colours .entry)) (now (actions .entry))) b arc (now (gauge .entry)) (now (gauge .exit)) r ⌝ }
 {
     let answer = step(
         gauge,
@@ -184,6 +190,7 @@ pub extern "C" fn chargeplan_gauge_step(
         draws,
         gains,
         colours,
+        actions,
         b,
         arc,
     );
@@ -202,6 +209,7 @@ pub extern "C" fn chargeplan_walk(
     draws: &[u16],
     gains: &[u16],
     colours: &[u8],
+    actions: &[u8],
     c: u32,
     b: u32,
     p: u32,
@@ -210,7 +218,7 @@ pub extern "C" fn chargeplan_walk(
     j: u32,
     allowance: u16,
 ) -> u64
-    ensures { λ r. ⌜ r ≡ deskWalked n start k (lists (now (sources .entry)) (now (targets .entry)) (now (draws .entry)) (now (gains .entry)) (now (colours .entry))) b c p q (now (plan .entry)) j allowance ⌝ }
+    ensures { λ r. ⌜ r ≡ deskWalked n start k (lists (now (sources .entry)) (now (targets .entry)) (now (draws .entry)) (now (gains .entry)) (now (colours .entry)) (now (actions .entry))) b c p q (now (plan .entry)) j allowance ⌝ }
 {
     let walked = walk(
         n,
@@ -221,6 +229,7 @@ pub extern "C" fn chargeplan_walk(
         draws,
         gains,
         colours,
+        actions,
         c,
         b,
         p,
@@ -248,10 +257,10 @@ pub extern "C" fn chargeplan_read(
     gains: &mut [u16],
     colours: &mut [u8],
 ) -> Read
-    ensures answer { λ r. ⌜ r ≡ deskRead (now (hoa .entry)) (now (dimacs .entry)) (lists (now (sources .entry)) (now (targets .entry)) (now (draws .entry)) (now (gains .entry)) (now (colours .entry))) ⌝ }
-    ensures lists { λ _. ⌜ lists (now (sources .exit)) (now (targets .exit)) (now (draws .exit)) (now (gains .exit)) (now (colours .exit)) ≡ listsRead (now (hoa .entry)) (now (dimacs .entry)) (lists (now (sources .entry)) (now (targets .entry)) (now (draws .entry)) (now (gains .entry)) (now (colours .entry))) ⌝ }
+    ensures answer { λ r. ⌜ r ≡ deskRead (now (hoa .entry)) (now (dimacs .entry)) (lists (now (sources .entry)) (now (targets .entry)) (now (draws .entry)) (now (gains .entry)) (now (colours .entry)) (now (actions .entry))) ⌝ }
+    ensures lists { λ _. ⌜ lists (now (sources .exit)) (now (targets .exit)) (now (draws .exit)) (now (gains .exit)) (now (colours .exit)) (now (actions .exit)) ≡ listsRead (now (hoa .entry)) (now (dimacs .entry)) (lists (now (sources .entry)) (now (targets .entry)) (now (draws .entry)) (now (gains .entry)) (now (colours .entry)) (now (actions .entry))) ⌝ }
 {
-    let reading = read(hoa, dimacs, sources, targets, draws, gains, colours);
+    let reading = read(hoa, dimacs, sources, targets, draws, gains, colours, actions);
     let verdict = reading.verdict;
     let answer = verdict.answer();
     Read {

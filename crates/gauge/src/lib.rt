@@ -180,7 +180,17 @@ impl Gauge {
         ensures gauged { λ r. ⌜ r ≡ startedOf n start k (lists (now (sources .entry)) (now (targets .entry)) (now (draws .entry)) (now (gains .entry)) (now (colours .entry)) (now (actions .entry))) b c ⌝ }
         ensures answer { λ r. ⌜ answerOf (r .verdict) ≡ startedAnswer n start k (lists (now (sources .entry)) (now (targets .entry)) (now (draws .entry)) (now (gains .entry)) (now (colours .entry)) (now (actions .entry))) b c ⌝ }
     {
-        let fitted = check_model(n, start, k, sources, targets, draws, gains, colours, actions);
+        let fitted = check_model(
+            n,
+            start,
+            k,
+            sources,
+            targets,
+            draws,
+            gains,
+            colours,
+            actions,
+        );
         let verdict = fitted.verdict;
         match verdict {
             Verdict::Yes => start_levelled(
@@ -213,7 +223,17 @@ impl Gauge {
         ensures gauged { λ r. ⌜ r ≡ steppedOf n start k (lists (now (sources .entry)) (now (targets .entry)) (now (draws .entry)) (now (gains .entry)) (now (colours .entry)) (now (actions .entry))) b arc self ⌝ }
         ensures answer { λ r. ⌜ answerOf (r .verdict) ≡ steppedAnswer n start k (lists (now (sources .entry)) (now (targets .entry)) (now (draws .entry)) (now (gains .entry)) (now (colours .entry)) (now (actions .entry))) b arc self ⌝ }
     {
-        let fitted = check_model(n, start, k, sources, targets, draws, gains, colours, actions);
+        let fitted = check_model(
+            n,
+            start,
+            k,
+            sources,
+            targets,
+            draws,
+            gains,
+            colours,
+            actions,
+        );
         let verdict = fitted.verdict;
         match verdict {
             Verdict::Yes => step_levelled(self, fitted.model, b, arc),

@@ -285,7 +285,17 @@ pub fn judge_model(
 ) -> JudgedModel
     ensures { λ r. ⌜ r ≡ judgedModel n start k (lists (now (sources .entry)) (now (targets .entry)) (now (draws .entry)) (now (gains .entry)) (now (colours .entry)) (now (actions .entry))) b c p q (now (plan .entry)) ⌝ }
 {
-    let fitted = check_model(n, start, k, sources, targets, draws, gains, colours, actions);
+    let fitted = check_model(
+        n,
+        start,
+        k,
+        sources,
+        targets,
+        draws,
+        gains,
+        colours,
+        actions,
+    );
     let verdict = fitted.verdict;
     let model = fitted.model;
     match verdict {

@@ -29,7 +29,19 @@ fn step_by_value(
 ) -> Moved
     ensures { λ r. ⌜ r ≡ moved (steppedOf n start k (lists (now (sources .entry)) (now (targets .entry)) (now (draws .entry)) (now (gains .entry)) (now (colours .entry)) (now (actions .entry))) b arc gauge) ⌝ }
 {
-    let gauged = gauge.step(n, start, k, sources, targets, draws, gains, colours, actions, b, arc);
+    let gauged = gauge.step(
+        n,
+        start,
+        k,
+        sources,
+        targets,
+        draws,
+        gains,
+        colours,
+        actions,
+        b,
+        arc,
+    );
     let verdict = gauged.verdict;
     let after = gauged.gauge;
     Moved {

@@ -114,7 +114,17 @@ fn check_search(
 ) -> Fitted
     ensures { λ r. ⌜ r ≡ checkedOf n start k (lists (now (sources .entry)) (now (targets .entry)) (now (draws .entry)) (now (gains .entry)) (now (colours .entry)) (now (actions .entry))) b c words bytes ⌝ }
 {
-    let fitted = check_model(n, start, k, sources, targets, draws, gains, colours, actions);
+    let fitted = check_model(
+        n,
+        start,
+        k,
+        sources,
+        targets,
+        draws,
+        gains,
+        colours,
+        actions,
+    );
     let verdict = fitted.verdict;
     let model = fitted.model;
     match verdict {

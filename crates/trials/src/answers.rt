@@ -55,7 +55,18 @@ fn check_answer(
             if !expected {
                 return Outcome::Difference;
             }
-            if !is_plan_right(sources, targets, draws, gains, colours, actions, numbers, p, q, plan) {
+            if !is_plan_right(
+                sources,
+                targets,
+                draws,
+                gains,
+                colours,
+                actions,
+                numbers,
+                p,
+                q,
+                plan,
+            ) {
                 return Outcome::Difference;
             }
             Outcome::Plan
@@ -130,7 +141,6 @@ fn expects(
     draws: &[u16],
     gains: &[u16],
     colours: &[u8],
-    actions: &[u8],
     numbers: Numbers,
     pairs: usize,
 ) -> bool
@@ -144,7 +154,6 @@ fn expects(
         draws,
         gains,
         colours,
-        actions,
         numbers,
         &mut candidates[..pairs],
         &mut marked[..pairs],
@@ -170,7 +179,7 @@ fn lend(
     if room > ROOM {
         return Outcome::Difference;
     }
-    let expected = expects(sources, targets, draws, gains, colours, actions, numbers, pairs);
+    let expected = expects(sources, targets, draws, gains, colours, numbers, pairs);
     let mut work = [0u16; WORDS];
     let mut plan = [0u8; BYTES];
     let words = Limits::WORK_WORDS * room + extra % 4;
@@ -204,6 +213,7 @@ pub fn try_model(family: Family, state: u32) -> Tried {
     let mut draws = [0u16; Limits::ARCS];
     let mut gains = [0u16; Limits::ARCS];
     let mut colours = [0u8; Limits::ARCS];
+    let mut actions = [0u8; Limits::ARCS];
     let after = put_arcs(
         skip(state),
         numbers,
@@ -213,6 +223,7 @@ pub fn try_model(family: Family, state: u32) -> Tried {
         &mut draws,
         &mut gains,
         &mut colours,
+        &mut actions,
     );
     Tried {
         outcome: lend(
@@ -221,6 +232,7 @@ pub fn try_model(family: Family, state: u32) -> Tried {
             &draws[..count],
             &gains[..count],
             &colours[..count],
+            &actions[..count],
             numbers,
             after as usize,
         ),

@@ -145,10 +145,32 @@ pub fn is_plan_right(
         return false;
     }
     let plan = &buffer[..length];
-    if !is_judged(sources, targets, draws, gains, colours, actions, numbers, p, q, plan) {
+    if !is_judged(
+        sources,
+        targets,
+        draws,
+        gains,
+        colours,
+        actions,
+        numbers,
+        p,
+        q,
+        plan,
+    ) {
         return false;
     }
-    if !is_walked(sources, targets, draws, gains, colours, actions, numbers, p, q, plan) {
+    if !is_walked(
+        sources,
+        targets,
+        draws,
+        gains,
+        colours,
+        actions,
+        numbers,
+        p,
+        q,
+        plan,
+    ) {
         return false;
     }
     is_right(
@@ -157,7 +179,6 @@ pub fn is_plan_right(
         draws,
         gains,
         colours,
-        actions,
         numbers,
         p as usize,
         plan,

@@ -20,6 +20,7 @@ fn print_walk(allowance: u16) {
     let draws = [0u16, 5u16, 0u16];
     let gains = [1u16, 0u16, 0u16];
     let colours = [0u8, 0u8, 1u8];
+    let actions = [0u8, 0u8, 0u8];
     let plan = [0u8, 0u8, 0u8, 0u8, 0u8, 1u8, 2u8];
     let walked = walk(
         2,
@@ -30,6 +31,7 @@ fn print_walk(allowance: u16) {
         &draws,
         &gains,
         &colours,
+        &actions,
         0,
         5,
         6,
@@ -70,6 +72,7 @@ fn print_search(n: u32, start: u32, k: u32, b: u32) {
     let draws = [0u16; 1];
     let gains = [0u16; 1];
     let colours = [0u8; 1];
+    let actions = [0u8; 1];
     let mut work = [0u16; WORDS];
     let mut plan = [0u8; BYTES];
     let none = 0;
@@ -84,6 +87,7 @@ fn print_search(n: u32, start: u32, k: u32, b: u32) {
         &draws[..none],
         &gains[..none],
         &colours[..none],
+        &actions[..none],
         0,
         b,
         &mut work,

@@ -9,6 +9,9 @@ const DRAWS: u32 = (Limits::DRAW as u32) + 1;
 
 const GAINS: u32 = (Limits::GAIN as u32) + 1;
 
+// The actions that an arc may have.
+const ACTIONS: usize = (Limits::ACTION as usize) + 1;
+
 // The numbers of a model, with credit and bound; arcs: how many it has.
 pub struct Numbers {
     pub modes: u32,
@@ -135,6 +138,7 @@ fn put_arc(
     draws: &mut [u16],
     gains: &mut [u16],
     colours: &mut [u8],
+    actions: &mut [u8],
 ) {
     let first = next(seed);
     let second = next(first);
@@ -151,6 +155,8 @@ fn put_arc(
         at,
         low_byte(pick(fourth, masks) & pick(fifth, masks)),
     );
+    // All actions in turn: they change no answer.
+    put(actions, at, (at % ACTIONS) as u8);
 }
 
 // The seed of the next arc: the last one again where the family repeats arcs and the state says so.
@@ -173,6 +179,7 @@ pub fn put_arcs(
     draws: &mut [u16],
     gains: &mut [u16],
     colours: &mut [u8],
+    actions: &mut [u8],
 ) -> u32 {
     let mut seed = state;
     let mut reached = state;

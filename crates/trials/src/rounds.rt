@@ -107,7 +107,6 @@ pub fn is_right(
     draws: &[u16],
     gains: &[u16],
     colours: &[u8],
-    actions: &[u8],
     numbers: Numbers,
     p: usize,
     plan: &[u8],

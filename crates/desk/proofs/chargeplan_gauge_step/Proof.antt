@@ -64,7 +64,7 @@ use Rattle.desk.proofs.chargeplan_gauge_step.Code as code
 -- of the gauge its last value is had at exit, and of the others nothing
 abbrev stayed : Stays (f.ended .signature .params) (f.ended .kept)
 stayed =
-    (gave-ref (0 ∷ []) tt (plain (λ _. T.the-row)), (stay-dropped _ yes, (stay-dropped _ yes, (stay-dropped _ yes, (stay-dropped _ yes, (stay-dropped _ yes, (stay-dropped _ yes, (stay-dropped _ yes, (stay-dropped _ yes, (stay-dropped _ yes, (stay-dropped _ yes, tt)))))))))))
+    (gave-ref (0 ∷ []) tt (plain (λ _. T.the-row)), (stay-dropped _ yes, (stay-dropped _ yes, (stay-dropped _ yes, (stay-dropped _ yes, (stay-dropped _ yes, (stay-dropped _ yes, (stay-dropped _ yes, (stay-dropped _ yes, (stay-dropped _ yes, (stay-dropped _ yes, (stay-dropped _ yes, tt))))))))))))
 
 module _ {M : Type 1} (𝓤 : URA M) (H : Heap 𝓤) (A : Atoms 𝓤) (at-mem : Memory → SProp 𝓤) (run : Routine → Fun 𝓤) where
   -- the callees' contracts
@@ -75,7 +75,7 @@ module _ {M : Type 1} (𝓤 : URA M) (H : Heap 𝓤) (A : Atoms 𝓤) (at-mem : 
   Packs = tripleOf 𝓤 H A h.signature (h.spec 𝓤 H A at-mem run)
 
 module _ {M : Type 1} (𝓤 : URA M) (H : Heap 𝓤) (A : Atoms 𝓤) (W : Given 𝓤 H A) (at-mem : Memory → SProp 𝓤) (run : Routine → Fun 𝓤)
-    (κs : Lfts 6) (qs : Shares 6) (a : Args f.signature κs) where
+    (κs : Lfts 7) (qs : Shares 7) (a : Args f.signature κs) where
   -- what the step gives: the answer, and the gauge afterwards
   abbrev answer : Answer
   answer = answerOf (lent.found κs a .verdict)
@@ -87,7 +87,7 @@ module _ {M : Type 1} (𝓤 : URA M) (H : Heap 𝓤) (A : Atoms 𝓤) (W : Given
   Entry = onEntry 𝓤 H A f.signature κs qs a (lent.vals κs a)
 
   abbrev Tokens : SProp 𝓤
-  Tokens = toks 𝓤 A 6 κs qs
+  Tokens = toks 𝓤 A 7 κs qs
 
   -- that the gauge's last value is y
   abbrev last : Gauge → Fml
@@ -130,10 +130,10 @@ module _ {M : Type 1} (𝓤 : URA M) (H : Heap 𝓤) (A : Atoms 𝓤) (W : Given
   exits w e is =
       qed W (raw Tokens ∷ ‵ (last after) ∷ []) ∵
       suffices ! _ (ends-at 𝓤 H A f.ended stayed (f.clauses 𝓤 H A at-mem run) W ((κs, qs, tt, a, lent.vals κs a), tt) (vint w64 w) w
-      (after, (tt, (tt, (tt, (tt, (tt, (tt, (tt, (tt, (tt, (tt, tt))))))))))) (tt, (tt, (tt, (tt, (tt, (tt, (tt, (tt, (tt, (tt, (tt, tt)))))))))))) $
+      (after, (tt, (tt, (tt, (tt, (tt, (tt, (tt, (tt, (tt, (tt, (tt, tt)))))))))))) (tt, (tt, (tt, (tt, (tt, (tt, (tt, (tt, (tt, (tt, (tt, (tt, tt))))))))))))) $
       says ! (record { word = e; moved-on = refl }) $ frame ! $ nothing ! $
       nothing ! $ fjoin ! $ nothing ! $ fjoin ! $ nothing ! $ fjoin ! $ nothing ! $ fjoin ! $ nothing ! $ fjoin ! $
-      nothing ! $ fjoin ! $ nothing ! $ fjoin ! $ nothing ! $ fjoin ! $ nothing ! $ fjoin ! $ nothing ! $ fjoin ! $
+      nothing ! $ fjoin ! $ nothing ! $ fjoin ! $ nothing ! $ fjoin ! $ nothing ! $ fjoin ! $ nothing ! $ fjoin ! $ nothing ! $ fjoin ! $
       move ! (1 ∷ 0 ∷ []) $ fjoin ! $ frame ! $ owned ! u64 (Is u64) (uint-makes 𝓤 H A W w64) w _ is $ done !
 
   module _ (C : Calls 𝓤 H) (Λ : Loops 𝓤 H) (fm : FmC 𝓤 H (W .laws) C) (steps : Triple 𝓤 (C #g) (Steps 𝓤 H A at-mem run))
@@ -144,32 +144,33 @@ module _ {M : Type 1} (𝓤 : URA M) (H : Heap 𝓤) (A : Atoms 𝓤) (W : Given
         qed W (raw Entry ∷ []) ∵
         enter ! C Λ code.function (lent.passed κs a) _ $
         alloc1 ! (λ l0. alloc1 ! (λ l1. alloc1 ! (λ l2. alloc1 ! (λ l3. alloc1 ! (λ l4. alloc1 ! (λ l5. alloc1 ! (λ l6.
-        alloc1 ! (λ l7. alloc1 ! (λ l8. alloc1 ! (λ l9. alloc1 ! (λ l10. alloc1 ! (λ l11. alloc1 ! (λ l12. alloc1 ! (λ l13.
+        alloc1 ! (λ l7. alloc1 ! (λ l8. alloc1 ! (λ l9. alloc1 ! (λ l10. alloc1 ! (λ l11. alloc1 ! (λ l12. alloc1 ! (λ l13. alloc1 ! (λ l14.
         alloc0 ! $ params1 ! $
-        pass1 ! (init ! 24 refl (tt, tt)) $
-        pass1 ! (init ! 22 refl (tt, record { fits = are .1 .0 .1 })) $
-        pass1 ! (init ! 20 refl (tt, record { fits = are .1 .1 .0 .1 })) $
-        pass1 ! (init ! 18 refl (tt, record { fits = are .1 .1 .1 .0 .1 })) $
-        pass1 ! (init ! 16 refl (tt, (tt, (record { fits = are .1 .1 .1 .1 .0 .0 .1 .0 }, tt)))) $
-        pass1 ! (init ! 14 refl (tt, (tt, (record { fits = are .1 .1 .1 .1 .1 .0 .0 .1 .0 }, tt)))) $
-        pass1 ! (init ! 12 refl (tt, (tt, (record { fits = are .1 .1 .1 .1 .1 .1 .0 .0 .1 .0 }, tt)))) $
-        pass1 ! (init ! 10 refl (tt, (tt, (record { fits = are .1 .1 .1 .1 .1 .1 .1 .0 .0 .1 .0 }, tt)))) $
-        pass1 ! (init ! 8 refl (tt, (tt, (record { fits = are .1 .1 .1 .1 .1 .1 .1 .1 .0 .0 .1 .0 }, tt)))) $
-        pass1 ! (init ! 6 refl (tt, record { fits = are .1 .1 .1 .1 .1 .1 .1 .1 .1 .0 .1 })) $
-        pass1 ! (init ! 4 refl (tt, record { fits = are .1 .1 .1 .1 .1 .1 .1 .1 .1 .1 .0 .1 })) $
+        pass1 ! (init ! 26 refl (tt, tt)) $
+        pass1 ! (init ! 24 refl (tt, record { fits = are .1 .0 .1 })) $
+        pass1 ! (init ! 22 refl (tt, record { fits = are .1 .1 .0 .1 })) $
+        pass1 ! (init ! 20 refl (tt, record { fits = are .1 .1 .1 .0 .1 })) $
+        pass1 ! (init ! 18 refl (tt, (tt, (record { fits = are .1 .1 .1 .1 .0 .0 .1 .0 }, tt)))) $
+        pass1 ! (init ! 16 refl (tt, (tt, (record { fits = are .1 .1 .1 .1 .1 .0 .0 .1 .0 }, tt)))) $
+        pass1 ! (init ! 14 refl (tt, (tt, (record { fits = are .1 .1 .1 .1 .1 .1 .0 .0 .1 .0 }, tt)))) $
+        pass1 ! (init ! 12 refl (tt, (tt, (record { fits = are .1 .1 .1 .1 .1 .1 .1 .0 .0 .1 .0 }, tt)))) $
+        pass1 ! (init ! 10 refl (tt, (tt, (record { fits = are .1 .1 .1 .1 .1 .1 .1 .1 .0 .0 .1 .0 }, tt)))) $
+        pass1 ! (init ! 8 refl (tt, (tt, (record { fits = are .1 .1 .1 .1 .1 .1 .1 .1 .1 .0 .0 .1 .0 }, tt)))) $
+        pass1 ! (init ! 6 refl (tt, record { fits = are .1 .1 .1 .1 .1 .1 .1 .1 .1 .1 .0 .1 })) $
+        pass1 ! (init ! 4 refl (tt, record { fits = are .1 .1 .1 .1 .1 .1 .1 .1 .1 .1 .1 .0 .1 })) $
         pass0 ! $
         -- [the locals from the last to _0, each with its end; what there is on entry]
-        -- _13 = &mut *_1
-        assigns ! (addr ! (from ! (hop ! (look ! 24 refl) (stop !)))) (from ! (stop !)) (init ! 0 refl (tt, tt)) $
-        -- _12 = step(_13, _2, .., _11)
-        move ! (28 ∷ []) $ use1 W (raw (Steps 𝓤 H A at-mem run .pre to-step)) (∗emp 𝓤 _) $
+        -- _14 = &mut *_1
+        assigns ! (addr ! (from ! (hop ! (look ! 26 refl) (stop !)))) (from ! (stop !)) (init ! 0 refl (tt, tt)) $
+        -- _13 = step(_14, _2, .., _12)
+        move ! (30 ∷ []) $ use1 W (raw (Steps 𝓤 H A at-mem run .pre to-step)) (∗emp 𝓤 _) $
         calls-at ! fm (Steps 𝓤 H A at-mem run) steps to-step
-        (and-then ! (load ! (from ! (stop !)) (look ! 1 refl)) (and-then ! (load ! (from ! (stop !)) (look ! 23 refl))
-        (and-then ! (load ! (from ! (stop !)) (look ! 21 refl)) (and-then ! (load ! (from ! (stop !)) (look ! 19 refl))
-        (and-then ! (load ! (from ! (stop !)) (look ! 17 refl)) (and-then ! (load ! (from ! (stop !)) (look ! 15 refl))
-        (and-then ! (load ! (from ! (stop !)) (look ! 13 refl)) (and-then ! (load ! (from ! (stop !)) (look ! 11 refl))
-        (and-then ! (load ! (from ! (stop !)) (look ! 9 refl)) (and-then ! (load ! (from ! (stop !)) (look ! 7 refl))
-        (and-then ! (load ! (from ! (stop !)) (look ! 5 refl)) (no-more !)))))))))))) (λ u.
+        (and-then ! (load ! (from ! (stop !)) (look ! 1 refl)) (and-then ! (load ! (from ! (stop !)) (look ! 25 refl))
+        (and-then ! (load ! (from ! (stop !)) (look ! 23 refl)) (and-then ! (load ! (from ! (stop !)) (look ! 21 refl))
+        (and-then ! (load ! (from ! (stop !)) (look ! 19 refl)) (and-then ! (load ! (from ! (stop !)) (look ! 17 refl))
+        (and-then ! (load ! (from ! (stop !)) (look ! 15 refl)) (and-then ! (load ! (from ! (stop !)) (look ! 13 refl))
+        (and-then ! (load ! (from ! (stop !)) (look ! 11 refl)) (and-then ! (load ! (from ! (stop !)) (look ! 9 refl))
+        (and-then ! (load ! (from ! (stop !)) (look ! 7 refl)) (and-then ! (load ! (from ! (stop !)) (look ! 5 refl)) (no-more !))))))))))))) (λ u.
         use1 W (later (some (λ (r : Answer). (raw Tokens ⊛ ‵ (N.the-row .own r (u ∷ [])))
         ⊛ raw (ensured 𝓤 H A g.ended (g.clauses 𝓤 H A at-mem run) κs a tt r)))) (id⊢ 𝓤 _) $
         await ! tt $ pick ! (λ r. split ! $ move ! (1 ∷ []) $ use1 W (‵ (last after) ⊛ raw (fact 𝓤 (r ≡ answer))) (stepped r) $
@@ -178,7 +179,7 @@ module _ {M : Type 1} (𝓤 : URA M) (H : Heap 𝓤) (A : Atoms 𝓤) (W : Given
         move ! (1 ∷ []) $ split ! $ move ! (1 ∷ []) $ peeks ! N.the-row (Is N.the-row) (shows 𝓤 H A N.the-row) r (u ∷ []) (λ is.
         -- [what the answer owns; the tokens; last value; the locals as before]
         land ! (from ! (stop !)) (init ! 5 refl (LL.lawful N.the-type N′.the-laws 𝓤 H A W .typed r _ is .0)) $
-        -- _0 = pack_alone(_12)
+        -- _0 = pack_alone(_13)
         use1 W (raw (Packs 𝓤 H A at-mem run .pre (to-pack r u)))
         (packs-in r u (subst (λ (y : Answer). Fields y 0 0) (sym e)
         (step-fields (lent.n κs a) (lent.start κs a) (lent.k κs a) (lent.model κs a) (lent.bound κs a) (lent.arc κs a) (lent.x κs a)))) $
@@ -188,16 +189,15 @@ module _ {M : Type 1} (𝓤 : URA M) (H : Heap 𝓤) (A : Atoms 𝓤) (W : Given
         await ! tt $ pick ! (λ w. split ! $ move ! (1 ∷ []) $ use1 W (raw (fact 𝓤 (w ≡ packed r 0 0))) (said r w) $ heard ! (w ≡ packed r 0 0) (λ d.
         split ! $ drop ! $ peeks ! u64 (Is u64) (shows 𝓤 H A u64) w (v ∷ []) (λ ok. drop ! $
         -- [the tokens; last value; the locals as before]
-        land ! (from ! (stop !)) (init ! 28 refl (subst (λ (y : Val). T (hasTy (tyInt w64) y) × WT y) (sym (ap only (ok .0))) (tt, record { fits = ok .1 }))) $
-        rewrite ! 28 (λ (y : Val). ‵ (fat fullShare (tyInt w64) l0 0 y)) (ap only (ok .0)) refl $
-        returns ! (look ! 28 refl) $
-        forget ! 2 refl $ forget ! 4 refl $ forget ! 6 refl $ forget ! 8 refl $ forget ! 10 refl $ forget ! 12 refl $ forget ! 14 refl $
-        forget ! 16 refl $ forget ! 18 refl $ forget ! 20 refl $ forget ! 22 refl $ forget ! 24 refl $ forget ! 26 refl $ forget ! 28 refl $
-        move ! (28 ∷ 29 ∷ []) $ free1 ! $ move ! (26 ∷ 27 ∷ []) $ free1 ! $ move ! (24 ∷ 25 ∷ []) $ free1 ! $ move ! (22 ∷ 23 ∷ []) $ free1 ! $ move ! (20 ∷ 21 ∷ []) $ free1 ! $
-        move ! (18 ∷ 19 ∷ []) $ free1 ! $ move ! (16 ∷ 17 ∷ []) $ free1 ! $ move ! (14 ∷ 15 ∷ []) $ free1 ! $ move ! (12 ∷ 13 ∷ []) $ free1 ! $
-        move ! (10 ∷ 11 ∷ []) $ free1 ! $ move ! (8 ∷ 9 ∷ []) $ free1 ! $ move ! (6 ∷ 7 ∷ []) $ free1 ! $ move ! (4 ∷ 5 ∷ []) $ free1 ! $
-        move ! (2 ∷ 3 ∷ []) $ free1 ! $
-        free0 ! $ by ! (exits w (d ∙ ap (λ (y : Answer). packed y 0 0) e) (refl, ok .1))))))))))))))))))))))))
+        land ! (from ! (stop !)) (init ! 30 refl (subst (λ (y : Val). T (hasTy (tyInt w64) y) × WT y) (sym (ap only (ok .0))) (tt, record { fits = ok .1 }))) $
+        rewrite ! 30 (λ (y : Val). ‵ (fat fullShare (tyInt w64) l0 0 y)) (ap only (ok .0)) refl $
+        returns ! (look ! 30 refl) $
+        forget ! 2 refl $ forget ! 4 refl $ forget ! 6 refl $ forget ! 8 refl $ forget ! 10 refl $ forget ! 12 refl $ forget ! 14 refl $ forget ! 16 refl $
+        forget ! 18 refl $ forget ! 20 refl $ forget ! 22 refl $ forget ! 24 refl $ forget ! 26 refl $ forget ! 28 refl $ forget ! 30 refl $
+        move ! (30 ∷ 31 ∷ []) $ free1 ! $ move ! (28 ∷ 29 ∷ []) $ free1 ! $ move ! (26 ∷ 27 ∷ []) $ free1 ! $ move ! (24 ∷ 25 ∷ []) $ free1 ! $ move ! (22 ∷ 23 ∷ []) $ free1 ! $
+        move ! (20 ∷ 21 ∷ []) $ free1 ! $ move ! (18 ∷ 19 ∷ []) $ free1 ! $ move ! (16 ∷ 17 ∷ []) $ free1 ! $ move ! (14 ∷ 15 ∷ []) $ free1 ! $ move ! (12 ∷ 13 ∷ []) $ free1 ! $
+        move ! (10 ∷ 11 ∷ []) $ free1 ! $ move ! (8 ∷ 9 ∷ []) $ free1 ! $ move ! (6 ∷ 7 ∷ []) $ free1 ! $ move ! (4 ∷ 5 ∷ []) $ free1 ! $ move ! (2 ∷ 3 ∷ []) $ free1 ! $
+        free0 ! $ by ! (exits w (d ∙ ap (λ (y : Answer). packed y 0 0) e) (refl, ok .1)))))))))))))))))))))))))
 
 module _ {M : Type 1} (𝓤 : URA M) (H : Heap 𝓤) (A : Atoms 𝓤) (W : Given 𝓤 H A) (at-mem : Memory → SProp 𝓤) (run : Routine → Fun 𝓤) where
   walks : (C : Calls 𝓤 H) (Λ : Loops 𝓤 H) → FmC 𝓤 H (W .laws) C → Triple 𝓤 (C #g) (Steps 𝓤 H A at-mem run) → Triple 𝓤 (C #h) (Packs 𝓤 H A at-mem run)
@@ -206,10 +206,10 @@ module _ {M : Type 1} (𝓤 : URA M) (H : Heap 𝓤) (A : Atoms 𝓤) (W : Given
       walked 𝓤 H A f.ended stayed (f.clauses 𝓤 H A at-mem run) (WpFn 𝓤 H C Λ code.function) lent.spelled lent.told
       (λ κs qs bounds a _ are. via 𝓤 _ (fst∗ 𝓤 _ (emp 𝓤)) (walk 𝓤 H A W at-mem run κs qs a C Λ fm steps packs are))
 
-  goes : AllGo 𝓤 H A W 6 (f.signature .params) (f.ended .kept) stayed
+  goes : AllGo 𝓤 H A W 7 (f.signature .params) (f.ended .kept) stayed
   goes =
       let gone : ent 𝓤 (emp 𝓤) (H .⇛ (emp 𝓤)) = W .laws .⇛-intro (emp 𝓤) in
-      (goes-gave-ref 𝓤 H A W 6 0 tt (plain (λ _. T.the-row)), (λ _ _ _ _ _. gone, (λ _ _ _ _ _. gone, (λ _ _ _ _ _. gone, (λ _ _ _ _ _. gone, (λ _ _ _ _ _. gone, (λ _ _ _ _ _. gone, (λ _ _ _ _ _. gone, (λ _ _ _ _ _. gone, (λ _ _ _ _ _. gone, (λ _ _ _ _ _. gone, tt)))))))))))
+      (goes-gave-ref 𝓤 H A W 7 0 tt (plain (λ _. T.the-row)), (λ _ _ _ _ _. gone, (λ _ _ _ _ _. gone, (λ _ _ _ _ _. gone, (λ _ _ _ _ _. gone, (λ _ _ _ _ _. gone, (λ _ _ _ _ _. gone, (λ _ _ _ _ _. gone, (λ _ _ _ _ _. gone, (λ _ _ _ _ _. gone, (λ _ _ _ _ _. gone, (λ _ _ _ _ _. gone, tt))))))))))))
 
 meets : {M : Type 1} (𝓤 : URA M) (H : Heap 𝓤) (A : Atoms 𝓤) (W : Given 𝓤 H A) (at-mem : Memory → SProp 𝓤) (run : Routine → Fun 𝓤) (𝓣 : Tables 𝓤 H)
     → Triple 𝓤 (𝓣 .C #g) (Steps 𝓤 H A at-mem run) → Triple 𝓤 (𝓣 .C #h) (Packs 𝓤 H A at-mem run)

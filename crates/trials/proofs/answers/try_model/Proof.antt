@@ -1,4 +1,4 @@
--- `answers::try_model` is safe and ends: the four parts are within their arrays. Assumes nothing.
+-- `answers::try_model` is safe and ends: the parts are within their arrays. Assumes nothing.
 use native.Mathlib.Omega.{arith}
 use lib.ListN.{length-take}
 use borrow.Author.Needs.{needs}
@@ -19,6 +19,9 @@ slice-aggregate-lend-4 c = simp length-take (omega arith)
 
 slice-aggregate-lend-5 : tie.Need-slice-aggregate-lend-5
 slice-aggregate-lend-5 c = simp length-take (omega arith)
+
+slice-aggregate-lend-6 : tie.Need-slice-aggregate-lend-6
+slice-aggregate-lend-6 c = simp length-take (omega arith)
 
 pub try-model-spec : {M : Type 1} → statement M
 try-model-spec =
@@ -45,6 +48,8 @@ try-model-spec =
     slice-aggregate-lend-4
     (search needs)
     slice-aggregate-lend-5
+    (search needs)
+    slice-aggregate-lend-6
     (search needs)
     (search needs)
     (search needs))

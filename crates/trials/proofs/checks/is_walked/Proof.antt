@@ -6,10 +6,10 @@ use Rattle.trials.proofs.checks.is_walked.Statement.{statement}
 use Rattle.trials.proofs.checks.is_walked.Tie as tie
 
 abbrev Inv-loop : tie.InvT-loop
-Inv-loop sources targets draws gains colours numbers p q plan k colour₀ colour = Unit {0}
+Inv-loop sources targets draws gains colours actions numbers p q plan k colour₀ colour = Unit {0}
 
 abbrev μ-loop : tie.MeasureT-loop
-μ-loop sources targets draws gains colours numbers p q plan k colour₀ colour = suc k - colour
+μ-loop sources targets draws gains colours actions numbers p q plan k colour₀ colour = suc k - colour
 
 pub is-walked-spec : {M : Type 1} → statement M
 is-walked-spec =

@@ -10,9 +10,10 @@ pub put-arcs-spec : {M : Type 1} → statement M
 put-arcs-spec =
     tie.close
     (tie.spec
-    (λ _ _ _ s₀ t₀ d₀ g₀ c₀ _ _ _ s t d g c _ _ _.
-    (length s ≡ length s₀) × (length t ≡ length t₀) × (length d ≡ length d₀) × (length g ≡ length g₀) × (length c ≡ length c₀))
-    (λ _ numbers _ _ _ _ _ _ _ _ _ _ _ _ _ _ _ _ i. numbers .arcs - i)
+    (λ _ _ _ s₀ t₀ d₀ g₀ c₀ x₀ _ _ _ s t d g c x _ _ _.
+    (length s ≡ length s₀) × (length t ≡ length t₀) × (length d ≡ length d₀) × (length g ≡ length g₀) × (length c ≡ length c₀) × (length x ≡ length x₀))
+    (λ _ numbers _ _ _ _ _ _ _ _ _ _ _ _ _ _ _ _ _ _ i. numbers .arcs - i)
+    (search needs)
     (search needs)
     (search needs)
     (search needs)
