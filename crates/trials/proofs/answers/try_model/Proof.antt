@@ -39,6 +39,7 @@ try-model-spec =
     (search needs)
     (search needs)
     (search needs)
+    (search needs)
     slice-aggregate-lend
     (search needs)
     slice-aggregate-lend-2
