@@ -1,6 +1,6 @@
 -- The C entries. Document 01, "What can be called": "The fitting desk's own program, written in C, calls judging and search, with numbers and
 -- byte or word buffers." Since document 02, Ask 2, it also calls the gauge, whose spill "fitters wish to see", and the
--- walk; since Ask 1, reading.
+-- walk; since Ask 1, reading; since Ask 5, the join.
 use Prim.Native.Nat.{ℕ}
 use mathlib.Core.Path.{_≡_}
 use mathlib.Core.List.{List}
@@ -12,8 +12,9 @@ use Rattle.planwalk.specs.Walked.{walkOf}
 use Rattle.search.specs.declared.Searched.{Searched}
 use Rattle.search.specs.Search.{SearchOf}
 use Rattle.refusals.specs.declared.Answer.{Answer}
-use Rattle.reading.specs.declared.Reading.{Reading}
+use Rattle.filling.specs.declared.Reading.{Reading}
 use Rattle.reading.specs.Reading.{readOf, readAnswer}
+use Rattle.join.specs.Joining.{Given, joinOf, joinAnswer}
 use Rattle.desk.specs.declared.Started.{Started}
 use Rattle.desk.specs.declared.Read.{Read}
 use Rattle.desk.specs.Packing.{verdictWord, searchWord, walkWord}
@@ -42,9 +43,12 @@ pub record DeskStepped (n s k : ℕ) (l : Lists) (b a : ℕ) (x y : Gauge) (r : 
 abbrev pub deskWalked : ℕ → ℕ → ℕ → Lists → ℕ → ℕ → ℕ → ℕ → List ℕ → ℕ → ℕ → ℕ
 deskWalked n s k l b c p q w j t = walkWord (walkOf n s k l b c p q w j t)
 
--- what reading answers: number and detail, and the numbers of the model read, "0 for n, start mode, k and m" where it is refused
+-- what reading and the join answer: number and detail, and the numbers of the model written, "0 for n, start mode, k and m" where they are refused
 abbrev pub readWith : Answer → Reading → Read
 readWith a x = record { number = a .number; detail = a .detail; n = x .modes; start = x .start; k = x .colours; m = x .count }
 
 abbrev pub deskRead : List ℕ → List ℕ → Lists → Read
 deskRead hoa dimacs l = readWith (readAnswer hoa dimacs l) (readOf hoa dimacs l)
+
+abbrev pub deskJoined : Given → Given → Lists → Read
+deskJoined x y l = readWith (joinAnswer x y l) (joinOf x y l)

@@ -1,11 +1,15 @@
-// The fitting desk's entries: judging, search, gauge, walk and reading, to be called from C. include/chargeplan.h declares and explains them.
+// The fitting desk's entries: judging, search, gauge, walk, reading and the join, to be called from C. include/chargeplan.h declares and explains them.
 // C passes a slice as two arguments, a pointer and a length, and a `&mut` as a pointer.
 ghost use mathlib.Core.Path.{_≡_};
+ghost use Rattle.refusals.specs.Refusals.{answerOf};
 ghost use Rattle.model.specs.Lists.{lists};
 ghost use Rattle.desk.specs.Packing.{packed, Fields};
 ghost use Rattle.reading.specs.Reading.{listsRead};
-ghost use Rattle.desk.specs.Desk.{deskJudged, deskStarted, deskWalked, deskRead, DeskSearched, DeskStepped};
+ghost use Rattle.join.specs.Joining.{given, listsJoined};
+ghost use Rattle.desk.specs.Desk.{deskJudged, deskStarted, deskWalked, readWith, deskRead, deskJoined, DeskSearched, DeskStepped};
+use filling::Reading;
 use gauge::Gauge;
+use join::join;
 use judge::judge;
 use lent_gauge::step;
 use planwalk::walk;
@@ -27,7 +31,7 @@ pub struct Started {
     pub gauge: Gauge,
 }
 
-// What reading answers: number and detail, which may be a line beyond 24 bits, and the numbers of the model read.
+// What reading and the join answer: number and detail, which may be a line beyond 24 bits, and the numbers of the model written.
 #[repr(C)]
 pub struct Read {
     pub number: u8,
@@ -55,6 +59,22 @@ fn pack_alone(answer: Answer) -> u64
     ensures { λ r. ⌜ r ≡ packed answer 0 0 ⌝ }
 {
     pack(answer, 0, 0)
+}
+
+// What a call that fills lists answers, field by field.
+fn tell(reading: Reading) -> Read
+    ensures { λ r. ⌜ r ≡ readWith (answerOf (reading .verdict)) reading ⌝ }
+{
+    let verdict = reading.verdict;
+    let answer = verdict.answer();
+    Read {
+        number: answer.number,
+        detail: answer.detail,
+        n: reading.modes,
+        start: reading.start,
+        k: reading.colours,
+        m: reading.count,
+    }
 }
 
 // Judging: number 0 for yes, or the first of 1 to 6 and 11 to 17 that applies. For all numbers, lists and plans.
@@ -154,7 +174,19 @@ pub extern "C" fn chargeplan_gauge_start(
 ) -> Started
     ensures { λ r. ⌜ r ≡ deskStarted n start k (lists (now (sources .entry)) (now (targets .entry)) (now (draws .entry)) (now (gains .entry)) (now (colours .entry)) (now (actions .entry))) b c ⌝ }
 {
-    let gauged = Gauge::start(n, start, k, sources, targets, draws, gains, colours, actions, c, b);
+    let gauged = Gauge::start(
+        n,
+        start,
+        k,
+        sources,
+        targets,
+        draws,
+        gains,
+        colours,
+        actions,
+        c,
+        b,
+    );
     let verdict = gauged.verdict;
     let gauge = gauged.gauge;
     let answer = pack_alone(verdict.answer());
@@ -256,19 +288,79 @@ pub extern "C" fn chargeplan_read(
     draws: &mut [u16],
     gains: &mut [u16],
     colours: &mut [u8],
+    actions: &mut [u8],
 ) -> Read
     ensures answer { λ r. ⌜ r ≡ deskRead (now (hoa .entry)) (now (dimacs .entry)) (lists (now (sources .entry)) (now (targets .entry)) (now (draws .entry)) (now (gains .entry)) (now (colours .entry)) (now (actions .entry))) ⌝ }
     ensures lists { λ _. ⌜ lists (now (sources .exit)) (now (targets .exit)) (now (draws .exit)) (now (gains .exit)) (now (colours .exit)) (now (actions .exit)) ≡ listsRead (now (hoa .entry)) (now (dimacs .entry)) (lists (now (sources .entry)) (now (targets .entry)) (now (draws .entry)) (now (gains .entry)) (now (colours .entry)) (now (actions .entry))) ⌝ }
 {
-    let reading = read(hoa, dimacs, sources, targets, draws, gains, colours, actions);
-    let verdict = reading.verdict;
-    let answer = verdict.answer();
-    Read {
-        number: answer.number,
-        detail: answer.detail,
-        n: reading.modes,
-        start: reading.start,
-        k: reading.colours,
-        m: reading.count,
-    }
+    tell(read(
+        hoa,
+        dimacs,
+        sources,
+        targets,
+        draws,
+        gains,
+        colours,
+        actions,
+    ))
+}
+
+// The join of a knee and a habit: number 0 with n, the start mode, k and m of the joined model, and its arcs in the lent lists, from place 0 of each
+// on; or the first of 1 to 5 of the knee, 1 to 5 of the habit and 23 that applies, four zeros, and the lists as they were. For all numbers and lists.
+#[no_mangle]
+pub extern "C" fn chargeplan_join(
+    n1: u32,
+    start1: u32,
+    k1: u32,
+    sources1: &[u8],
+    targets1: &[u8],
+    draws1: &[u16],
+    gains1: &[u16],
+    colours1: &[u8],
+    actions1: &[u8],
+    n2: u32,
+    start2: u32,
+    k2: u32,
+    sources2: &[u8],
+    targets2: &[u8],
+    draws2: &[u16],
+    gains2: &[u16],
+    colours2: &[u8],
+    actions2: &[u8],
+    sources: &mut [u8],
+    targets: &mut [u8],
+    draws: &mut [u16],
+    gains: &mut [u16],
+    colours: &mut [u8],
+    actions: &mut [u8],
+) -> Read
+    ensures answer { λ r. ⌜ r ≡ deskJoined (given n1 start1 k1 (lists (now (sources1 .entry)) (now (targets1 .entry)) (now (draws1 .entry)) (now (gains1 .entry)) (now (colours1 .entry)) (now (actions1 .entry)))) (given n2 start2 k2 (lists (now (sources2 .entry)) (now (targets2 .entry)) (now (draws2 .entry)) (now (gains2 .entry)) (now (colours2 .entry)) (now (actions2 .entry)))) (lists (now (sources .entry)) (now (targets .entry)) (now (draws .entry)) (now (gains .entry)) (now (colours .entry)) (now (actions .entry))) ⌝ }
+    ensures lists { λ _. ⌜ lists (now (sources .exit)) (now (targets .exit)) (now (draws .exit)) (now (gains .exit)) (now (colours .exit)) (now (actions .exit)) ≡ listsJoined (given n1 start1 k1 (lists (now (sources1 .entry)) (now (targets1 .entry)) (now (draws1 .entry)) (now (gains1 .entry)) (now (colours1 .entry)) (now (actions1 .entry)))) (given n2 start2 k2 (lists (now (sources2 .entry)) (now (targets2 .entry)) (now (draws2 .entry)) (now (gains2 .entry)) (now (colours2 .entry)) (now (actions2 .entry)))) (lists (now (sources .entry)) (now (targets .entry)) (now (draws .entry)) (now (gains .entry)) (now (colours .entry)) (now (actions .entry))) ⌝ }
+{
+    tell(join(
+        n1,
+        start1,
+        k1,
+        sources1,
+        targets1,
+        draws1,
+        gains1,
+        colours1,
+        actions1,
+        n2,
+        start2,
+        k2,
+        sources2,
+        targets2,
+        draws2,
+        gains2,
+        colours2,
+        actions2,
+        sources,
+        targets,
+        draws,
+        gains,
+        colours,
+        actions,
+    ))
 }
