@@ -1,6 +1,6 @@
 -- Lists lent to be filled. Document 01: "a call that fills arc lists writes one place per arc, from place 0"; document 02, Asks 1 and 5: reading and the
 -- join fill them.
-use Prim.Native.Nat.{ℕ, min, _<_}
+use Prim.Native.Nat.{ℕ, min}
 use mathlib.Core.List.{List, map}
 use lib.ListN.{length, set, take, drop}
 use lib.Seq.{sets}
@@ -19,11 +19,7 @@ roomOf sources targets draws gains colours actions = min (min sources targets) (
 abbrev pub roomIn : Lists → ℕ
 roomIn l = roomOf (length (l .sources)) (length (l .targets)) (length (l .draws)) (length (l .gains)) (length (l .colours)) (length (l .actions))
 
--- i is a place of each list
-abbrev pub Place : ℕ → Lists → Type 0
-Place i l = i < roomIn l
-
--- an arc written at place i of each
+-- an arc written at place i of each; a list without that place stays as it is
 abbrev pub put : Lists → ℕ → Arc → Lists
 put l i a =
     lists

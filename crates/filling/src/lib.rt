@@ -2,8 +2,9 @@
 // call answers.
 ghost use mathlib.Core.Path.{_≡_};
 ghost use Prim.Native.Nat.{min};
+ghost use lib.ListN.{set};
 ghost use Rattle.model.specs.Lists.{lists};
-ghost use Rattle.filling.specs.Filling.{roomOf, put, Place, refusedBy};
+ghost use Rattle.filling.specs.Filling.{roomOf, put, refusedBy};
 use model::Arc;
 use refusals::Refusal;
 use refusals::Verdict;
@@ -57,6 +58,24 @@ pub fn room(
     smaller(ends, smaller(parts, bytes))
 }
 
+// A byte written at place i of a list. Where the list has no such place, nothing is written.
+fn put_byte(list: &mut [u8], i: usize, byte: u8)
+    ensures { λ _. ⌜ now (list .exit) ≡ set (now (list .entry)) i byte ⌝ }
+{
+    if i < list.len() {
+        list[i] = byte;
+    }
+}
+
+// The same of a word.
+fn put_word(list: &mut [u16], i: usize, word: u16)
+    ensures { λ _. ⌜ now (list .exit) ≡ set (now (list .entry)) i word ⌝ }
+{
+    if i < list.len() {
+        list[i] = word;
+    }
+}
+
 // An arc written at place i of each list.
 pub fn write(
     arc: Arc,
@@ -68,13 +87,12 @@ pub fn write(
     colours: &mut [u8],
     actions: &mut [u8],
 )
-    requires { ⌜ Place i (lists (now sources) (now targets) (now draws) (now gains) (now colours) (now actions)) ⌝ }
     ensures { λ _. ⌜ lists (now (sources .exit)) (now (targets .exit)) (now (draws .exit)) (now (gains .exit)) (now (colours .exit)) (now (actions .exit)) ≡ put (lists (now (sources .entry)) (now (targets .entry)) (now (draws .entry)) (now (gains .entry)) (now (colours .entry)) (now (actions .entry))) i arc ⌝ }
 {
-    sources[i] = arc.source;
-    targets[i] = arc.target;
-    draws[i] = arc.draw;
-    gains[i] = arc.gain;
-    colours[i] = arc.colours;
-    actions[i] = arc.action;
+    put_byte(sources, i, arc.source);
+    put_byte(targets, i, arc.target);
+    put_word(draws, i, arc.draw);
+    put_word(gains, i, arc.gain);
+    put_byte(colours, i, arc.colours);
+    put_byte(actions, i, arc.action);
 }
