@@ -1,13 +1,14 @@
 -- Arcs written one after the other. Assumes nothing.
 use mathlib.Core.Path.{_≡_, refl, sym, ap, subst, _∙_}
-use mathlib.Core.List.{List, [], _∷_, _++_}
+use mathlib.Core.List.{List, [], _∷_, _++_, map}
 use Prim.Native.Nat.{ℕ, suc, _+_}
 use native.Mathlib.Nat.{add-zero}
 use native.Mathlib.Omega.{arith}
 use lib.ListN.{length, length-append}
+use lib.Seq.{sets, length-sets}
 use Rattle.model.specs.declared.Arc.{Arc}
 use Rattle.model.specs.Lists.{Lists}
-use Rattle.filling.specs.Filling.{put, writtenFrom}
+use Rattle.filling.specs.Filling.{put, writtenFrom, Written}
 
 -- arcs written behind others
 written-append : (u v : List Arc) (i : ℕ) (l : Lists) → writtenFrom i (u ++ v) l ≡ writtenFrom (i + length u) v (writtenFrom i u l)
@@ -21,16 +22,39 @@ pub record Writing (all rest : List Arc) (from i : ℕ) (old now : Lists) : Type
   pub place : from + length all ≡ i + length rest
   pub puts : writtenFrom from all old ≡ writtenFrom i rest now
 
--- what is written in the end: the place behind the last arc, and the lists
-pub record Written (all : List Arc) (from : ℕ) (old : Lists) (end : ℕ) (now : Lists) : Type 0 where
-  pub place : end ≡ from + length all
-  pub puts : now ≡ writtenFrom from all old
-
 -- nothing is written yet
 pub writing-none : (all : List Arc) (from : ℕ) (old : Lists) → Writing all all from from old old
 writing-none all from old = record { place = refl; puts = refl }
 
+-- the lists are as long as they were
+pub record SameLengths (old now : Lists) : Type 0 where
+  pub sources : length (now .sources) ≡ length (old .sources)
+  pub targets : length (now .targets) ≡ length (old .targets)
+  pub draws : length (now .draws) ≡ length (old .draws)
+  pub gains : length (now .gains) ≡ length (old .gains)
+  pub colours : length (now .colours) ≡ length (old .colours)
+  pub actions : length (now .actions) ≡ length (old .actions)
+
+-- a list that becomes the same as another, with a part of some arcs written into each, is as long
+same-long : (f : Arc → ℕ) (u v : List Arc) (i j : ℕ) (l m : List ℕ) → sets l i (map f u) ≡ sets m j (map f v) → length m ≡ length l
+same-long f u v i j l m e = sym (length-sets m j (map f v)) ∙ sym (ap {B = ℕ} length e) ∙ length-sets l i (map f u)
+
 module _ (all : List Arc) (from i : ℕ) (old now : Lists) where
+  pub writing-lengths : (rest : List Arc) → Writing all rest from i old now → SameLengths old now
+  writing-lengths rest w =
+      record {
+        sources = same-long (λ a. a .source) all rest from i (old .sources) (now .sources) (ap {B = List ℕ} (λ (l : Lists). l .sources) (w .puts));
+        targets = same-long (λ a. a .target) all rest from i (old .targets) (now .targets) (ap {B = List ℕ} (λ (l : Lists). l .targets) (w .puts));
+        draws = same-long (λ a. a .draw) all rest from i (old .draws) (now .draws) (ap {B = List ℕ} (λ (l : Lists). l .draws) (w .puts));
+        gains = same-long (λ a. a .gain) all rest from i (old .gains) (now .gains) (ap {B = List ℕ} (λ (l : Lists). l .gains) (w .puts));
+        colours = same-long (λ a. a .colours) all rest from i (old .colours) (now .colours) (ap {B = List ℕ} (λ (l : Lists). l .colours) (w .puts));
+        actions = same-long (λ a. a .action) all rest from i (old .actions) (now .actions) (ap {B = List ℕ} (λ (l : Lists). l .actions) (w .puts));
+      }
+
+  -- the rest, told otherwise
+  pub writing-rest : (rest rest′ : List Arc) → rest ≡ rest′ → Writing all rest from i old now → Writing all rest′ from i old now
+  writing-rest rest rest′ e w = subst (λ (l : List Arc). Writing all l from i old now) e w
+
   -- the next arc is written: the others are left
   pub writing-put : (a : Arc) (rest : List Arc) → Writing all (a ∷ rest) from i old now → Writing all rest from (suc i) old (put now i a)
   writing-put a rest w = record { place = omega (arith, w .place); puts = w .puts }

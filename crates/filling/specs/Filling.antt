@@ -1,6 +1,7 @@
 -- Lists lent to be filled. Document 01: "a call that fills arc lists writes one place per arc, from place 0"; document 02, Asks 1 and 5: reading and the
 -- join fill them.
-use Prim.Native.Nat.{ℕ, min}
+use Prim.Native.Nat.{ℕ, _+_, min}
+use mathlib.Core.Path.{_≡_}
 use mathlib.Core.List.{List, map}
 use lib.ListN.{length, set, take, drop}
 use lib.Seq.{sets}
@@ -40,6 +41,11 @@ writtenFrom i arcs l =
     (sets (l .gains) i (map (λ a. a .gain) arcs))
     (sets (l .colours) i (map (λ a. a .colours) arcs))
     (sets (l .actions) i (map (λ a. a .action) arcs))
+
+-- some arcs have been written into the lists old from place i on: the place behind the last, and the lists now
+pub record Written (arcs : List Arc) (i : ℕ) (old : Lists) (end : ℕ) (now : Lists) : Type 0 where
+  pub place : end ≡ i + length arcs
+  pub puts : now ≡ writtenFrom i arcs old
 
 -- "A refused reading leaves the lent arc lists untouched"; "A refused join writes nothing"
 abbrev pub writtenIf : Verdict → List Arc → Lists → Lists

@@ -1,0 +1,84 @@
+-- What the functions within promise each other, and what they are given.
+use Prim.Native.Nat.{ℕ, suc, _+_, _*_, _^_, _≤_, _<_}
+use mathlib.Core.Path.{_≡_}
+use mathlib.Core.Bool.{Bool, true, false, _||_}
+use mathlib.Core.List.{List, [], _∷_}
+use lib.ListN.{length}
+use Rattle.limits.specs.Ceilings.{arcsMost, coloursMost}
+use Rattle.refusals.specs.declared.Verdict.the-variants.{Yes}
+use Rattle.model.specs.declared.Arc.{Arc}
+use Rattle.model.specs.declared.Model.{Model}
+use Rattle.model.specs.Lists.{held}
+use Rattle.model.specs.Fitness.{Holds}
+use Rattle.filling.specs.declared.Reading.{Reading}
+use Rattle.join.specs.declared.Tally.{Tally}
+use Rattle.join.specs.Joined.{joinMode, joinRow, joined}
+use Rattle.join.specs.Joining.{sumAbove}
+
+-- the joined model of two values of the code
+abbrev pub joinedHeld : Model → Model → List Arc
+joinedHeld g h = joined (held g) (held h) .arcs
+
+-- The first pass: how many arcs there are, and whether the sum of one is above 10,000.
+abbrev pub noTally : Tally
+noTally = record { count = 0; above = false }
+
+abbrev pub talliedArc : Tally → Arc → Tally
+talliedArc t a = record { count = suc (t .count); above = t .above || sumAbove a }
+
+abbrev pub talliedIf : Bool → Tally → Arc → Tally
+talliedIf true t a = talliedArc t a
+talliedIf false t a = t
+
+-- the tally with some arcs more
+unfoldable pub tallied : Tally → List Arc → Tally
+tallied t [] = t
+tallied t (a ∷ l) = tallied (talliedArc t a) l
+
+-- The second pass: an arc within the widths of the lists
+pub record Narrow (a : Arc) : Type 0 where
+  pub source : a .source < 256
+  pub target : a .target < 256
+  pub draw : a .draw < 65536
+  pub gain : a .gain < 65536
+  pub colours : a .colours < 256
+
+abbrev pub AllNarrow : List Arc → Type 0
+AllNarrow [] = Unit {0}
+AllNarrow (a ∷ l) = Narrow a × AllNarrow l
+
+-- a knee's arc, whose colours are below k
+pub record Below (k : ℕ) (x : Arc) : Type 0 where
+  pub few : k ≤ coloursMost
+  pub colours : x .colours < 2 ^ k
+
+-- two colour bytes, of which the second goes above the k bits of the first
+pub record ColoursFit (x y k : ℕ) : Type 0 where
+  pub few : k ≤ coloursMost
+  pub below : x < 2 ^ k
+  pub fits : x + 2 ^ k * y < 256
+
+-- the row of a knee's arc that can be written from place i on
+pub record RowFits (k : ℕ) (x : Arc) (h : Model) (i : ℕ) : Type 0 where
+  pub holds : Holds h
+  pub below : Below k x
+  pub narrow : AllNarrow (joinRow (h .modes) k x (held h .arcs))
+  pub few : i + length (joinRow (h .modes) k x (held h .arcs)) ≤ arcsMost
+
+-- two models whose joined arcs can be written
+pub record AllFit (g h : Model) : Type 0 where
+  pub knee : Holds g
+  pub habit : Holds h
+  pub narrow : AllNarrow (joinedHeld g h)
+  pub few : length (joinedHeld g h) ≤ arcsMost
+
+-- what is answered of a join with m arcs that is not refused
+abbrev pub numbersOf : Model → Model → ℕ → Reading
+numbersOf g h m =
+    record {
+      verdict = Yes;
+      modes = g .modes * h .modes;
+      start = joinMode (h .modes) (g .start) (h .start);
+      colours = g .colours + h .colours;
+      count = m;
+    }
