@@ -1,0 +1,120 @@
+-- The joined model of two fit models is fit where 23 does not apply. Assumes nothing.
+use mathlib.Core.Path.{_≡_, refl, sym, subst}
+use mathlib.Core.Bool.{false, _||_}
+use mathlib.Core.List.{List, [], _∷_}
+use mathlib.Core.Logic.{_↔_}
+use Prim.Native.Nat.{ℕ, zero, suc, _+_, _*_, _≤_, _<_}
+use native.Mathlib.Omega.{arith}
+use lib.Dec.{ltb}
+use lib.ListN.{length, getD}
+use Rattle.limits.specs.Ceilings.{modesMost, arcsMost, coloursMost, drawMost, gainMost}
+use Rattle.refusals.proofs.Tests.{or-no, lt-no}
+use Rattle.model.specs.declared.Arc.{Arc}
+use Rattle.model.specs.Automaton.{Automaton, noArc, arcAt}
+use Rattle.model.specs.Fitness.{ArcFits, Fit}
+use Rattle.model.proofs.Bits.{colours-below}
+use Rattle.join.specs.Joined.{joinArc, joined}
+use Rattle.join.specs.Joining.{sumAbove, someSumAbove, oversize}
+use Rattle.join.proofs.Colours.{colours-within}
+use Rattle.join.proofs.Modes.{mode-below}
+use Rattle.join.proofs.Pairs.{made-of}
+
+-- the sums of an arc are within an arc's ranges
+pub record SumsFit (a : Arc) : Type 0 where
+  pub draw : a .draw ≤ drawMost
+  pub gain : a .gain ≤ gainMost
+
+sum-no : (a : Arc) → (sumAbove a ≡ false) ↔ SumsFit a
+sum-no a =
+    let both = or-no (ltb drawMost (a .draw)) (ltb gainMost (a .gain)) in (
+      λ e. record { draw = lt-no drawMost (a .draw) .0 (both .0 e .0); gain = lt-no gainMost (a .gain) .0 (both .0 e .1) },
+      λ s. both .1 (lt-no drawMost (a .draw) .1 (s .draw), lt-no gainMost (a .gain) .1 (s .gain)),
+    )
+
+-- of every arc of a list
+pub sums-no : (l : List Arc) → (someSumAbove l ≡ false) ↔ ((a : ℕ) → a < length l → SumsFit (getD l a noArc))
+sums-no l = (to l, from l)
+  where
+    to : (l : List Arc) → someSumAbove l ≡ false → (a : ℕ) → a < length l → SumsFit (getD l a noArc)
+    to [] e a h = absurd (omega arith)
+    to (x ∷ l) e zero h = sum-no x .0 (or-no (sumAbove x) (someSumAbove l) .0 e .0)
+    to (x ∷ l) e (suc a) h = to l (or-no (sumAbove x) (someSumAbove l) .0 e .1) a (omega arith)
+
+    from : (l : List Arc) → ((a : ℕ) → a < length l → SumsFit (getD l a noArc)) → someSumAbove l ≡ false
+    from [] f = refl
+    from (x ∷ l) f = or-no (sumAbove x) (someSumAbove l) .1 (sum-no x .1 (f 0 (omega arith)), from l (λ a h. f (suc a) (omega arith)))
+
+-- 23 does not apply to the joined model g and lists that take so many arcs
+pub record Small (g : Automaton) (room : ℕ) : Type 0 where
+  pub few-modes : g .modes ≤ modesMost
+  pub few-arcs : length (g .arcs) ≤ arcsMost
+  pub few-colours : g .colours ≤ coloursMost
+  pub sums : (a : ℕ) → a < length (g .arcs) → SumsFit (arcAt g a)
+  pub room-for : length (g .arcs) ≤ room
+
+pub size-no : (g : Automaton) (room : ℕ) → (oversize g room ≡ false) ↔ Small g room
+unfolding oversize
+size-no g room =
+    let m = length (g .arcs) in
+    let modes = ltb modesMost (g .modes) in
+    let arcs = ltb arcsMost m in
+    let colours = ltb coloursMost (g .colours) in
+    let sums = someSumAbove (g .arcs) in
+    let last = or-no (modes || arcs || colours || sums) (ltb room m) in
+    let fourth = or-no (modes || arcs || colours) sums in
+    let third = or-no (modes || arcs) colours in
+    let second = or-no modes arcs in (
+      λ e.
+          let four = last .0 e .0 in
+          let three = fourth .0 four .0 in
+          let two = second .0 (third .0 three .0) in
+          record {
+            few-modes = lt-no modesMost (g .modes) .0 (two .0);
+            few-arcs = lt-no arcsMost m .0 (two .1);
+            few-colours = lt-no coloursMost (g .colours) .0 (third .0 three .1);
+            sums = sums-no (g .arcs) .0 (fourth .0 four .1);
+            room-for = lt-no room m .0 (last .0 e .1);
+          },
+      λ s.
+          last .1 (
+            fourth .1 (
+              third .1 (
+                second .1 (lt-no modesMost (g .modes) .1 (s .few-modes), lt-no arcsMost m .1 (s .few-arcs)),
+                lt-no coloursMost (g .colours) .1 (s .few-colours),
+              ),
+              sums-no (g .arcs) .1 (s .sums),
+            ),
+            lt-no room m .1 (s .room-for),
+          ),
+    )
+
+-- the joined arc of two fit arcs, where its sums are within their ranges
+arc-fits : (n₁ k₁ n₂ k₂ : ℕ) (x y : Arc) → ArcFits n₁ k₁ x → ArcFits n₂ k₂ y → SumsFit (joinArc n₂ k₁ x y)
+    → ArcFits (n₁ * n₂) (k₁ + k₂) (joinArc n₂ k₁ x y)
+arc-fits n₁ k₁ n₂ k₂ x y f h s =
+    record {
+      source = mode-below n₁ n₂ (x .source) (y .source) (f .source) (h .source);
+      target = mode-below n₁ n₂ (x .target) (y .target) (f .target) (h .target);
+      draw-most = s .draw;
+      gain-most = s .gain;
+      colours =
+          colours-below (joinArc n₂ k₁ x y .colours) (k₁ + k₂) .0
+          (colours-within (x .colours) (y .colours) k₁ k₂ (colours-below (x .colours) k₁ .1 (f .colours)) (colours-below (y .colours) k₂ .1 (h .colours)));
+      action-most = f .action-most;
+    }
+
+pub joined-fit : (g h : Automaton) (room : ℕ) → Fit g → Fit h → Small (joined g h) room → Fit (joined g h)
+joined-fit g h room knee habit small =
+    let start = mode-below (g .modes) (h .modes) (g .start) (h .start) (knee .starts) (habit .starts) in
+    record {
+      some-mode = omega (arith, start);
+      few-modes = small .few-modes;
+      starts = start;
+      few-arcs = small .few-arcs;
+      few-colours = small .few-colours;
+      arcs-fit = λ z below.
+          let m = made-of g h z below in
+          subst (ArcFits (g .modes * h .modes) (g .colours + h .colours)) (sym (m .arc))
+          (arc-fits (g .modes) (g .colours) (h .modes) (h .colours) _ _ (knee .arcs-fit _ (m .knee-below)) (habit .arcs-fit _ (m .habit-below))
+          (subst SumsFit (m .arc) (small .sums z below)));
+    }
