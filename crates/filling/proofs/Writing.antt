@@ -1,10 +1,11 @@
 -- Arcs written one after the other. Assumes nothing.
 use mathlib.Core.Path.{_≡_, refl, sym, ap, subst, _∙_}
-use mathlib.Core.List.{List, [], _∷_, _++_}
+use mathlib.Core.List.{List, [], _∷_, _++_, map}
 use Prim.Native.Nat.{ℕ, suc, _+_}
 use native.Mathlib.Nat.{add-zero}
 use native.Mathlib.Omega.{arith}
 use lib.ListN.{length, length-append}
+use lib.Seq.{sets, length-sets}
 use Rattle.model.specs.declared.Arc.{Arc}
 use Rattle.model.specs.Lists.{Lists}
 use Rattle.filling.specs.Filling.{put, writtenFrom}
@@ -25,6 +26,15 @@ pub record Writing (all rest : List Arc) (from i : ℕ) (old now : Lists) : Type
 pub record Written (all : List Arc) (from : ℕ) (old : Lists) (end : ℕ) (now : Lists) : Type 0 where
   pub place : end ≡ from + length all
   pub puts : now ≡ writtenFrom from all old
+
+-- lists of the same lengths
+pub record SameLengths (old now : Lists) : Type 0 where
+  pub sources : length (now .sources) ≡ length (old .sources)
+  pub targets : length (now .targets) ≡ length (old .targets)
+  pub draws : length (now .draws) ≡ length (old .draws)
+  pub gains : length (now .gains) ≡ length (old .gains)
+  pub colours : length (now .colours) ≡ length (old .colours)
+  pub actions : length (now .actions) ≡ length (old .actions)
 
 -- nothing is written yet
 pub writing-none : (all : List Arc) (from : ℕ) (old : Lists) → Writing all all from from old old
@@ -48,3 +58,18 @@ module _ (all : List Arc) (from i : ℕ) (old now : Lists) where
   -- none is left
   pub writing-done : Writing all [] from i old now → Written all from old i now
   writing-done w = record { place = omega (arith, w .place); puts = sym (w .puts) }
+
+  -- the lists keep their lengths all along
+  pub writing-lengths : (rest : List Arc) → Writing all rest from i old now → SameLengths old now
+  writing-lengths rest w =
+      record {
+        sources = kept (λ a. a .source) (old .sources) (now .sources) (ap {B = List ℕ} (λ (l : Lists). l .sources) (w .puts));
+        targets = kept (λ a. a .target) (old .targets) (now .targets) (ap {B = List ℕ} (λ (l : Lists). l .targets) (w .puts));
+        draws = kept (λ a. a .draw) (old .draws) (now .draws) (ap {B = List ℕ} (λ (l : Lists). l .draws) (w .puts));
+        gains = kept (λ a. a .gain) (old .gains) (now .gains) (ap {B = List ℕ} (λ (l : Lists). l .gains) (w .puts));
+        colours = kept (λ a. a .colours) (old .colours) (now .colours) (ap {B = List ℕ} (λ (l : Lists). l .colours) (w .puts));
+        actions = kept (λ a. a .action) (old .actions) (now .actions) (ap {B = List ℕ} (λ (l : Lists). l .actions) (w .puts));
+      }
+    where
+      kept : (f : Arc → ℕ) (l l′ : List ℕ) → sets l from (map f all) ≡ sets l′ i (map f rest) → length l′ ≡ length l
+      kept f l l′ e = sym (length-sets l′ i (map f rest)) ∙ ap {B = ℕ} length (sym e) ∙ length-sets l from (map f all)
