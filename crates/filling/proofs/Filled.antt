@@ -1,18 +1,31 @@
--- What stands in lists that were filled: the model that was written, and behind it what was there. Assumes nothing.
+-- What stands in lists that were filled: the model that was written, and behind it what was there. What a call answers, and leaves, by its verdict.
+-- Assumes nothing.
 use mathlib.Core.Path.{_≡_, refl, sym, ap, subst, _∙_}
 use mathlib.Core.List.{List, _++_, map}
+use mathlib.Core.Logic.{_↔_}
 use Prim.Native.Nat.{ℕ, _+_, _≤_}
 use native.Mathlib.Omega.{arith}
 use lib.ListN.{length, getD, take, drop, length-map, List·getD-map}
 use lib.Seq.{sets, sets-eq, take-at, drop-at, ext-getD}
-use Rattle.refusals.specs.declared.Verdict.the-variants.{Yes}
+use Rattle.refusals.specs.declared.Answer.{Answer}
+use Rattle.refusals.specs.declared.Refusal.{Refusal}
+use Rattle.refusals.specs.declared.Verdict.{Verdict}
+use Rattle.refusals.specs.declared.Verdict.the-variants.{Yes, Refused}
+use Rattle.refusals.specs.Refusals.{answerOf}
 use Rattle.model.specs.declared.Arc.{Arc}
 use Rattle.model.specs.Automaton.{Automaton, noArc}
 use Rattle.model.specs.Lists.{Lists, lists, arcsOf, automatonOf}
 use Rattle.model.specs.Fitness.{EqualLists, Fit, fitness}
 use Rattle.model.proofs.Fitness.{fitness-yes}
 use Rattle.model.proofs.Arcs.{arcs-length, arcs-here}
-use Rattle.filling.specs.Filling.{roomIn, writtenFrom, firstPlaces, laterPlaces}
+use Rattle.filling.specs.declared.Reading.{Reading}
+use Rattle.filling.specs.Filling.{roomIn, writtenFrom, writtenIf, refusedBy, readingIf, firstPlaces, laterPlaces}
+
+-- there is room for m arcs exactly where each list takes them
+pub room-least : (l : Lists) (m : ℕ) → (m ≤ roomIn l)
+    ↔ ((m ≤ length (l .sources)) × (m ≤ length (l .targets)) × (m ≤ length (l .draws)) × (m ≤ length (l .gains)) × (m ≤ length (l .colours))
+    × (m ≤ length (l .actions)))
+room-least l m = (λ h. (omega arith, omega arith, omega arith, omega arith, omega arith, omega arith), λ (s, t, d, g, c, x). omega arith)
 
 -- an arc by its parts
 pub arc-by : {s t d g c x : ℕ} (a : Arc) → s ≡ a .source → t ≡ a .target → d ≡ a .draw → g ≡ a .gain → c ≡ a .colours → x ≡ a .action
@@ -111,3 +124,31 @@ module _ (g : Automaton) (l : Lists) (room : length (g .arcs) ≤ roomIn l) wher
         subst EqualLists (sym first-written) (equal-lists (g .arcs)),
         subst Fit (sym filled-model) fit,
       )
+
+-- the verdict in what a call answers is the verdict
+pub verdict-if : (v : Verdict) (g : Automaton) → readingIf v g .verdict ≡ v
+verdict-if Yes g = refl
+verdict-if (Refused r) g = refl
+
+-- a call whose verdict is v, and which writes the model g where that is yes
+module _ (v : Verdict) (g : Automaton) where
+  -- number and detail are those of the verdict
+  pub answer-if : (r : Reading) → r ≡ readingIf v g → answerOf (r .verdict) ≡ answerOf v
+  answer-if r e = ap {B = Answer} (λ (x : Reading). answerOf (x .verdict)) e ∙ ap {B = Answer} answerOf (verdict-if v g)
+
+  -- document 02, Asks 1 and 5: "A refused reading leaves the lent arc lists untouched and gives 0 for n, start mode, k and m"; "A refused join
+  -- writes nothing and gives 0 for n, start mode, k and m"
+  module _ (r : Refusal) (no : v ≡ Refused r) where
+    pub refused-answer : refusedBy r ≡ readingIf v g
+    refused-answer = rw no refl
+
+    pub refused-zero : let q = readingIf v g in (q .modes ≡ 0) × (q .start ≡ 0) × (q .colours ≡ 0) × (q .count ≡ 0)
+    refused-zero = rw no (refl, refl, refl, refl)
+
+    pub refused-kept : (l : Lists) → l ≡ writtenIf v (g .arcs) l
+    refused-kept l = rw no refl
+
+  -- with the numbers of a call that is not refused, the first places are the model
+  pub accepted-model : v ≡ Yes → (l : Lists) → length (g .arcs) ≤ roomIn l → let r = readingIf v g in
+      automatonOf (r .modes) (r .start) (r .colours) (firstPlaces (r .count) (writtenIf v (g .arcs) l)) ≡ g
+  accepted-model e l room = rw e (filled-model g l room)

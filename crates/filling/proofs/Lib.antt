@@ -1,4 +1,4 @@
--- Laws of lists that are filled. For the code: arcs written one after the other (Writing). For a caller: what stands in the lists, and that it is the
--- model that was written (Filled).
+-- Laws of lists that are filled. For the code: arcs written one after the other (Writing). For a caller: what the call answers, what stands in the lists,
+-- and that it is the model that was written (Filled).
 pub mod Writing
 pub mod Filled

@@ -22,11 +22,7 @@ pub record Writing (all rest : List Arc) (from i : ℕ) (old now : Lists) : Type
   pub place : from + length all ≡ i + length rest
   pub puts : writtenFrom from all old ≡ writtenFrom i rest now
 
--- nothing is written yet
-pub writing-none : (all : List Arc) (from : ℕ) (old : Lists) → Writing all all from from old old
-writing-none all from old = record { place = refl; puts = refl }
-
--- the lists are as long as they were
+-- lists of the same lengths
 pub record SameLengths (old now : Lists) : Type 0 where
   pub sources : length (now .sources) ≡ length (old .sources)
   pub targets : length (now .targets) ≡ length (old .targets)
@@ -35,22 +31,11 @@ pub record SameLengths (old now : Lists) : Type 0 where
   pub colours : length (now .colours) ≡ length (old .colours)
   pub actions : length (now .actions) ≡ length (old .actions)
 
--- a list that becomes the same as another, with a part of some arcs written into each, is as long
-same-long : (f : Arc → ℕ) (u v : List Arc) (i j : ℕ) (l m : List ℕ) → sets l i (map f u) ≡ sets m j (map f v) → length m ≡ length l
-same-long f u v i j l m e = sym (length-sets m j (map f v)) ∙ sym (ap {B = ℕ} length e) ∙ length-sets l i (map f u)
+-- nothing is written yet
+pub writing-none : (all : List Arc) (from : ℕ) (old : Lists) → Writing all all from from old old
+writing-none all from old = record { place = refl; puts = refl }
 
 module _ (all : List Arc) (from i : ℕ) (old now : Lists) where
-  pub writing-lengths : (rest : List Arc) → Writing all rest from i old now → SameLengths old now
-  writing-lengths rest w =
-      record {
-        sources = same-long (λ a. a .source) all rest from i (old .sources) (now .sources) (ap {B = List ℕ} (λ (l : Lists). l .sources) (w .puts));
-        targets = same-long (λ a. a .target) all rest from i (old .targets) (now .targets) (ap {B = List ℕ} (λ (l : Lists). l .targets) (w .puts));
-        draws = same-long (λ a. a .draw) all rest from i (old .draws) (now .draws) (ap {B = List ℕ} (λ (l : Lists). l .draws) (w .puts));
-        gains = same-long (λ a. a .gain) all rest from i (old .gains) (now .gains) (ap {B = List ℕ} (λ (l : Lists). l .gains) (w .puts));
-        colours = same-long (λ a. a .colours) all rest from i (old .colours) (now .colours) (ap {B = List ℕ} (λ (l : Lists). l .colours) (w .puts));
-        actions = same-long (λ a. a .action) all rest from i (old .actions) (now .actions) (ap {B = List ℕ} (λ (l : Lists). l .actions) (w .puts));
-      }
-
   -- the rest, told otherwise
   pub writing-rest : (rest rest′ : List Arc) → rest ≡ rest′ → Writing all rest from i old now → Writing all rest′ from i old now
   writing-rest rest rest′ e w = subst (λ (l : List Arc). Writing all l from i old now) e w
@@ -72,3 +57,18 @@ module _ (all : List Arc) (from i : ℕ) (old now : Lists) where
   -- none is left
   pub writing-done : Writing all [] from i old now → Written all from old i now
   writing-done w = record { place = omega (arith, w .place); puts = sym (w .puts) }
+
+  -- the lists keep their lengths all along
+  pub writing-lengths : (rest : List Arc) → Writing all rest from i old now → SameLengths old now
+  writing-lengths rest w =
+      record {
+        sources = kept (λ a. a .source) (old .sources) (now .sources) (ap {B = List ℕ} (λ (l : Lists). l .sources) (w .puts));
+        targets = kept (λ a. a .target) (old .targets) (now .targets) (ap {B = List ℕ} (λ (l : Lists). l .targets) (w .puts));
+        draws = kept (λ a. a .draw) (old .draws) (now .draws) (ap {B = List ℕ} (λ (l : Lists). l .draws) (w .puts));
+        gains = kept (λ a. a .gain) (old .gains) (now .gains) (ap {B = List ℕ} (λ (l : Lists). l .gains) (w .puts));
+        colours = kept (λ a. a .colours) (old .colours) (now .colours) (ap {B = List ℕ} (λ (l : Lists). l .colours) (w .puts));
+        actions = kept (λ a. a .action) (old .actions) (now .actions) (ap {B = List ℕ} (λ (l : Lists). l .actions) (w .puts));
+      }
+    where
+      kept : (f : Arc → ℕ) (l l′ : List ℕ) → sets l from (map f all) ≡ sets l′ i (map f rest) → length l′ ≡ length l
+      kept f l l′ e = sym (length-sets l′ i (map f rest)) ∙ ap {B = ℕ} length (sym e) ∙ length-sets l from (map f all)

@@ -22,7 +22,7 @@ use Rattle.hoa.proofs.Colours.{colour-bit}
 use Rattle.dimacs.specs.Text.{TextArc, textArcOn}
 use Rattle.reading.specs.Agreement.{sameEnds, allSame}
 use Rattle.reading.specs.ModelRead.{arcRead, arcsRead}
-use Rattle.reading.specs.Within.{outOfRange, weightsVerdict, Narrow}
+use Rattle.reading.specs.Within.{outOfRange, weightsVerdict, NarrowArc, Narrow}
 
 -- texts that agree have as many edges as `a` lines
 pub same-length : (es : List Edge) (ts : List TextArc) → allSame es ts ≡ true → length es ≡ length ts
@@ -55,11 +55,12 @@ module _ (n k : ℕ) (e : Edge) (a : TextArc) (fits : EdgeFits n k e) where
   pub weight-five : unfitArc n (2 ^ k) (arcRead e a) ≡ (ltb drawMost (drawOf (a .weight)) || ltb gainMost (gainOf (a .weight)))
   unfolding unfitArc
   weight-five =
+      let heavy = ltb drawMost (drawOf (a .weight)) || ltb gainMost (gainOf (a .weight)) in
       rw (
         lt-leb n (e .source) (fits .source),
         lt-leb n (e .target) (fits .target),
         lt-leb (2 ^ k) (colourByte (e .colours)) (colours-below (colourByte (e .colours)) k .1 no-colour),
-      ) (or-false (ltb drawMost (drawOf (a .weight)) || ltb gainMost (gainOf (a .weight))))
+      ) (or-false (heavy || false) ∙ or-false heavy)
 
 -- 5 of the arcs that are read is that of the `a` lines
 pub weights-five : (n k : ℕ) (es : List Edge) (ls : List (List ℕ)) (i : ℕ) → length es ≡ length ls → EdgesFit n k es
@@ -75,10 +76,12 @@ weights-five n k (x ∷ es) (l ∷ ls) i e f =
 pub narrow : (n k : ℕ) (arcs : List Arc) → n ≤ 64 → ((a : ℕ) → a < length arcs → ArcFits n k (getD arcs a noArc)) → Narrow arcs
 narrow n k [] few f = tt
 narrow n k (x ∷ l) few f =
-    let g : ArcFits n k x = f 0 (omega arith) in (
-      omega (arith, g .source),
-      omega (arith, g .target),
-      omega (arith, g .draw-most),
-      omega (arith, g .gain-most),
-      narrow n k l few (λ a h. f (suc a) (omega arith)),
-    )
+    let g : ArcFits n k x = f 0 (omega arith) in
+    let low : NarrowArc x =
+    record {
+      source = omega (arith, g .source);
+      target = omega (arith, g .target);
+      draw = omega (arith, g .draw-most);
+      gain = omega (arith, g .gain-most);
+    } in
+    (low, narrow n k l few (λ a h. f (suc a) (omega arith)))

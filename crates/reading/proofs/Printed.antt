@@ -1,5 +1,5 @@
--- What is printed for an arc reads back as it, where it is fit and has one part. Assumes nothing.
-use mathlib.Core.Path.{_≡_, refl, ap}
+-- What is printed for an arc reads back as it, where it is fit and has one part and action 0. Assumes nothing.
+use mathlib.Core.Path.{_≡_, refl, sym, ap}
 use mathlib.Core.Bool.{Bool, true, false, cond, _&&_}
 use mathlib.Core.List.{List, [], _∷_, _++_, map}
 use mathlib.Core.Logic.{_⊎_, inl, inr}
@@ -22,6 +22,7 @@ use Rattle.hoa.specs.Text.{Edge, contains, colourByte}
 use Rattle.hoa.specs.Edges.{Below, EdgesFit}
 use Rattle.dimacs.specs.Text.{TextArc}
 use Rattle.dimacs.proofs.PrintText.{SmallZ, TextArcsFit}
+use Rattle.filling.proofs.Filled.{arc-by}
 use Rattle.reading.specs.Agreement.{allSame}
 use Rattle.reading.specs.ModelRead.{arcRead, arcsRead}
 
@@ -125,16 +126,17 @@ module _ (n k : ℕ) where
         text-arcs-fit l (λ a h. f (suc a) (omega arith)),
       )
 
-  arc-back : (x : Arc) → k ≤ coloursMost → ArcFits n k x → (x .draw ≡ 0) ⊎ (x .gain ≡ 0) → arcRead (edgeFor x) (textArcFor x) ≡ x
-  arc-back x few g one =
+  arc-back : (x : Arc) → k ≤ coloursMost → ArcFits n k x → (x .draw ≡ 0) ⊎ (x .gain ≡ 0) → x .action ≡ 0 → arcRead (edgeFor x) (textArcFor x) ≡ x
+  arc-back x few g one none =
       let low : x .colours < 2 ^ coloursMost = colours-below (x .colours) coloursMost .1 (λ j h. g .colours j (omega arith)) in
-      rw (draw-back (x .draw) (x .gain), gain-back (x .draw) (x .gain) one, byte-back (x .colours) low) refl
+      arc-by x refl refl (draw-back (x .draw) (x .gain)) (gain-back (x .draw) (x .gain) one) (byte-back (x .colours) low) (sym none)
 
   -- and reads back
   pub arcs-back : (l : List Arc) → k ≤ coloursMost → ((a : ℕ) → a < length l → ArcFits n k (getD l a noArc))
-      → ((a : ℕ) → a < length l → (getD l a noArc .draw ≡ 0) ⊎ (getD l a noArc .gain ≡ 0)) → arcsRead (map edgeFor l) (map textArcFor l) ≡ l
+      → ((a : ℕ) → a < length l → (getD l a noArc .draw ≡ 0) ⊎ (getD l a noArc .gain ≡ 0)) → ((a : ℕ) → a < length l → getD l a noArc .action ≡ 0)
+      → arcsRead (map edgeFor l) (map textArcFor l) ≡ l
   unfolding arcsRead
-  arcs-back [] few f one = refl
-  arcs-back (x ∷ l) few f one =
-      rw (arc-back x few (f 0 (omega arith)) (one 0 (omega arith)))
-      (ap {B = List Arc} (λ (t : List Arc). x ∷ t) (arcs-back l few (λ a h. f (suc a) (omega arith)) (λ a h. one (suc a) (omega arith))))
+  arcs-back [] few f one none = refl
+  arcs-back (x ∷ l) few f one none =
+      let later = arcs-back l few (λ a h. f (suc a) (omega arith)) (λ a h. one (suc a) (omega arith)) (λ a h. none (suc a) (omega arith)) in
+      rw (arc-back x few (f 0 (omega arith)) (one 0 (omega arith)) (none 0 (omega arith))) (ap {B = List Arc} (λ (t : List Arc). x ∷ t) later)

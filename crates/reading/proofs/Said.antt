@@ -25,9 +25,10 @@ use Rattle.dimacs.specs.Text.{TextArc, textArcOn, textArcsOf, arcLines}
 use Rattle.dimacs.specs.Text as dimacs
 use Rattle.dimacs.proofs.Arcs.{arc-said}
 use Rattle.dimacs.proofs.Arcs as dimacs-arcs
+use Rattle.filling.specs.Filling.{roomIn}
 use Rattle.reading.specs.Agreement.{sameEnds, allSame, agree}
 use Rattle.reading.specs.ModelRead.{arcRead, arcsRead, modelIn, modelRead}
-use Rattle.reading.specs.Reading.{roomIn, readVerdict}
+use Rattle.reading.specs.Reading.{readVerdict}
 use Rattle.reading.specs.Said.{arcLine, ArcSaid, Said}
 use Rattle.reading.proofs.Arcs.{none-above}
 use Rattle.reading.proofs.Verdicts.{edges-count, arcs-count, readable-yes}
@@ -91,6 +92,7 @@ module _ (h d : List (List ℕ)) (right : hoa.hoaWrong h ≡ 0) (too : dimacs.di
         to = eqb-true (suc (e .target)) (textArcOn (arcLine d i) .to) to;
         draw = refl;
         gain = refl;
+        action = refl;
       } in
       subst (ArcSaid h d i) (sym arc) said
 

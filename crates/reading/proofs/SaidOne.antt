@@ -15,11 +15,11 @@ use Rattle.model.proofs.Bits.{bits-same}
 use Rattle.fields.specs.Fields.{linesOf}
 use Rattle.hoa.specs.Text.{Edge, contains}
 use Rattle.hoa.proofs.EdgeOne.{edge-one}
+use Rattle.filling.proofs.Filled.{arc-by}
 use Rattle.reading.specs.ModelRead.{modelRead}
 use Rattle.reading.specs.Reading.{readVerdict}
 use Rattle.reading.specs.Said.{ArcSaid, Said}
 use Rattle.reading.proofs.Said.{read-says}
-use Rattle.reading.proofs.Writing.{arc-by}
 
 -- a model by its parts
 model-by : {m s c : ℕ} {l : List Arc} (g : Automaton) → m ≡ g .modes → s ≡ g .start → c ≡ g .colours → l ≡ g .arcs
@@ -35,6 +35,7 @@ arc-said-one h d i a b p q =
     (p .draw ∙ sym (q .draw))
     (p .gain ∙ sym (q .gain))
     (bits-same (a .colours) (b .colours) λ j. p .colours j ∙ ap {B = Bool} (λ (e : Edge). contains j (e .colours)) edges ∙ sym (q .colours j))
+    (p .action ∙ sym (q .action))
   where
     edges : p .edge ≡ q .edge
     edges = edge-one h i (p .edge) (q .edge) (p .at) (q .at)

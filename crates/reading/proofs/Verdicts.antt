@@ -16,7 +16,6 @@ use Rattle.refusals.specs.Refusals.{andThen}
 use Rattle.refusals.proofs.Verdicts.{refuse-yes, and-then-yes}
 use Rattle.refusals.proofs.Tests.{or-no, lt-no, differ-no}
 use Rattle.model.specs.Automaton.{Automaton, noArc}
-use Rattle.model.specs.Lists.{Lists}
 use Rattle.model.specs.Fitness.{Fit, header, arcsVerdict}
 use Rattle.model.proofs.Fitness.{numbers-yes, arcs-yes, unfit-no}
 use Rattle.fields.proofs.Numbers.{both}
@@ -30,14 +29,9 @@ use Rattle.dimacs.specs.Text as dimacs
 use Rattle.dimacs.proofs.Arcs.{dimacs-right}
 use Rattle.reading.specs.Agreement.{allSame, agree}
 use Rattle.reading.specs.ModelRead.{modelIn}
-use Rattle.reading.specs.Reading.{noRoom, fitnessRead, readable, roomIn}
+use Rattle.reading.specs.Reading.{noRoom, fitnessRead, readable}
 use Rattle.reading.specs.Within.{weightsVerdict}
 use Rattle.reading.proofs.Arcs.{same-length, read-length, weights-five}
-
--- there is room for m arcs exactly where each list takes them
-pub room-least : (l : Lists) (m : ℕ) → (m ≤ roomIn l)
-    ↔ ((m ≤ length (l .sources)) × (m ≤ length (l .targets)) × (m ≤ length (l .draws)) × (m ≤ length (l .gains)) × (m ≤ length (l .colours)))
-room-least l m = (λ h. (omega arith, omega arith, omega arith, omega arith, omega arith), λ (s, t, d, g, c). omega arith)
 
 -- 3 does not apply
 pub room-no : (room m : ℕ) → (noRoom room m ≡ false) ↔ ((m ≤ room) × (m ≤ arcsMost))

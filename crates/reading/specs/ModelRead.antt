@@ -9,10 +9,17 @@ use Rattle.fields.specs.Fields.{linesOf}
 use Rattle.hoa.specs.Text.{Edge, edgesOf, modesOf, startOf, coloursOf, colourByte}
 use Rattle.dimacs.specs.Text.{TextArc, textArcsOf}
 
--- the arc of an edge and its `a` line
+-- the arc of an edge and its `a` line; Ask 5: "an action byte .. (always 0 in files ..)"
 abbrev pub arcRead : Edge → TextArc → Arc
 arcRead e a =
-    record { source = e .source; target = e .target; draw = drawOf (a .weight); gain = gainOf (a .weight); colours = colourByte (e .colours) }
+    record {
+      source = e .source;
+      target = e .target;
+      draw = drawOf (a .weight);
+      gain = gainOf (a .weight);
+      colours = colourByte (e .colours);
+      action = 0;
+    }
 
 -- "The i-th `a` line belongs to the i-th edge."
 unfoldable pub arcsRead : List Edge → List TextArc → List Arc

@@ -3,11 +3,10 @@
 use mathlib.Core.Path.{_≡_}
 use mathlib.Core.List.{List}
 use Prim.Native.Nat.{ℕ, suc, _+_, _-_, _<_}
-use lib.ListN.{length, take, drop}
+use lib.ListN.{length}
 use Rattle.walks.specs.Weights.{drawOf, gainOf}
 use Rattle.model.specs.declared.Arc.{Arc}
 use Rattle.model.specs.Automaton.{Automaton, arcAt, bit}
-use Rattle.model.specs.Lists.{Lists, lists}
 use Rattle.fields.specs.Fields.{lineOf, numberAfter}
 use Rattle.hoa.specs.Words.{statesWord, startWord, acceptWord}
 use Rattle.hoa.specs.Text.{Edge, contains}
@@ -32,6 +31,8 @@ pub record ArcSaid (h d : List (List ℕ)) (i : ℕ) (a : Arc) : Type 0 where
   pub to : suc (a .target) ≡ toOn (arcLine d i)
   pub draw : a .draw ≡ drawOf (weightOn (arcLine d i))
   pub gain : a .gain ≡ gainOf (weightOn (arcLine d i))
+  -- Ask 5: "always 0 in files"
+  pub action : a .action ≡ 0
 
 -- They say of the whole model that it is g: the numbers on its lines, as many arcs as edges and as the `p` line says, and each arc.
 pub record Said (h d : List (List ℕ)) (g : Automaton) : Type 0 where
@@ -42,11 +43,3 @@ pub record Said (h d : List (List ℕ)) (g : Automaton) : Type 0 where
   pub edges : length (g .arcs) ≡ edgeLines h (length h - 7)
   pub count : length (g .arcs) ≡ countOn (problemLine d)
   pub arcs : (i : ℕ) → i < length (g .arcs) → ArcSaid h d i (arcAt g i)
-
--- the first m places of each list: what a caller lends to the other calls
-abbrev pub firstPlaces : ℕ → Lists → Lists
-firstPlaces m l = lists (take m (l .sources)) (take m (l .targets)) (take m (l .draws)) (take m (l .gains)) (take m (l .colours))
-
--- the places behind them
-abbrev pub laterPlaces : ℕ → Lists → Lists
-laterPlaces m l = lists (drop m (l .sources)) (drop m (l .targets)) (drop m (l .draws)) (drop m (l .gains)) (drop m (l .colours))

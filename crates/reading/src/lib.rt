@@ -3,7 +3,7 @@
 ghost use mathlib.Core.Path.{_≡_};
 ghost use mathlib.Core.Bool.{_&&_};
 ghost use mathlib.Core.List.{map};
-ghost use Prim.Native.Nat.{_≤_, min};
+ghost use Prim.Native.Nat.{_≤_};
 ghost use lib.Dec.{eqb};
 ghost use lib.ListN.{length, drop};
 ghost use Rattle.limits.specs.Ceilings.{arcsMost};
@@ -13,13 +13,16 @@ ghost use Rattle.model.specs.Fitness.{header};
 ghost use Rattle.fields.specs.Fields.{linesOf};
 ghost use Rattle.hoa.specs.Text.{edgesFrom, edgesOf, modesOf, startOf, coloursOf};
 ghost use Rattle.dimacs.specs.Text.{textArcOn, IsProblemOf};
+ghost use Rattle.filling.specs.Filling.{writtenFrom};
 ghost use Rattle.reading.specs.Agreement.{sameEnds, allSame};
-ghost use Rattle.reading.specs.ModelRead.{arcsRead};
-ghost use Rattle.reading.specs.Reading.{noRoom, readable, refusedBy, writtenFrom, readOf, readAnswer, listsRead};
-ghost use Rattle.reading.specs.Within.{edgeOn, IsNext, outOfRange, weightsVerdict, Fillable, readBy};
+ghost use Rattle.reading.specs.ModelRead.{arcRead, arcsRead};
+ghost use Rattle.reading.specs.Reading.{noRoom, readable, readOf, readAnswer, listsRead};
+ghost use Rattle.reading.specs.Within.{edgeOn, IsNext, outOfRange, weightsVerdict, NarrowArc, Fillable, readBy};
 use dimacs::Problem;
 use fields::Bytes;
+use filling::Reading;
 use limits::Limits;
+use model::Arc;
 use refusals::Refusal;
 use refusals::Verdict;
 
@@ -29,15 +32,6 @@ pub struct Next {
     pub source: u32,
     pub from: usize,
     pub to: usize,
-}
-
-// What a reading answers: the verdict, and the numbers of the model read, each 0 where it is refused.
-pub struct Reading {
-    pub verdict: Verdict,
-    pub modes: u32,
-    pub start: u32,
-    pub colours: u32,
-    pub count: u32,
 }
 
 // The next edge from a place on, in the block of a mode.
@@ -220,6 +214,27 @@ fn short(x: u32) -> u16
     x as u16
 }
 
+// The arc of an edge and its `a` line. In files every action is 0.
+fn arc_of(source: u32, edge: &[u8], line: &[u8]) -> Arc
+    requires { ⌜ NarrowArc (arcRead (edgeOn source (now edge)) (textArcOn (now line))) ⌝ }
+    ensures { λ r. ⌜ r ≡ arcRead (edgeOn source (now (edge .entry))) (textArcOn (now (line .entry))) ⌝ }
+{
+    let from = byte(source);
+    let to = byte(hoa::target_of(edge));
+    let parts = dimacs::parts_on(line);
+    let draw = short(parts.draw);
+    let gain = short(parts.gain);
+    let colours = hoa::colour_byte(edge);
+    Arc {
+        source: from,
+        target: to,
+        draw,
+        gain,
+        colours,
+        action: 0,
+    }
+}
+
 // The arcs of a body and the `a` lines, written into the lent lists.
 fn fill(
     body: &[u8],
@@ -229,9 +244,10 @@ fn fill(
     draws: &mut [u16],
     gains: &mut [u16],
     colours: &mut [u8],
+    actions: &mut [u8],
 )
-    requires { ⌜ Fillable (edgesFrom 0 (linesOf (now body))) (map textArcOn (linesOf (now lines))) (lists (now sources) (now targets) (now draws) (now gains) (now colours)) ⌝ }
-    ensures { λ _. ⌜ lists (now (sources .exit)) (now (targets .exit)) (now (draws .exit)) (now (gains .exit)) (now (colours .exit)) ≡ writtenFrom 0 (arcsRead (edgesFrom 0 (linesOf (now (body .entry)))) (map textArcOn (linesOf (now (lines .entry))))) (lists (now (sources .entry)) (now (targets .entry)) (now (draws .entry)) (now (gains .entry)) (now (colours .entry))) ⌝ }
+    requires { ⌜ Fillable (edgesFrom 0 (linesOf (now body))) (map textArcOn (linesOf (now lines))) ⌝ }
+    ensures { λ _. ⌜ lists (now (sources .exit)) (now (targets .exit)) (now (draws .exit)) (now (gains .exit)) (now (colours .exit)) (now (actions .exit)) ≡ writtenFrom 0 (arcsRead (edgesFrom 0 (linesOf (now (body .entry)))) (map textArcOn (linesOf (now (lines .entry))))) (lists (now (sources .entry)) (now (targets .entry)) (now (draws .entry)) (now (gains .entry)) (now (colours .entry)) (now (actions .entry))) ⌝ }
 {
     let mut h = 0;
     let mut d = 0;
@@ -243,48 +259,11 @@ fn fill(
         let to = next.to;
         source = next.source;
         let e = fields::piece_end(lines, d, Bytes::FEED);
-        let edge = &body[from..to];
-        let parts = dimacs::parts_on(&lines[d..e]);
-        sources[i] = byte(source);
-        targets[i] = byte(hoa::target_of(edge));
-        draws[i] = short(parts.draw);
-        gains[i] = short(parts.gain);
-        colours[i] = hoa::colour_byte(edge);
+        let arc = arc_of(source, &body[from..to], &lines[d..e]);
+        filling::write(arc, i, sources, targets, draws, gains, colours, actions);
         h = to;
         d = e;
         i += 1;
-    }
-}
-
-// The smaller of two numbers.
-fn smaller(a: usize, b: usize) -> usize
-    ensures { λ r. ⌜ r ≡ min a b ⌝ }
-{
-    if a <= b {
-        return a;
-    }
-    b
-}
-
-// The least of the lengths of the five lists.
-fn shortest(sources: usize, targets: usize, draws: usize, gains: usize, colours: usize) -> usize
-    ensures { λ r. ⌜ r ≡ min (min sources targets) (min (min draws gains) colours) ⌝ }
-{
-    let ends = smaller(sources, targets);
-    let parts = smaller(draws, gains);
-    smaller(ends, smaller(parts, colours))
-}
-
-// A refused reading.
-fn refused(refusal: Refusal) -> Reading
-    ensures { λ r. ⌜ r ≡ refusedBy refusal ⌝ }
-{
-    Reading {
-        verdict: Verdict::Refused(refusal),
-        modes: 0,
-        start: 0,
-        colours: 0,
-        count: 0,
     }
 }
 
@@ -304,7 +283,7 @@ fn accepted(hoa: &[u8], count: u32) -> Reading
     }
 }
 
-// A model read from HOA text and DIMACS text into five lent lists, from place 0 of each on: the first of 19, 20, 21 and 1 to 5 that applies, and the
+// A model read from HOA text and DIMACS text into six lent lists, from place 0 of each on: the first of 19, 20, 21 and 1 to 5 that applies, and the
 // lists as they were, or the numbers of the model. For all texts and lists.
 pub fn read(
     hoa: &[u8],
@@ -314,17 +293,19 @@ pub fn read(
     draws: &mut [u16],
     gains: &mut [u16],
     colours: &mut [u8],
+    actions: &mut [u8],
 ) -> Reading
-    ensures reading { λ r. ⌜ r ≡ readOf (now (hoa .entry)) (now (dimacs .entry)) (lists (now (sources .entry)) (now (targets .entry)) (now (draws .entry)) (now (gains .entry)) (now (colours .entry))) ⌝ }
-    ensures answer { λ r. ⌜ answerOf (r .verdict) ≡ readAnswer (now (hoa .entry)) (now (dimacs .entry)) (lists (now (sources .entry)) (now (targets .entry)) (now (draws .entry)) (now (gains .entry)) (now (colours .entry))) ⌝ }
-    ensures lists { λ _. ⌜ lists (now (sources .exit)) (now (targets .exit)) (now (draws .exit)) (now (gains .exit)) (now (colours .exit)) ≡ listsRead (now (hoa .entry)) (now (dimacs .entry)) (lists (now (sources .entry)) (now (targets .entry)) (now (draws .entry)) (now (gains .entry)) (now (colours .entry))) ⌝ }
+    ensures reading { λ r. ⌜ r ≡ readOf (now (hoa .entry)) (now (dimacs .entry)) (lists (now (sources .entry)) (now (targets .entry)) (now (draws .entry)) (now (gains .entry)) (now (colours .entry)) (now (actions .entry))) ⌝ }
+    ensures answer { λ r. ⌜ answerOf (r .verdict) ≡ readAnswer (now (hoa .entry)) (now (dimacs .entry)) (lists (now (sources .entry)) (now (targets .entry)) (now (draws .entry)) (now (gains .entry)) (now (colours .entry)) (now (actions .entry))) ⌝ }
+    ensures lists { λ _. ⌜ lists (now (sources .exit)) (now (targets .exit)) (now (draws .exit)) (now (gains .exit)) (now (colours .exit)) (now (actions .exit)) ≡ listsRead (now (hoa .entry)) (now (dimacs .entry)) (lists (now (sources .entry)) (now (targets .entry)) (now (draws .entry)) (now (gains .entry)) (now (colours .entry)) (now (actions .entry))) ⌝ }
 {
-    let room = shortest(
+    let room = filling::room(
         sources.len(),
         targets.len(),
         draws.len(),
         gains.len(),
         colours.len(),
+        actions.len(),
     );
     let problem = dimacs::problem_of(dimacs);
     let verdict = check_texts(hoa, dimacs, problem, room);
@@ -339,9 +320,10 @@ pub fn read(
                 draws,
                 gains,
                 colours,
+                actions,
             );
             accepted(hoa, problem.count)
         }
-        Verdict::Refused(refusal) => refused(refusal),
+        Verdict::Refused(refusal) => filling::refused(refusal),
     }
 }

@@ -3,43 +3,51 @@ use mathlib.Core.Path.{_≡_, sym, ap, _∙_}
 use borrow.Author.Needs.{needs}
 use Rattle.refusals.specs.declared.Verdict.{Verdict}
 use Rattle.refusals.specs.declared.Verdict.the-variants.{Yes}
+use Rattle.model.specs.Automaton.{Automaton}
 use Rattle.model.specs.Lists.{Lists, lists}
 use Rattle.fields.specs.Fields.{linesOf}
 use Rattle.dimacs.specs.Text.{IsProblemOf}
+use Rattle.filling.proofs.Filled.{answer-if, refused-answer, refused-kept}
+use Rattle.reading.specs.ModelRead.{modelRead}
 use Rattle.reading.specs.Reading.{readable, readVerdict}
 use Rattle.reading.proofs.Verdicts.{arc-slice}
-use Rattle.reading.proofs.Through.{read-number, read-refused, lists-refused, read-accepted, may-fill, lists-accepted}
+use Rattle.reading.proofs.Through.{read-accepted, may-fill, lists-accepted}
 use Rattle.reading.proofs.read.Statement.{statement}
 use Rattle.reading.proofs.read.Tie as tie
 
-shortest-requires : tie.Need-shortest-requires
-shortest-requires c κs = search needs
+room-requires : tie.Need-room-requires
+room-requires c κs = search needs
 
 problem-of-requires : tie.Need-problem-of-requires
 problem-of-requires c κs = search needs
 
 check-texts-requires : tie.Need-check-texts-requires
-check-texts-requires c κs = c .problem-of .ensures
+check-texts-requires c κs = search needs
 
 enum-told : tie.Need-enum-told
 enum-told c = search needs
 
--- from the check to the beginning, and the lists as they were
+-- from the check to the beginning, the lists as they were, the verdict and the model
 abbrev start : tie.After-check-texts → tie.Start
-start d = d .before .before .before .before .before .before .before .before .before .before
+start d = d .before .before .before .before .before .before .before .before .before .before .before
 
 abbrev lists-of : tie.Start → Lists
-lists-of s = lists (s .args .sources .now) (s .args .targets .now) (s .args .draws .now) (s .args .gains .now) (s .args .colours .now)
+lists-of s = lists (s .args .sources .now) (s .args .targets .now) (s .args .draws .now) (s .args .gains .now) (s .args .colours .now) (s .args .actions .now)
 
--- the check is the verdict on the reading
-told : (d : tie.After-check-texts) → d .check-texts .result ≡ readVerdict (start d .args .hoa .now) (start d .args .dimacs .now) (lists-of (start d))
+abbrev verdict-on : tie.Start → Verdict
+verdict-on s = readVerdict (s .args .hoa .now) (s .args .dimacs .now) (lists-of s)
+
+abbrev model-in : tie.Start → Automaton
+model-in s = modelRead (s .args .hoa .now) (s .args .dimacs .now)
+
+-- the check is the verdict
+told : (d : tie.After-check-texts) → d .check-texts .result ≡ verdict-on (start d)
 told d =
     d .check-texts .ensures
-    ∙ ap {B = Verdict} (readable (linesOf (start d .args .hoa .now)) (linesOf (start d .args .dimacs .now))) (d .before .before .shortest .ensures)
+    ∙ ap {B = Verdict} (readable (linesOf (start d .args .hoa .now)) (linesOf (start d .args .dimacs .now))) (d .before .before .room .ensures)
 
--- where it is yes, and the place where the lines of the body are known
-yes : (e : tie.After-enum-told)
-    → let d = e .before .before in readVerdict (start d .args .hoa .now) (start d .args .dimacs .now) (lists-of (start d)) ≡ Yes
+-- where it is yes
+yes : (e : tie.After-enum-told) → verdict-on (start (e .before .before)) ≡ Yes
 yes e = sym (told (e .before .before)) ∙ e .enum-told .given .1
 
 -- the numbers of the DIMACS text
@@ -50,19 +58,19 @@ body-of-requires : tie.Need-body-of-requires
 body-of-requires c κs = search needs
 
 sub-fill : tie.Need-sub-fill
-sub-fill c = problem (c .before) .within
+sub-fill c = search needs
 
 part-fill-start : tie.Need-part-fill-start
-part-fill-start c = let h = problem (c .before) .within in search needs
+part-fill-start c = search needs
 
 part-fill-end : tie.Need-part-fill-end
 part-fill-end c = search needs
 
 fill-requires : tie.Need-fill-requires
 fill-requires c κs =
-    let b = c .before .before .before .before .before .before in
+    let b = c .before .before .before .before .before .before .before in
     let e = b .before in
-    may-fill _ _ _ (yes e) _ _ (b .body-of .ensures) (arc-slice _ _ (problem e))
+    may-fill _ _ (lists-of (start (e .before .before))) (yes e) _ _ (b .body-of .ensures) (arc-slice _ _ (problem e))
 
 accepted-requires : tie.Need-accepted-requires
 accepted-requires c κs = search needs
@@ -88,16 +96,20 @@ same-length-4 c = search needs
 same-length-5 : tie.Need-same-length-5
 same-length-5 c = search needs
 
+same-length-6 : tie.Need-same-length-6
+same-length-6 c = search needs
+
 returns : tie.Need-returns
 returns c =
-    let f = c .before .before .before .before .before .before .before .before .before .before .before in
-    let b = f .before .before .before .before .before .before .before in
+    let f = c .before .before .before .before .before .before .before .before .before .before .before .before .before in
+    let b = f .before .before .before .before .before .before .before .before in
     let e = b .before in
-    let l = lists-of (start (e .before .before)) in
+    let s = start (e .before .before) in
+    let l = lists-of s in
     let whole = c .accepted .ensures ∙ read-accepted _ _ l (yes e) _ (problem e .count) in (
       whole,
       (
-        read-number _ _ l _ whole,
+        answer-if (verdict-on s) (model-in s) _ whole,
         f .fill .ensures ∙ lists-accepted _ _ l (yes e) _ _ (b .body-of .ensures) (arc-slice _ _ (problem e)),
       ),
     )
@@ -105,16 +117,16 @@ returns c =
 returns-2 : tie.Need-returns-2
 returns-2 c =
     let d = c .before .before .before .before in
-    let l = lists-of (start d) in
+    let s = start d in
     let no = sym (told d) ∙ c .before .before .verdict .given .1 in
-    let whole = c .refused .ensures ∙ read-refused _ _ l _ no in
-    (whole, (read-number _ _ l _ whole, lists-refused _ _ l _ no))
+    let whole = c .refused .ensures ∙ refused-answer (verdict-on s) (model-in s) _ no in
+    (whole, (answer-if (verdict-on s) (model-in s) _ whole, refused-kept (verdict-on s) (model-in s) _ no (lists-of s)))
 
 pub read-spec : {M : Type 1} → statement M
 read-spec =
     tie.close
     (tie.spec
-    shortest-requires
+    room-requires
     problem-of-requires
     check-texts-requires
     enum-told
@@ -131,5 +143,6 @@ read-spec =
     same-length-3
     same-length-4
     same-length-5
+    same-length-6
     returns
     returns-2)
