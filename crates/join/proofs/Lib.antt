@@ -9,3 +9,4 @@ pub mod Rows
 pub mod Counting
 pub mod Writing
 pub mod Verdicts
+pub mod Answers

@@ -111,8 +111,8 @@ pairs-each (x ∷ xs) a ys =
     every-append (InPairs (x ∷ xs) a ys) (row (x .action) a ys 0) (pairs xs (suc a) ys)
     (every-map (InRow (x .action) a ys 0) (InPairs (x ∷ xs) a ys)
     (λ p h.
-        let same : p .habit ≡ h .at = h .habit ∙ zero-add (h .at) in
-        record { at = 0; below = omega arith; knee = omega (arith, h .knee); habit = omega (arith, same, h .below); action = rw same (h .action) })
+    let same : p .habit ≡ h .at = h .habit ∙ zero-add (h .at) in
+    record { at = 0; below = omega arith; knee = omega (arith, h .knee); habit = omega (arith, same, h .below); action = rw same (h .action) })
     (row (x .action) a ys 0) (row-each (x .action) a ys 0))
     (every-map (InPairs xs (suc a) ys) (InPairs (x ∷ xs) a ys)
     (λ p h. record { at = suc (h .at); below = omega (arith, h .below); knee = omega (arith, h .knee); habit = h .habit; action = h .action })
@@ -179,7 +179,7 @@ row-sorted act a (y ∷ ys) c = go (eqb act (y .action)) (row-sorted act a ys (s
     go : (t : Bool) → Sorted (row act a ys (suc c)) → Sorted (keepPair t (pair a c) (row act a ys (suc c)))
     go true s = (
       every-map (InRow act a ys (suc c)) (Before (pair a c)) (λ p h. inr (sym (h .knee), omega (arith, h .habit))) (row act a ys (suc c))
-      (row-each act a ys (suc c)),
+          (row-each act a ys (suc c)),
       s,
     )
     go false s = s

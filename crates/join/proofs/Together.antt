@@ -248,9 +248,11 @@ module _ (g h : Automaton) where
         in
         let joint : Plan = record { prefix = u; cycle = w } in
         let knees-are : p ≡ kneePlan joint = rw (eu, ew) refl in
-        let habits-are : q ≡ habitPlan joint = rw (fu, fw) refl in
-        (joint, serves-joined b c joint ju jw
-        (subst (λ (x : Plan). ServeTogether g h b c x (habitPlan joint)) knees-are (subst (λ (y : Plan). ServeTogether g h b c p y) habits-are t)))
+        let habits-are : q ≡ habitPlan joint = rw (fu, fw) refl in (
+          joint,
+          serves-joined b c joint ju jw
+              (subst (λ (x : Plan). ServeTogether g h b c x (habitPlan joint)) knees-are (subst (λ (y : Plan). ServeTogether g h b c p y) habits-are t)),
+        )
 
     -- "the joined model has a feasible accepted plan exactly when the two have run-ins of equal length and rounds of equal length, with the same
     -- actions, whose common charge and joint colours satisfy the definition"

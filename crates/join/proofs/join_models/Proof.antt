@@ -1,4 +1,15 @@
+-- `join::join_models` meets its contract: the verdict decides whether the arcs are written. Assumes nothing.
+use mathlib.Core.Path.{_≡_, sym, ap, _∙_}
 use borrow.Author.Needs.{needs}
+use Rattle.refusals.specs.declared.Verdict.{Verdict}
+use Rattle.refusals.specs.declared.Verdict.the-variants.{Yes}
+use Rattle.model.specs.Automaton.{Automaton}
+use Rattle.model.specs.Lists.{Lists, lists, held}
+use Rattle.filling.specs.Filling.{roomIn, Written}
+use Rattle.filling.proofs.Filled.{refused-answer, refused-kept}
+use Rattle.join.specs.Joined.{joined}
+use Rattle.join.specs.Joining.{sizeOf}
+use Rattle.join.proofs.Answers.{may-write, count-few, joined-numbers, joined-lists}
 use Rattle.join.proofs.join_models.Statement.{statement}
 use Rattle.join.proofs.join_models.Tie as tie
 
@@ -7,6 +18,24 @@ room-requires c κs = search needs
 
 check-size-requires : tie.Need-check-size-requires
 check-size-requires c κs = search needs
+
+-- from the check to the beginning, the lists as they were, the joined model and the verdict
+abbrev start : tie.After-check-size → tie.Start
+start d = d .before .before .before .before .before .before .before .before
+
+abbrev lists-of : tie.Start → Lists
+lists-of s =
+    lists (s .args .sources .now) (s .args .targets .now) (s .args .draws .now) (s .args .gains .now) (s .args .colours .now) (s .args .actions .now)
+
+abbrev whole : tie.Start → Automaton
+whole s = joined (held (s .args .knee)) (held (s .args .habit))
+
+abbrev verdict-on : tie.Start → Verdict
+verdict-on s = sizeOf (whole s) (roomIn (lists-of s))
+
+-- the check is the verdict
+told : (d : tie.After-check-size) → d .check-size .result ≡ verdict-on (start d)
+told d = d .check-size .ensures ∙ ap {B = Verdict} (sizeOf (whole (start d))) (d .before .room .ensures)
 
 enum-known-verdict : tie.Need-enum-known-verdict
 enum-known-verdict c = search needs
@@ -17,14 +46,33 @@ refused-requires c κs = search needs
 enum-told : tie.Need-enum-told
 enum-told c = search needs
 
+-- where it is yes
+yes : (e : tie.After-enum-told) → verdict-on (start (e .before .before)) ≡ Yes
+yes e = sym (told (e .before .before)) ∙ e .enum-told .given .1
+
 write-all-requires : tie.Need-write-all-requires
-write-all-requires c κs = search needs
+write-all-requires c κs =
+    let e = c .before .before .before .before .before .before in
+    let s = start (e .before .before) in
+    may-write (s .args .knee) (s .args .habit) (s .pre .0) (s .pre .1) (lists-of s) (yes e)
+
+-- the place from which the arcs are written
+abbrev told-of : tie.After-write-all → tie.After-enum-told
+told-of w = w .before .before .before .before .before .before .before
 
 numbers-requires : tie.Need-numbers-requires
-numbers-requires c κs = search needs
+numbers-requires c κs =
+    let w = c .before .before .before .before .before .before .before .before .before .before .before .before in
+    let e = told-of w in
+    let s = start (e .before .before) in
+    count-few (s .args .knee) (s .args .habit) (s .pre .0) (s .pre .1) (lists-of s) (yes e) _ _ (w .write-all .ensures)
 
 returns : tie.Need-returns
-returns c = search needs
+returns c =
+    let d = c .before .before .before .before in
+    let s = start d in
+    let refusal = sym (told d) ∙ c .before .before .verdict .given .1 in
+    (c .refused .ensures ∙ refused-answer (verdict-on s) (whole s) _ refusal, refused-kept (verdict-on s) (whole s) _ refusal (lists-of s))
 
 same-length : tie.Need-same-length
 same-length c = search needs
@@ -45,7 +93,13 @@ same-length-6 : tie.Need-same-length-6
 same-length-6 c = search needs
 
 returns-2 : tie.Need-returns-2
-returns-2 c = search needs
+returns-2 c =
+    let w = c .before .before .before .before .before .before .before .before .before .before .before .before .before in
+    let e = told-of w in
+    let s = start (e .before .before) in (
+      c .numbers .ensures ∙ joined-numbers (s .args .knee) (s .args .habit) (s .pre .0) (s .pre .1) (lists-of s) (yes e) _ _ (w .write-all .ensures),
+      joined-lists (s .args .knee) (s .args .habit) (s .pre .0) (s .pre .1) (lists-of s) (yes e) _ _ (w .write-all .ensures),
+    )
 
 pub join-models-spec : {M : Type 1} → statement M
 join-models-spec =
