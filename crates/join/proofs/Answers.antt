@@ -23,9 +23,9 @@ use Rattle.filling.specs.declared.Reading.{Reading}
 use Rattle.filling.specs.Filling.{roomIn, Written, readingIf, writtenIf, refusedBy}
 use Rattle.filling.proofs.Filled.{answer-if, refused-answer, refused-kept}
 use Rattle.join.specs.Joined.{joined}
-use Rattle.join.specs.Joining.{Given, modelGiven, fitnessGiven, joinedGiven, oversize, sizeOf, joinVerdict, joinOf, joinAnswer, listsJoined}
+use Rattle.join.specs.Joining.{Given, modelGiven, fitnessGiven, joinedGiven, oversize, sizeOf, SizeFits, joinVerdict, joinOf, joinAnswer, listsJoined}
 use Rattle.join.specs.Within.{joinedHeld, Narrow, AllNarrow, AllFit, numbersOf}
-use Rattle.join.proofs.Fits.{Small, size-no, joined-fit}
+use Rattle.join.proofs.Fits.{size-no, joined-fit}
 use Rattle.join.proofs.Verdicts.{both-fit}
 
 -- fit arcs are within the widths of the lists
@@ -47,9 +47,9 @@ all-narrow n k (x ∷ l) few-modes few-colours f = (
 )
 
 -- where 23 does not apply
-pub size-small : (g : Automaton) (room : ℕ) → sizeOf g room ≡ Yes → Small g room
+pub size-fits : (g : Automaton) (room : ℕ) → sizeOf g room ≡ Yes → SizeFits g room
 unfolding sizeOf
-size-small g room e = size-no g room .0 (refuse-yes (oversize g room) JoinSize Yes .0 e .0)
+size-fits g room e = size-no g room .0 (refuse-yes (oversize g room) JoinSize Yes .0 e .0)
 
 -- two fit models, and lists that are lent
 module _ (g h : Model) (knee : Holds g) (habit : Holds h) (lent : Lists) where
@@ -57,13 +57,13 @@ module _ (g h : Model) (knee : Holds g) (habit : Holds h) (lent : Lists) where
   verdict = sizeOf (joined (held g) (held h)) (roomIn lent)
 
   module _ (yes : verdict ≡ Yes) where
-    small : Small (joined (held g) (held h)) (roomIn lent)
-    small = size-small (joined (held g) (held h)) (roomIn lent) yes
+    fits : SizeFits (joined (held g) (held h)) (roomIn lent)
+    fits = size-fits (joined (held g) (held h)) (roomIn lent) yes
 
     -- the joined arcs may be written
     pub may-write : AllFit g h
     may-write =
-        let fit = joined-fit (held g) (held h) (roomIn lent) (knee .fit) (habit .fit) small in
+        let fit = joined-fit (held g) (held h) (roomIn lent) (knee .fit) (habit .fit) fits in
         record {
           knee = knee;
           habit = habit;
@@ -74,7 +74,7 @@ module _ (g h : Model) (knee : Holds g) (habit : Holds h) (lent : Lists) where
     -- and once they are
     module _ (count : ℕ) (left : Lists) (written : Written (joinedHeld g h) 0 lent count left) where
       pub count-few : count ≤ 255
-      count-few = omega (arith, written .place, small .few-arcs)
+      count-few = omega (arith, written .place, fits .few-arcs)
 
       pub joined-numbers : numbersOf g h count ≡ readingIf verdict (joined (held g) (held h))
       joined-numbers = rw (yes, written .place, zero-add (length (joinedHeld g h))) refl

@@ -14,16 +14,12 @@ use Rattle.model.specs.Automaton.{Automaton, noArc, arcAt}
 use Rattle.model.specs.Fitness.{ArcFits, Fit}
 use Rattle.model.proofs.Bits.{colours-below}
 use Rattle.join.specs.Joined.{joinArc, joined}
-use Rattle.join.specs.Joining.{sumAbove, someSumAbove, oversize}
+use Rattle.join.specs.Joining.{sumAbove, someSumAbove, oversize, SumsFit, SizeFits}
 use Rattle.join.proofs.Colours.{colours-within}
 use Rattle.join.proofs.Modes.{mode-below}
 use Rattle.join.proofs.Pairs.{made-of}
 
--- the sums of an arc are within an arc's ranges
-pub record SumsFit (a : Arc) : Type 0 where
-  pub draw : a .draw ≤ drawMost
-  pub gain : a .gain ≤ gainMost
-
+-- of one arc
 sum-no : (a : Arc) → (sumAbove a ≡ false) ↔ SumsFit a
 sum-no a =
     let both = or-no (ltb drawMost (a .draw)) (ltb gainMost (a .gain)) in (
@@ -44,15 +40,8 @@ sums-no l = (to l, from l)
     from [] f = refl
     from (x ∷ l) f = or-no (sumAbove x) (someSumAbove l) .1 (sum-no x .1 (f 0 (omega arith)), from l (λ a h. f (suc a) (omega arith)))
 
--- 23 does not apply to the joined model g and lists that take so many arcs
-pub record Small (g : Automaton) (room : ℕ) : Type 0 where
-  pub few-modes : g .modes ≤ modesMost
-  pub few-arcs : length (g .arcs) ≤ arcsMost
-  pub few-colours : g .colours ≤ coloursMost
-  pub sums : (a : ℕ) → a < length (g .arcs) → SumsFit (arcAt g a)
-  pub room-for : length (g .arcs) ≤ room
-
-pub size-no : (g : Automaton) (room : ℕ) → (oversize g room ≡ false) ↔ Small g room
+-- 23 does not apply exactly where the size fits
+pub size-no : (g : Automaton) (room : ℕ) → (oversize g room ≡ false) ↔ SizeFits g room
 unfolding oversize
 size-no g room =
     let m = length (g .arcs) in
@@ -103,7 +92,7 @@ arc-fits n₁ k₁ n₂ k₂ x y f h s =
       action-most = f .action-most;
     }
 
-pub joined-fit : (g h : Automaton) (room : ℕ) → Fit g → Fit h → Small (joined g h) room → Fit (joined g h)
+pub joined-fit : (g h : Automaton) (room : ℕ) → Fit g → Fit h → SizeFits (joined g h) room → Fit (joined g h)
 joined-fit g h room knee habit small =
     let start = mode-below (g .modes) (h .modes) (g .start) (h .start) (knee .starts) (habit .starts) in
     record {

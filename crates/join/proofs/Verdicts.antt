@@ -17,10 +17,10 @@ use Rattle.model.specs.Automaton.{Automaton}
 use Rattle.model.specs.Lists.{held}
 use Rattle.join.specs.declared.Tally.{Tally}
 use Rattle.join.specs.Joined.{joinMode, joinArc, joined}
-use Rattle.join.specs.Joining.{Given, fitnessGiven, joinedGiven, sumAbove, someSumAbove, oversize, sizeOf, joinVerdict}
+use Rattle.join.specs.Joining.{Given, fitnessGiven, joinedGiven, sumAbove, someSumAbove, oversize, sizeOf, SizeFits, joinVerdict}
 use Rattle.join.specs.Within.{joinedHeld, noTally, tallied}
 use Rattle.join.proofs.Counting.{tallied-count, tallied-above}
-use Rattle.join.proofs.Fits.{Small, size-no}
+use Rattle.join.proofs.Fits.{size-no}
 
 -- whether a sum of a pair is above 10,000, by draw and gain
 module _ (b : Bool) (x y : Arc) (none : b ≡ false) where
@@ -38,7 +38,7 @@ join-arc-is x y n k s t c e f g = rw (e, f, g) refl
 
 -- 23 by what it is about
 module _ (g : Automaton) (room : ℕ) where
-  pub size-refused : (Small g room → ⊥) → Refused JoinSize ≡ sizeOf g room
+  pub size-refused : (SizeFits g room → ⊥) → Refused JoinSize ≡ sizeOf g room
   unfolding sizeOf
   size-refused never = go (oversize g room) refl
     where
@@ -46,7 +46,7 @@ module _ (g : Automaton) (room : ℕ) where
       go true e = rw e refl
       go false e = absurd (never (size-no g room .0 e))
 
-  pub size-yes : Small g room → Yes ≡ sizeOf g room
+  pub size-yes : SizeFits g room → Yes ≡ sizeOf g room
   unfolding sizeOf
   size-yes s = rw (size-no g room .1 s) refl
 

@@ -1,6 +1,6 @@
 -- The join: its answer, and what is left in the lent lists. Document 02, Ask 5: "Either model unfit gives its own number from 1 to 5, the knee's
 -- first"; 23 is "looked at last".
-use Prim.Native.Nat.{ℕ}
+use Prim.Native.Nat.{ℕ, _≤_, _<_}
 use mathlib.Core.Bool.{Bool, false, _||_}
 use mathlib.Core.List.{List, [], _∷_}
 use lib.Dec.{ltb}
@@ -12,7 +12,7 @@ use Rattle.refusals.specs.declared.Verdict.{Verdict}
 use Rattle.refusals.specs.declared.Verdict.the-variants.{Yes}
 use Rattle.refusals.specs.Refusals.{refuse, andThen, answerOf}
 use Rattle.model.specs.declared.Arc.{Arc}
-use Rattle.model.specs.Automaton.{Automaton}
+use Rattle.model.specs.Automaton.{Automaton, arcAt}
 use Rattle.model.specs.Lists.{Lists, automatonOf}
 use Rattle.model.specs.Fitness.{fitness}
 use Rattle.filling.specs.declared.Reading.{Reading}
@@ -57,6 +57,19 @@ oversize g room =
 -- 23
 unfoldable pub sizeOf : Automaton → ℕ → Verdict
 sizeOf g room = refuse (oversize g room) JoinSize Yes
+
+-- What 23 leaves, as facts. (Theorem size-no.) The sums of an arc are within an arc's ranges,
+pub record SumsFit (a : Arc) : Type 0 where
+  pub draw : a .draw ≤ drawMost
+  pub gain : a .gain ≤ gainMost
+
+-- and the joined model g is within the ceilings and the lists
+pub record SizeFits (g : Automaton) (room : ℕ) : Type 0 where
+  pub few-modes : g .modes ≤ modesMost
+  pub few-arcs : length (g .arcs) ≤ arcsMost
+  pub few-colours : g .colours ≤ coloursMost
+  pub sums : (a : ℕ) → a < length (g .arcs) → SumsFit (arcAt g a)
+  pub room-for : length (g .arcs) ≤ room
 
 -- the joined model of what is given: x the knee, y the habit
 abbrev pub joinedGiven : Given → Given → Automaton

@@ -10,7 +10,7 @@ use Rattle.model.specs.Automaton.{Automaton}
 use Rattle.model.specs.Lists.{held}
 use Rattle.join.specs.Joined.{joined}
 use Rattle.join.specs.Joining.{someSumAbove}
-use Rattle.join.proofs.Fits.{Small, sums-no}
+use Rattle.join.proofs.Fits.{sums-no}
 use Rattle.join.proofs.Modes.{product-most}
 use Rattle.join.proofs.Verdicts.{size-refused, size-yes, count-told, above-told}
 use Rattle.join.proofs.check_size.Statement.{statement}
