@@ -30,10 +30,14 @@ use Rattle.search.proofs.Demand3.{answered-found, plan-searchable, search-judge
 use Rattle.search.proofs.Agreed.{search-agrees, agreed-answer}
 use Rattle.desk.specs.Packing.{numberIn, detailIn, firstIn, secondIn}
 use Rattle.reading.specs.ModelRead.{modelRead}
-use Rattle.reading.specs.Reading.{readVerdict, readingIf, writtenIf, listsRead}
-use Rattle.reading.specs.Said.{firstPlaces, laterPlaces}
+use Rattle.reading.specs.Reading.{readVerdict, listsRead}
 use Rattle.reading.proofs.ListsRead.{read-model, read-rest, read-fitness}
-use Rattle.desk.specs.Desk.{deskJudged, deskStarted, deskWalked, deskRead, DeskSearched, DeskStepped}
+use Rattle.filling.specs.Filling.{roomIn, readingIf, writtenIf, firstPlaces, laterPlaces}
+use Rattle.join.specs.Joining.{Given, modelGiven, joinedGiven, joinVerdict, listsJoined}
+use Rattle.join.specs.Together.{SomeTogether}
+use Rattle.join.proofs.ListsJoined.{Joinable, join-yes, join-model, join-fitness, join-rest, join-plans}
+use Rattle.desk.specs.declared.Read.{Read}
+use Rattle.desk.specs.Desk.{deskJudged, deskStarted, deskWalked, deskRead, deskJoined, DeskSearched, DeskStepped}
 use Rattle.desk.proofs.Sizes.{judge-fields, start-fields, step-fields, walk-fields, search-fields}
 use Rattle.desk.proofs.Unpacked.{Parts, unpacked}
 
@@ -148,6 +152,12 @@ desk-walk-parts n s k l b c p q w j t low =
     let x = walkAnswer (walkOf n s k l b c p q w j t) in
     unpacked (x .answer) (x .steps) (cond (x .met) 1 0) (walk-fields n s k l b c p q w j t low)
 
+-- a call that fills lists, whose number is not 0: four zeros, and the lists as they were
+filled-refused : (v : Verdict) (g : Automaton) (l : Lists) → (answerOf v .number ≡ 0 → ⊥) → let r = readingIf v g in
+    (r .modes ≡ 0) × (r .start ≡ 0) × (r .colours ≡ 0) × (r .count ≡ 0) × (writtenIf v (g .arcs) l ≡ l)
+filled-refused Yes g l refused = absurd (refused refl)
+filled-refused (Refused r) g l refused = (refl, refl, refl, refl, refl)
+
 module _ (hoa dimacs : List ℕ) (l : Lists) where
   -- reading: the number is 0 exactly where none of 19 to 21 and 1 to 5 applies
   pub desk-read-zero : (deskRead hoa dimacs l .number ≡ 0) ↔ (readVerdict hoa dimacs l ≡ Yes)
@@ -166,9 +176,46 @@ module _ (hoa dimacs : List ℕ) (l : Lists) where
   -- "A refused reading leaves the lent arc lists untouched and gives 0 for n, start mode, k and m."
   pub desk-read-refused : (deskRead hoa dimacs l .number ≡ 0 → ⊥) → let r = deskRead hoa dimacs l in
       (r .n ≡ 0) × (r .start ≡ 0) × (r .k ≡ 0) × (r .m ≡ 0) × (listsRead hoa dimacs l ≡ l)
-  desk-read-refused refused = go (readVerdict hoa dimacs l) refused
-    where
-      go : (v : Verdict) → (answerOf v .number ≡ 0 → ⊥) → let r = readingIf v (modelRead hoa dimacs) in
-          (r .modes ≡ 0) × (r .start ≡ 0) × (r .colours ≡ 0) × (r .count ≡ 0) × (writtenIf v (modelRead hoa dimacs .arcs) l ≡ l)
-      go Yes refused = absurd (refused refl)
-      go (Refused r) refused = (refl, refl, refl, refl, refl)
+  desk-read-refused refused = filled-refused (readVerdict hoa dimacs l) (modelRead hoa dimacs) l refused
+
+-- the join of the knee x and the habit y
+module _ (x y : Given) (l : Lists) where
+  abbrev r : Read
+  r = deskJoined x y l
+
+  -- n, the start mode, k and the first m places of the lists, as the call leaves them
+  abbrev model-left : Automaton
+  model-left = automatonOf (r .n) (r .start) (r .k) (firstPlaces (r .m) (listsJoined x y l))
+
+  -- the number is 0 exactly where both models are fit and 23 does not apply
+  pub desk-join-zero : (r .number ≡ 0) ↔ Joinable x y (roomIn l)
+  desk-join-zero =
+      let zero = yes-number (joinVerdict x y (roomIn l)) in
+      let yes = join-yes x y (roomIn l) in
+      (λ e. yes .0 (zero .0 e), λ j. zero .1 (yes .1 j))
+
+  -- then the model that is left is the joined model, fit for every call; it has a plan that serves exactly where the two have plans that serve together,
+  pub desk-join-model : r .number ≡ 0
+      → (model-left ≡ joinedGiven x y) × (fitness (r .n) (r .start) (r .k) (firstPlaces (r .m) (listsJoined x y l)) ≡ Yes)
+      × ((b c : ℕ) → SomePlan model-left b c ↔ SomeTogether (modelGiven x) (modelGiven y) b c)
+  desk-join-model e =
+      let yes = yes-number (joinVerdict x y (roomIn l)) .0 e in
+      (join-model x y l yes, join-fitness x y l yes, join-plans x y l yes)
+
+  -- and the later places are as they were
+  pub desk-join-rest : r .number ≡ 0 → laterPlaces (r .m) (listsJoined x y l) ≡ laterPlaces (r .m) l
+  desk-join-rest e = join-rest x y l (yes-number (joinVerdict x y (roomIn l)) .0 e)
+
+  -- "A refused join writes nothing and gives 0 for n, start mode, k and m."
+  pub desk-join-refused : (r .number ≡ 0 → ⊥) → (r .n ≡ 0) × (r .start ≡ 0) × (r .k ≡ 0) × (r .m ≡ 0) × (listsJoined x y l ≡ l)
+  desk-join-refused refused = filled-refused (joinVerdict x y (roomIn l)) (joinedGiven x y) l refused
+
+  -- A search of the model that is left answers 10, where none of 1 to 9 applies, exactly where no plans of the two serve together.
+  pub desk-join-ten : r .number ≡ 0 → {b c : ℕ} {work plan work′ plan′ : List ℕ} {word : ℕ}
+      → DeskSearched (r .n) (r .start) (r .k) (firstPlaces (r .m) (listsJoined x y l)) b c work plan work′ plan′ word
+      → searchable (r .n) (r .start) (r .k) (firstPlaces (r .m) (listsJoined x y l)) b c (length work) (length plan) ≡ Yes
+      → (numberIn word ≡ 10) ↔ (SomeTogether (modelGiven x) (modelGiven y) b c → ⊥)
+  desk-join-ten e {b} {c} searched through =
+      let ten = desk-ten searched through in
+      let plans = desk-join-model e .2 b c in
+      (λ n together. ten .0 n (plans .1 together), λ none. ten .1 (λ some. none (plans .0 some)))

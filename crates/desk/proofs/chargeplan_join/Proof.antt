@@ -1,4 +1,7 @@
+-- `chargeplan_join` meets its contract: what the join answers, field by field. Assumes nothing.
+use mathlib.Core.Path.{_∙_}
 use borrow.Author.Needs.{needs}
+use Rattle.desk.proofs.Told.{read-same}
 use Rattle.desk.proofs.chargeplan_join.Statement.{statement}
 use Rattle.desk.proofs.chargeplan_join.Tie as tie
 
@@ -27,7 +30,9 @@ same-length-6 : tie.Need-same-length-6
 same-length-6 c = search needs
 
 returns : tie.Need-returns
-returns c = search needs
+returns c =
+    let d = c .before .before .before .before .before .before .before .before .before .before .before .before .before in
+    (c .tell .ensures ∙ read-same (d .join .ensures .1 .0) (d .join .ensures .0), d .join .ensures .1 .1)
 
 pub chargeplan-join-spec : {M : Type 1} → statement M
 chargeplan-join-spec =

@@ -22,7 +22,7 @@ pack-requires : tie.Need-pack-requires
 pack-requires c κs =
     let told = c .before .before .before in
     let call = told .before in
-    let start = call .before .before .before .before .before .before .before in
+    let start = call .before .before .before .before .before .before .before .before in
     rw (bit-met (told .answer .result .met), told .answer .ensures, call .walk .ensures .1)
     (walk-fields _ _ _ _ _ _ _ _ _ _ _ (omega (arith, start .fits .allowance .fits)))
 
