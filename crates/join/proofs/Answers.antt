@@ -1,5 +1,5 @@
 -- From the verdict to what the join answers and leaves in the lists. Assumes nothing.
-use mathlib.Core.Path.{_≡_, refl, sym, ap, _∙_}
+use mathlib.Core.Path.{_≡_, refl, _∙_}
 use mathlib.Core.List.{List, [], _∷_}
 use Prim.Native.Nat.{ℕ, suc, _+_, _*_, _≤_, _<_}
 use native.Mathlib.Nat.{zero-add}
@@ -7,26 +7,23 @@ use native.Mathlib.Omega.{arith}
 use lib.ListN.{length, getD}
 use lib.Pow.{pow-mono}
 use Rattle.limits.specs.Ceilings.{modesMost, coloursMost}
-use Rattle.refusals.specs.declared.Refusal.{Refusal}
-use Rattle.refusals.specs.declared.Refusal.the-variants.{JoinSize}
 use Rattle.refusals.specs.declared.Verdict.{Verdict}
-use Rattle.refusals.specs.declared.Verdict.the-variants.{Yes, Refused}
-use Rattle.refusals.specs.Refusals.{answerOf}
-use Rattle.refusals.proofs.Verdicts.{refuse-yes}
+use Rattle.refusals.specs.declared.Verdict.the-variants.{Yes}
+use Rattle.refusals.specs.Refusals.{andThen, answerOf}
+use Rattle.refusals.proofs.Verdicts.{and-then-yes}
 use Rattle.model.specs.declared.Arc.{Arc}
-use Rattle.model.specs.declared.Model.{Model}
-use Rattle.model.specs.Automaton.{Automaton, noArc}
+use Rattle.model.specs.declared.Fitted.{Fitted}
+use Rattle.model.specs.Automaton.{noArc}
 use Rattle.model.specs.Lists.{Lists, held}
-use Rattle.model.specs.Fitness.{ArcFits, Holds}
+use Rattle.model.specs.Fitness.{ArcFits, fittedOf}
 use Rattle.model.proofs.Bits.{colours-below}
 use Rattle.filling.specs.declared.Reading.{Reading}
-use Rattle.filling.specs.Filling.{roomIn, Written, readingIf, writtenIf, refusedBy}
-use Rattle.filling.proofs.Filled.{answer-if, refused-answer, refused-kept}
-use Rattle.join.specs.Joined.{joined}
-use Rattle.join.specs.Joining.{Given, modelGiven, fitnessGiven, joinedGiven, oversize, sizeOf, SizeFits, joinVerdict, joinOf, joinAnswer, listsJoined}
-use Rattle.join.specs.Within.{joinedHeld, Narrow, AllNarrow, AllFit, numbersOf}
-use Rattle.join.proofs.Fits.{size-no, joined-fit}
-use Rattle.join.proofs.Verdicts.{both-fit}
+use Rattle.filling.specs.Filling.{roomIn, Written, readingIf, writtenIf}
+use Rattle.filling.proofs.Filled.{answer-if}
+use Rattle.join.specs.Joining.{Given, joinedGiven, sizeOf, SizeFits, joinVerdict, joinOf, joinAnswer, listsJoined}
+use Rattle.join.specs.Within.{Narrow, AllNarrow, AllFit, HoldsIf, joinedFitted, fittedVerdict, numbersOf}
+use Rattle.join.proofs.Fits.{size-yes, joined-fit}
+use Rattle.join.proofs.Verdicts.{verdict-told}
 
 -- fit arcs are within the widths of the lists
 narrow : (n k : ℕ) (a : Arc) → n ≤ modesMost → k ≤ coloursMost → ArcFits n k a → Narrow a
@@ -46,73 +43,60 @@ all-narrow n k (x ∷ l) few-modes few-colours f = (
   all-narrow n k l few-modes few-colours (λ a i. f (suc a) (omega arith)),
 )
 
--- where 23 does not apply
-pub size-fits : (g : Automaton) (room : ℕ) → sizeOf g room ≡ Yes → SizeFits g room
-unfolding sizeOf
-size-fits g room e = size-no g room .0 (refuse-yes (oversize g room) JoinSize Yes .0 e .0)
-
--- two fit models, and lists that are lent
-module _ (g h : Model) (knee : Holds g) (habit : Holds h) (lent : Lists) where
+-- two models with the verdicts on them, and lists that are lent
+module _ (knee habit : Fitted) (holds : HoldsIf knee × HoldsIf habit) (lent : Lists) where
   abbrev verdict : Verdict
-  verdict = sizeOf (joined (held g) (held h)) (roomIn lent)
+  verdict = fittedVerdict knee habit (roomIn lent)
 
+  abbrev arcs : List Arc
+  arcs = joinedFitted knee habit .arcs
+
+  -- no refusal: both are fit, and 23 does not apply
   module _ (yes : verdict ≡ Yes) where
-    fits : SizeFits (joined (held g) (held h)) (roomIn lent)
-    fits = size-fits (joined (held g) (held h)) (roomIn lent) yes
+    all-yes : (knee .verdict ≡ Yes) × (habit .verdict ≡ Yes) × SizeFits (joinedFitted knee habit) (roomIn lent)
+    all-yes =
+        let size = sizeOf (joinedFitted knee habit) (roomIn lent) in
+        let first = and-then-yes (knee .verdict) (andThen (habit .verdict) size) .0 yes in
+        let second = and-then-yes (habit .verdict) size .0 (first .1) in
+        (first .0, second .0, size-yes (joinedFitted knee habit) (roomIn lent) .0 (second .1))
 
     -- the joined arcs may be written
-    pub may-write : AllFit g h
+    pub may-write : AllFit (knee .model) (habit .model)
     may-write =
-        let fit = joined-fit (held g) (held h) (roomIn lent) (knee .fit) (habit .fit) fits in
+        let g = knee .model in
+        let h = habit .model in
+        let first = holds .0 (all-yes .0) in
+        let second = holds .1 (all-yes .1) in
+        let fit = joined-fit (held g) (held h) (roomIn lent) (first .fit) (second .fit) (all-yes .2) in
         record {
-          knee = knee;
-          habit = habit;
-          narrow = all-narrow (g .modes * h .modes) (g .colours + h .colours) (joinedHeld g h) (fit .few-modes) (fit .few-colours) (fit .arcs-fit);
+          knee = first;
+          habit = second;
+          narrow = all-narrow (g .modes * h .modes) (g .colours + h .colours) arcs (fit .few-modes) (fit .few-colours) (fit .arcs-fit);
           few = fit .few-arcs;
         }
 
     -- and once they are
-    module _ (count : ℕ) (left : Lists) (written : Written (joinedHeld g h) 0 lent count left) where
+    module _ (count : ℕ) (left : Lists) (written : Written arcs 0 lent count left) where
       pub count-few : count ≤ 255
-      count-few = omega (arith, written .place, fits .few-arcs)
+      count-few = omega (arith, written .place, all-yes .2 .few-arcs)
 
-      pub joined-numbers : numbersOf g h count ≡ readingIf verdict (joined (held g) (held h))
-      joined-numbers = rw (yes, written .place, zero-add (length (joinedHeld g h))) refl
+      pub joined-numbers : numbersOf (knee .model) (habit .model) count ≡ readingIf verdict (joinedFitted knee habit)
+      joined-numbers = rw (yes, written .place, zero-add (length arcs)) refl
 
-      pub joined-lists : left ≡ writtenIf verdict (joinedHeld g h) lent
+      pub joined-lists : left ≡ writtenIf verdict arcs lent
       joined-lists = rw yes (written .puts)
 
--- the join of what is given
-module _ (x y : Given) (lent : Lists) where
-  abbrev joinedVerdict : Verdict
-  joinedVerdict = joinVerdict x y (roomIn lent)
-
-  -- what it answers, number and detail, and the lists that it leaves
-  abbrev Promise : Reading → Lists → Type 0
-  Promise a left = (a ≡ joinOf x y lent) × ((answerOf (a .verdict) ≡ joinAnswer x y lent) × (left ≡ listsJoined x y lent))
-
-  pub answers-refused : (r : Refusal) → joinedVerdict ≡ Refused r → (a : Reading) → a ≡ refusedBy r → Promise a lent
-  answers-refused r refused a e =
-      let whole = e ∙ refused-answer joinedVerdict (joinedGiven x y) r refused in
-      (whole, (answer-if joinedVerdict (joinedGiven x y) a whole, refused-kept joinedVerdict (joinedGiven x y) r refused lent))
-
-  -- of two fit models, by the models that the code holds
-  pub answers-fit : fitnessGiven x ≡ Yes → fitnessGiven y ≡ Yes → (g h : Automaton) → g ≡ modelGiven x → h ≡ modelGiven y → (a : Reading) (left : Lists)
-      → a ≡ readingIf (sizeOf (joined g h) (roomIn lent)) (joined g h) → left ≡ writtenIf (sizeOf (joined g h) (roomIn lent)) (joined g h .arcs) lent
-      → Promise a left
-  answers-fit knee habit g h eg eh a left e f =
-      let verdict = both-fit x y (roomIn lent) knee habit in
-      let same : joined g h ≡ joinedGiven x y = rw (eg, eh) refl in
-      let whole : a ≡ joinOf x y lent =
-      e
-      ∙ ap {B = Reading} (λ (j : Automaton). readingIf (sizeOf j (roomIn lent)) j) same
-      ∙ ap {B = Reading} (λ (v : Verdict). readingIf v (joinedGiven x y)) verdict
-      in (
+-- the same of what is given: the answer, number and detail, and the lists
+module _ (x y : Given) (knee habit : Fitted) (knee-told : knee ≡ fittedOf (x .modes) (x .start) (x .colours) (x .arcs))
+    (habit-told : habit ≡ fittedOf (y .modes) (y .start) (y .colours) (y .arcs)) (lent : Lists) where
+  pub joined-answers : (a : Reading) (left : Lists) → a ≡ readingIf (fittedVerdict knee habit (roomIn lent)) (joinedFitted knee habit)
+      → left ≡ writtenIf (fittedVerdict knee habit (roomIn lent)) (joinedFitted knee habit .arcs) lent
+      → (a ≡ joinOf x y lent) × ((answerOf (a .verdict) ≡ joinAnswer x y lent) × (left ≡ listsJoined x y lent))
+  joined-answers a left e f =
+      let whole = e ∙ verdict-told x y knee habit knee-told habit-told readingIf (λ r g h. refl) (roomIn lent) in (
         whole,
         (
-          answer-if joinedVerdict (joinedGiven x y) a whole,
-          f
-              ∙ ap {B = Lists} (λ (j : Automaton). writtenIf (sizeOf j (roomIn lent)) (j .arcs) lent) same
-              ∙ ap {B = Lists} (λ (v : Verdict). writtenIf v (joinedGiven x y .arcs) lent) verdict,
+          answer-if (joinVerdict x y (roomIn lent)) (joinedGiven x y) a whole,
+          f ∙ verdict-told x y knee habit knee-told habit-told (λ v g. writtenIf v (g .arcs) lent) (λ r g h. refl) (roomIn lent),
         ),
       )

@@ -8,13 +8,16 @@ use native.Mathlib.Omega.{arith}
 use lib.Dec.{ltb}
 use lib.ListN.{length, getD}
 use Rattle.limits.specs.Ceilings.{modesMost, arcsMost, coloursMost, drawMost, gainMost}
+use Rattle.refusals.specs.declared.Refusal.the-variants.{JoinSize}
+use Rattle.refusals.specs.declared.Verdict.the-variants.{Yes}
 use Rattle.refusals.proofs.Tests.{or-no, lt-no}
+use Rattle.refusals.proofs.Verdicts.{refuse-yes}
 use Rattle.model.specs.declared.Arc.{Arc}
 use Rattle.model.specs.Automaton.{Automaton, noArc, arcAt}
 use Rattle.model.specs.Fitness.{ArcFits, Fit}
 use Rattle.model.proofs.Bits.{colours-below}
 use Rattle.join.specs.Joined.{joinArc, joined}
-use Rattle.join.specs.Joining.{sumAbove, someSumAbove, oversize, SumsFit, SizeFits}
+use Rattle.join.specs.Joining.{sumAbove, someSumAbove, oversize, sizeOf, SumsFit, SizeFits}
 use Rattle.join.proofs.Colours.{colours-within}
 use Rattle.join.proofs.Modes.{mode-below}
 use Rattle.join.proofs.Pairs.{made-of}
@@ -41,40 +44,36 @@ sums-no l = (to l, from l)
     from (x ∷ l) f = or-no (sumAbove x) (someSumAbove l) .1 (sum-no x .1 (f 0 (omega arith)), from l (λ a h. f (suc a) (omega arith)))
 
 -- 23 does not apply exactly where the size fits
-pub size-no : (g : Automaton) (room : ℕ) → (oversize g room ≡ false) ↔ SizeFits g room
-unfolding oversize
-size-no g room =
+pub size-yes : (g : Automaton) (room : ℕ) → (sizeOf g room ≡ Yes) ↔ SizeFits g room
+unfolding sizeOf oversize
+size-yes g room =
     let m = length (g .arcs) in
     let modes = ltb modesMost (g .modes) in
     let arcs = ltb arcsMost m in
     let colours = ltb coloursMost (g .colours) in
-    let sums = someSumAbove (g .arcs) in
-    let last = or-no (modes || arcs || colours || sums) (ltb room m) in
-    let fourth = or-no (modes || arcs || colours) sums in
+    let above = someSumAbove (g .arcs) in
+    let all = refuse-yes (modes || arcs || colours || above || ltb room m) JoinSize Yes in
+    let last = or-no (modes || arcs || colours || above) (ltb room m) in
+    let fourth = or-no (modes || arcs || colours) above in
     let third = or-no (modes || arcs) colours in
     let second = or-no modes arcs in (
       λ e.
-          let four = last .0 e .0 in
-          let three = fourth .0 four .0 in
-          let two = second .0 (third .0 three .0) in
+          let five = last .0 (all .0 e .0) in
+          let four = fourth .0 (five .0) in
+          let three = third .0 (four .0) in
+          let two = second .0 (three .0) in
           record {
             few-modes = lt-no modesMost (g .modes) .0 (two .0);
             few-arcs = lt-no arcsMost m .0 (two .1);
-            few-colours = lt-no coloursMost (g .colours) .0 (third .0 three .1);
-            sums = sums-no (g .arcs) .0 (fourth .0 four .1);
-            room-for = lt-no room m .0 (last .0 e .1);
+            few-colours = lt-no coloursMost (g .colours) .0 (three .1);
+            sums = sums-no (g .arcs) .0 (four .1);
+            room-for = lt-no room m .0 (five .1);
           },
       λ s.
-          last .1 (
-            fourth .1 (
-              third .1 (
-                second .1 (lt-no modesMost (g .modes) .1 (s .few-modes), lt-no arcsMost m .1 (s .few-arcs)),
-                lt-no coloursMost (g .colours) .1 (s .few-colours),
-              ),
-              sums-no (g .arcs) .1 (s .sums),
-            ),
-            lt-no room m .1 (s .room-for),
-          ),
+          let two = second .1 (lt-no modesMost (g .modes) .1 (s .few-modes), lt-no arcsMost m .1 (s .few-arcs)) in
+          let three = third .1 (two, lt-no coloursMost (g .colours) .1 (s .few-colours)) in
+          let four = fourth .1 (three, sums-no (g .arcs) .1 (s .sums)) in
+          all .1 (last .1 (four, lt-no room m .1 (s .room-for)), refl),
     )
 
 -- the joined arc of two fit arcs, where its sums are within their ranges

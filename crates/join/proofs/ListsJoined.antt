@@ -18,10 +18,8 @@ use Rattle.filling.specs.Filling.{roomIn, readingIf, writtenIf, firstPlaces, la
 use Rattle.filling.proofs.Filled.{filled-model, filled-rest, filled-fitness}
 use Rattle.join.specs.Joining.{Given, modelGiven, fitnessGiven, joinedGiven, sizeOf, SizeFits, joinVerdict, joinOf, listsJoined}
 use Rattle.join.specs.Together.{SomeTogether}
-use Rattle.join.proofs.Answers.{size-fits}
-use Rattle.join.proofs.Fits.{joined-fit}
+use Rattle.join.proofs.Fits.{size-yes, joined-fit}
 use Rattle.join.proofs.Together.{joins}
-use Rattle.join.proofs.Verdicts.{size-yes}
 
 -- what a join that is not refused is given: two fit models in equal lists, of a size that fits
 pub record Joinable (x y : Given) (room : ℕ) : Type 0 where
@@ -48,12 +46,12 @@ module _ (x y : Given) where
               knee = knee-yes .0 (one .0) .1;
               habit-lists = habit-yes .0 (two .0) .0;
               habit = habit-yes .0 (two .0) .1;
-              size = size-fits (joinedGiven x y) room (two .1);
+              size = size-yes (joinedGiven x y) room .0 (two .1);
             },
         λ j.
             first .1 (
               knee-yes .1 (j .knee-lists, j .knee),
-              second .1 (habit-yes .1 (j .habit-lists, j .habit), sym (size-yes (joinedGiven x y) room (j .size))),
+              second .1 (habit-yes .1 (j .habit-lists, j .habit), size-yes (joinedGiven x y) room .1 (j .size)),
             ),
       )
 

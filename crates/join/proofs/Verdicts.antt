@@ -5,22 +5,24 @@ use Prim.Native.Nat.{ℕ, _+_, _*_, _^_}
 use native.Mathlib.Nat.{zero-add}
 use lib.Dec.{ltb}
 use lib.ListN.{length}
-use Rattle.limits.specs.Ceilings.{drawMost, gainMost}
+use Rattle.limits.specs.Ceilings.{modesMost, arcsMost, coloursMost, drawMost, gainMost}
 use Rattle.refusals.specs.declared.Refusal.{Refusal}
 use Rattle.refusals.specs.declared.Refusal.the-variants.{JoinSize}
+use Rattle.refusals.specs.declared.Verdict.{Verdict}
 use Rattle.refusals.specs.declared.Verdict.the-variants.{Yes, Refused}
-use Rattle.refusals.specs.Refusals.{andThen}
-use Rattle.refusals.proofs.Verdicts.{and-then-on, and-then-stop}
+use Rattle.refusals.specs.Refusals.{refuse, andThen}
 use Rattle.model.specs.declared.Arc.{Arc}
 use Rattle.model.specs.declared.Model.{Model}
+use Rattle.model.specs.declared.Fitted.{Fitted}
 use Rattle.model.specs.Automaton.{Automaton}
 use Rattle.model.specs.Lists.{held}
+use Rattle.model.specs.Fitness.{fittedOf}
+use Rattle.model.proofs.Held.{told-verdict, told-holds, told-held}
 use Rattle.join.specs.declared.Tally.{Tally}
 use Rattle.join.specs.Joined.{joinMode, joinArc, joined}
-use Rattle.join.specs.Joining.{Given, fitnessGiven, joinedGiven, sumAbove, someSumAbove, oversize, sizeOf, SizeFits, joinVerdict}
-use Rattle.join.specs.Within.{joinedHeld, noTally, tallied}
+use Rattle.join.specs.Joining.{Given, modelGiven, fitnessGiven, joinedGiven, sumAbove, someSumAbove, oversize, sizeOf, joinVerdict}
+use Rattle.join.specs.Within.{joinedHeld, noTally, tallied, HoldsIf, joinedFitted, fittedVerdict}
 use Rattle.join.proofs.Counting.{tallied-count, tallied-above}
-use Rattle.join.proofs.Fits.{size-no}
 
 -- whether a sum of a pair is above 10,000, by draw and gain
 module _ (b : Bool) (x y : Arc) (none : b ≡ false) where
@@ -36,43 +38,62 @@ pub join-arc-is : (x y : Arc) (n k s t c : ℕ) → s ≡ joinMode n (x .source)
     → record { source = s; target = t; draw = x .draw + y .draw; gain = x .gain + y .gain; colours = c; action = x .action } ≡ joinArc n k x y
 join-arc-is x y n k s t c e f g = rw (e, f, g) refl
 
--- 23 by what it is about
-module _ (g : Automaton) (room : ℕ) where
-  pub size-refused : (SizeFits g room → ⊥) → Refused JoinSize ≡ sizeOf g room
-  unfolding sizeOf
-  size-refused never = go (oversize g room) refl
-    where
-      go : (t : Bool) → oversize g room ≡ t → Refused JoinSize ≡ sizeOf g room
-      go true e = rw e refl
-      go false e = absurd (never (size-no g room .0 e))
-
-  pub size-yes : SizeFits g room → Yes ≡ sizeOf g room
-  unfolding sizeOf
-  size-yes s = rw (size-no g room .1 s) refl
+-- the last test of 23
+pub oversize-room : (n m k : ℕ) (above : Bool) (room : ℕ) → ltb modesMost n ≡ false → ltb arcsMost m ≡ false → ltb coloursMost k ≡ false
+    → above ≡ false → ltb room m ≡ oversize n m k above room
+unfolding oversize
+oversize-room n m k above room modes arcs colours sums = rw (modes, arcs, colours, sums) refl
 
 -- what the first pass has found
 module _ (g h : Model) (t : Tally) (told : t ≡ tallied noTally (joinedHeld g h)) where
-  pub count-told : t .count ≡ length (joinedHeld g h)
+  count-told : t .count ≡ length (joinedHeld g h)
   count-told = ap {B = ℕ} (λ (q : Tally). q .count) told ∙ tallied-count noTally (joinedHeld g h) ∙ zero-add (length (joinedHeld g h))
 
-  pub above-told : t .above ≡ someSumAbove (joinedHeld g h)
+  above-told : t .above ≡ someSumAbove (joinedHeld g h)
   above-told = ap {B = Bool} (λ (q : Tally). q .above) told ∙ tallied-above noTally (joinedHeld g h)
 
--- the verdict of the join, where the knee is refused, where the habit is, and where both are fit
-module _ (x y : Given) (room : ℕ) where
-  pub knee-refused : (r : Refusal) → fitnessGiven x ≡ Refused r → Refused r ≡ joinVerdict x y room
+  -- 23 by the test that the code makes of it
+  pub size-told : (room : ℕ) (test : Bool) → test ≡ oversize (g .modes * h .modes) (t .count) (g .colours + h .colours) (t .above) room
+      → refuse test JoinSize Yes ≡ sizeOf (joined (held g) (held h)) room
+  unfolding sizeOf
+  size-told room test e = rw (e, count-told, above-told) refl
+
+-- the verdicts that the code has are those on what is given: x the knee, y the habit
+module _ (x y : Given) (knee habit : Fitted) (knee-told : knee ≡ fittedOf (x .modes) (x .start) (x .colours) (x .arcs))
+    (habit-told : habit ≡ fittedOf (y .modes) (y .start) (y .colours) (y .arcs)) where
+  pub both-hold : HoldsIf knee × HoldsIf habit
+  both-hold = (
+    told-holds (x .modes) (x .start) (x .colours) (x .arcs) knee knee-told,
+    told-holds (y .modes) (y .start) (y .colours) (y .arcs) habit habit-told,
+  )
+
+  -- and where both are fit, the models are
+  joined-told : knee .verdict ≡ Yes → habit .verdict ≡ Yes → joinedFitted knee habit ≡ joinedGiven x y
+  joined-told e f =
+      ap {B = Automaton} (λ (g : Automaton). joined g (held (habit .model))) (told-held (x .modes) (x .start) (x .colours) (x .arcs) knee knee-told e)
+      ∙ ap {B = Automaton} (joined (modelGiven x)) (told-held (y .modes) (y .start) (y .colours) (y .arcs) habit habit-told f)
+
+  knee-is : knee .verdict ≡ fitnessGiven x
+  knee-is = sym (told-verdict (x .modes) (x .start) (x .colours) (x .arcs) knee knee-told (knee .verdict) refl)
+
+  habit-is : habit .verdict ≡ fitnessGiven y
+  habit-is = sym (told-verdict (y .modes) (y .start) (y .colours) (y .arcs) habit habit-told (habit .verdict) refl)
+
+  -- the same holds of any value that the joined model has where both are fit, and the refusal where one is not
+  pub verdict-told : {A : Type 0} (f : Verdict → Automaton → A) → ((r : Refusal) (g h : Automaton) → f (Refused r) g ≡ f (Refused r) h) → (room : ℕ)
+      → f (fittedVerdict knee habit room) (joinedFitted knee habit) ≡ f (joinVerdict x y room) (joinedGiven x y)
   unfolding joinVerdict
-  knee-refused r e = and-then-stop (fitnessGiven x) (andThen (fitnessGiven y) (sizeOf (joinedGiven x y) room)) r e
+  verdict-told {A = A} f refused room = go (knee .verdict) (habit .verdict) refl refl
+    where
+      size : Automaton → Verdict
+      size g = sizeOf g room
 
-  module _ (knee : fitnessGiven x ≡ Yes) where
-    pub habit-refused : (r : Refusal) → fitnessGiven y ≡ Refused r → Refused r ≡ joinVerdict x y room
-    unfolding joinVerdict
-    habit-refused r e =
-        and-then-stop (fitnessGiven y) (sizeOf (joinedGiven x y) room) r e
-        ∙ and-then-on (fitnessGiven x) (andThen (fitnessGiven y) (sizeOf (joinedGiven x y) room)) knee
+      given-as : (u v : Verdict) → knee .verdict ≡ u → habit .verdict ≡ v
+          → f (andThen u (andThen v (size (joinedGiven x y)))) (joinedGiven x y) ≡ f (joinVerdict x y room) (joinedGiven x y)
+      given-as u v eu ev = rw (sym eu, sym ev, knee-is, habit-is) refl
 
-    pub both-fit : fitnessGiven y ≡ Yes → sizeOf (joinedGiven x y) room ≡ joinVerdict x y room
-    unfolding joinVerdict
-    both-fit habit =
-        and-then-on (fitnessGiven y) (sizeOf (joinedGiven x y) room) habit
-        ∙ and-then-on (fitnessGiven x) (andThen (fitnessGiven y) (sizeOf (joinedGiven x y) room)) knee
+      go : (u v : Verdict) → knee .verdict ≡ u → habit .verdict ≡ v
+          → f (fittedVerdict knee habit room) (joinedFitted knee habit) ≡ f (joinVerdict x y room) (joinedGiven x y)
+      go Yes Yes eu ev = rw (joined-told eu ev, eu, ev) (given-as Yes Yes eu ev)
+      go Yes (Refused r) eu ev = rw (eu, ev) (refused r (joinedFitted knee habit) (joinedGiven x y) ∙ given-as Yes (Refused r) eu ev)
+      go (Refused r) v eu ev = rw eu (refused r (joinedFitted knee habit) (joinedGiven x y) ∙ given-as (Refused r) v eu ev)

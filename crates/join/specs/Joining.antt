@@ -44,19 +44,14 @@ abbrev pub someSumAbove : List Arc → Bool
 someSumAbove [] = false
 someSumAbove (a ∷ l) = sumAbove a || someSumAbove l
 
--- "A join with more than 64 modes, 255 arcs, 4 colours, a sum above 10,000, or more arcs than the lent lists take is 23": of the joined model g and
--- lists that take so many arcs
-unfoldable pub oversize : Automaton → ℕ → Bool
-oversize g room =
-    ltb modesMost (g .modes)
-    || ltb arcsMost (length (g .arcs))
-    || ltb coloursMost (g .colours)
-    || someSumAbove (g .arcs)
-    || ltb room (length (g .arcs))
+-- "A join with more than 64 modes, 255 arcs, 4 colours, a sum above 10,000, or more arcs than the lent lists take is 23": n modes, m arcs, k colours,
+-- whether a sum is above, and lists that take so many arcs
+unfoldable pub oversize : ℕ → ℕ → ℕ → Bool → ℕ → Bool
+oversize n m k above room = ltb modesMost n || ltb arcsMost m || ltb coloursMost k || above || ltb room m
 
--- 23
+-- 23 of the joined model g
 unfoldable pub sizeOf : Automaton → ℕ → Verdict
-sizeOf g room = refuse (oversize g room) JoinSize Yes
+sizeOf g room = refuse (oversize (g .modes) (length (g .arcs)) (g .colours) (someSumAbove (g .arcs)) room) JoinSize Yes
 
 -- What 23 leaves, as facts. (Theorem size-no.) The sums of an arc are within an arc's ranges,
 pub record SumsFit (a : Arc) : Type 0 where

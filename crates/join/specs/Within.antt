@@ -5,17 +5,21 @@ use mathlib.Core.Bool.{Bool, true, false, _||_}
 use mathlib.Core.List.{List, [], _∷_}
 use lib.ListN.{length}
 use Rattle.limits.specs.Ceilings.{arcsMost, coloursMost}
+use Rattle.refusals.specs.declared.Verdict.{Verdict}
 use Rattle.refusals.specs.declared.Verdict.the-variants.{Yes}
+use Rattle.refusals.specs.Refusals.{andThen}
 use Rattle.model.specs.declared.Arc.{Arc}
 use Rattle.model.specs.declared.Model.{Model}
+use Rattle.model.specs.declared.Fitted.{Fitted}
+use Rattle.model.specs.Automaton.{Automaton}
 use Rattle.model.specs.Lists.{held}
 use Rattle.model.specs.Fitness.{Holds}
 use Rattle.filling.specs.declared.Reading.{Reading}
 use Rattle.join.specs.declared.Tally.{Tally}
 use Rattle.join.specs.Joined.{joinMode, joinRow, joined}
-use Rattle.join.specs.Joining.{sumAbove}
+use Rattle.join.specs.Joining.{sumAbove, sizeOf}
 
--- the joined model of two values of the code
+-- the joined arcs of two models as the code holds them
 abbrev pub joinedHeld : Model → Model → List Arc
 joinedHeld g h = joined (held g) (held h) .arcs
 
@@ -71,6 +75,17 @@ pub record AllFit (g h : Model) : Type 0 where
   pub habit : Holds h
   pub narrow : AllNarrow (joinedHeld g h)
   pub few : length (joinedHeld g h) ≤ arcsMost
+
+-- a value that holds a fit model where its verdict is yes
+abbrev pub HoldsIf : Fitted → Type 0
+HoldsIf f = f .verdict ≡ Yes → Holds (f .model)
+
+-- the joined model of two such values, and the verdict on their join
+abbrev pub joinedFitted : Fitted → Fitted → Automaton
+joinedFitted f e = joined (held (f .model)) (held (e .model))
+
+abbrev pub fittedVerdict : Fitted → Fitted → ℕ → Verdict
+fittedVerdict f e room = andThen (f .verdict) (andThen (e .verdict) (sizeOf (joinedFitted f e) room))
 
 -- what is answered of a join with m arcs that is not refused
 abbrev pub numbersOf : Model → Model → ℕ → Reading

@@ -9,14 +9,15 @@ ghost use Rattle.model.specs.Lists.{lists, held};
 ghost use Rattle.model.specs.Fitness.{Holds};
 ghost use Rattle.filling.specs.Filling.{roomIn, Written, readingIf, writtenIf};
 ghost use Rattle.join.specs.Joined.{joinMode, joinArc, joinRow, joined};
-ghost use Rattle.join.specs.Joining.{given, sumAbove, sizeOf, joinOf, joinAnswer, listsJoined};
-ghost use Rattle.join.specs.Within.{joinedHeld, noTally, talliedIf, tallied, numbersOf, ColoursFit, Narrow, Below, RowFits, AllFit};
+ghost use Rattle.join.specs.Joining.{given, sumAbove, oversize, sizeOf, joinOf, joinAnswer, listsJoined};
+ghost use Rattle.join.specs.Within.{joinedHeld, noTally, talliedIf, tallied, HoldsIf, joinedFitted, fittedVerdict, numbersOf, ColoursFit, Narrow, Below, RowFits, AllFit};
 use filling::Reading;
 use filling::refused;
 use filling::room;
 use filling::write;
 use limits::Limits;
 use model::Arc;
+use model::Fitted;
 use model::Model;
 use model::check_model;
 use refusals::Refusal;
@@ -89,31 +90,58 @@ fn count_all(knee: Model, habit: Model) -> Tally
     tally
 }
 
-// Refusal 23, for lists that take so many arcs. Modes and colours need no pass, so they are looked at first.
+// Whether 23 applies, by the joined model's numbers of modes and colours and the tally of its arcs, to lists that take so many.
+fn is_oversize(modes: u32, colours: u32, tally: Tally, room: usize) -> bool
+    ensures { λ r. ⌜ r ≡ oversize modes (tally .count) colours (tally .above) room ⌝ }
+{
+    let count = tally.count as usize;
+    if modes > Limits::MODES {
+        return true;
+    }
+    if count > Limits::ARCS {
+        return true;
+    }
+    if colours > Limits::COLOURS {
+        return true;
+    }
+    if tally.above {
+        return true;
+    }
+    count > room
+}
+
+// Refusal 23 of two fit models, for lists that take so many arcs.
 fn check_size(knee: Model, habit: Model, room: usize) -> Verdict
     requires { ⌜ Holds knee × Holds habit ⌝ }
     ensures { λ r. ⌜ r ≡ sizeOf (joined (held knee) (held habit)) room ⌝ }
 {
     let modes = (knee.modes as u32) * (habit.modes as u32);
-    if modes > Limits::MODES {
-        return Verdict::Refused(Refusal::JoinSize);
-    }
     let colours = (knee.colours as u32) + (habit.colours as u32);
-    if colours > Limits::COLOURS {
-        return Verdict::Refused(Refusal::JoinSize);
-    }
     let tally = count_all(knee, habit);
-    let count = tally.count as usize;
-    if count > Limits::ARCS {
-        return Verdict::Refused(Refusal::JoinSize);
-    }
-    if tally.above {
-        return Verdict::Refused(Refusal::JoinSize);
-    }
-    if count > room {
+    if is_oversize(modes, colours, tally, room) {
         return Verdict::Refused(Refusal::JoinSize);
     }
     Verdict::Yes
+}
+
+// The verdict on the knee, then that on the habit, then 23.
+fn check_join(knee: Fitted, habit: Fitted, room: usize) -> Verdict
+    requires { ⌜ HoldsIf knee × HoldsIf habit ⌝ }
+    ensures { λ r. ⌜ r ≡ fittedVerdict knee habit room ⌝ }
+{
+    let first = knee.verdict;
+    let second = habit.verdict;
+    match first {
+        Verdict::Refused(refusal) => Verdict::Refused(refusal),
+        Verdict::Yes => match second {
+            Verdict::Refused(refusal) => Verdict::Refused(refusal),
+            Verdict::Yes => {
+                let g = knee.model;
+                let h = habit.model;
+                check_size(g, h, room)
+            }
+        },
+    }
 }
 
 // The joined mode of i and j, where the habit has n modes.
@@ -237,10 +265,10 @@ fn numbers(knee: Model, habit: Model, count: usize) -> Reading
     }
 }
 
-// Two fit models joined into the lent lists: 23, and the lists as they were, or the numbers of the joined model.
-fn join_models(
-    knee: Model,
-    habit: Model,
+// Two models, with the verdicts on them, joined into the lent lists: the first refusal, and the lists as they were, or the numbers of the joined model.
+fn join_fitted(
+    knee: Fitted,
+    habit: Fitted,
     sources: &mut [u8],
     targets: &mut [u8],
     draws: &mut [u16],
@@ -248,9 +276,9 @@ fn join_models(
     colours: &mut [u8],
     actions: &mut [u8],
 ) -> Reading
-    requires { ⌜ Holds knee × Holds habit ⌝ }
-    ensures reading { λ r. ⌜ r ≡ readingIf (sizeOf (joined (held knee) (held habit)) (roomIn (lists (now (sources .entry)) (now (targets .entry)) (now (draws .entry)) (now (gains .entry)) (now (colours .entry)) (now (actions .entry))))) (joined (held knee) (held habit)) ⌝ }
-    ensures lists { λ _. ⌜ lists (now (sources .exit)) (now (targets .exit)) (now (draws .exit)) (now (gains .exit)) (now (colours .exit)) (now (actions .exit)) ≡ writtenIf (sizeOf (joined (held knee) (held habit)) (roomIn (lists (now (sources .entry)) (now (targets .entry)) (now (draws .entry)) (now (gains .entry)) (now (colours .entry)) (now (actions .entry))))) (joinedHeld knee habit) (lists (now (sources .entry)) (now (targets .entry)) (now (draws .entry)) (now (gains .entry)) (now (colours .entry)) (now (actions .entry))) ⌝ }
+    requires { ⌜ HoldsIf knee × HoldsIf habit ⌝ }
+    ensures reading { λ r. ⌜ r ≡ readingIf (fittedVerdict knee habit (roomIn (lists (now (sources .entry)) (now (targets .entry)) (now (draws .entry)) (now (gains .entry)) (now (colours .entry)) (now (actions .entry))))) (joinedFitted knee habit) ⌝ }
+    ensures lists { λ _. ⌜ lists (now (sources .exit)) (now (targets .exit)) (now (draws .exit)) (now (gains .exit)) (now (colours .exit)) (now (actions .exit)) ≡ writtenIf (fittedVerdict knee habit (roomIn (lists (now (sources .entry)) (now (targets .entry)) (now (draws .entry)) (now (gains .entry)) (now (colours .entry)) (now (actions .entry))))) (joinedFitted knee habit .arcs) (lists (now (sources .entry)) (now (targets .entry)) (now (draws .entry)) (now (gains .entry)) (now (colours .entry)) (now (actions .entry))) ⌝ }
 {
     let lent = room(
         sources.len(),
@@ -260,21 +288,14 @@ fn join_models(
         colours.len(),
         actions.len(),
     );
-    let verdict = check_size(knee, habit, lent);
+    let verdict = check_join(knee, habit, lent);
     match verdict {
         Verdict::Refused(refusal) => refused(refusal),
         Verdict::Yes => {
-            let count = write_all(
-                knee,
-                habit,
-                sources,
-                targets,
-                draws,
-                gains,
-                colours,
-                actions,
-            );
-            numbers(knee, habit, count)
+            let g = knee.model;
+            let h = habit.model;
+            let count = write_all(g, h, sources, targets, draws, gains, colours, actions);
+            numbers(g, h, count)
         }
     }
 }
@@ -322,30 +343,25 @@ pub fn join(
         colours1,
         actions1,
     );
-    let first = knee.verdict;
-    match first {
-        Verdict::Refused(refusal) => refused(refusal),
-        Verdict::Yes => {
-            let habit = check_model(
-                n2,
-                start2,
-                k2,
-                sources2,
-                targets2,
-                draws2,
-                gains2,
-                colours2,
-                actions2,
-            );
-            let second = habit.verdict;
-            match second {
-                Verdict::Refused(refusal) => refused(refusal),
-                Verdict::Yes => {
-                    let g = knee.model;
-                    let h = habit.model;
-                    join_models(g, h, sources, targets, draws, gains, colours, actions)
-                }
-            }
-        }
-    }
+    let habit = check_model(
+        n2,
+        start2,
+        k2,
+        sources2,
+        targets2,
+        draws2,
+        gains2,
+        colours2,
+        actions2,
+    );
+    join_fitted(
+        knee,
+        habit,
+        sources,
+        targets,
+        draws,
+        gains,
+        colours,
+        actions,
+    )
 }

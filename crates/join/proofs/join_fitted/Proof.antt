@@ -1,26 +1,25 @@
--- `join::join_models` meets its contract: the verdict decides whether the arcs are written. Assumes nothing.
+-- `join::join_fitted` meets its contract: the verdict decides whether the arcs are written. Assumes nothing.
 use mathlib.Core.Path.{_≡_, sym, ap, _∙_}
 use borrow.Author.Needs.{needs}
 use Rattle.refusals.specs.declared.Verdict.{Verdict}
 use Rattle.refusals.specs.declared.Verdict.the-variants.{Yes}
 use Rattle.model.specs.Automaton.{Automaton}
-use Rattle.model.specs.Lists.{Lists, lists, held}
-use Rattle.filling.specs.Filling.{roomIn, Written}
+use Rattle.model.specs.Lists.{Lists, lists}
+use Rattle.filling.specs.Filling.{roomIn}
 use Rattle.filling.proofs.Filled.{refused-answer, refused-kept}
-use Rattle.join.specs.Joined.{joined}
-use Rattle.join.specs.Joining.{sizeOf}
+use Rattle.join.specs.Within.{joinedFitted, fittedVerdict}
 use Rattle.join.proofs.Answers.{may-write, count-few, joined-numbers, joined-lists}
-use Rattle.join.proofs.join_models.Statement.{statement}
-use Rattle.join.proofs.join_models.Tie as tie
+use Rattle.join.proofs.join_fitted.Statement.{statement}
+use Rattle.join.proofs.join_fitted.Tie as tie
 
 room-requires : tie.Need-room-requires
 room-requires c κs = search needs
 
-check-size-requires : tie.Need-check-size-requires
-check-size-requires c κs = search needs
+check-join-requires : tie.Need-check-join-requires
+check-join-requires c κs = search needs
 
 -- from the check to the beginning, the lists as they were, the joined model and the verdict
-abbrev start : tie.After-check-size → tie.Start
+abbrev start : tie.After-check-join → tie.Start
 start d = d .before .before .before .before .before .before .before .before
 
 abbrev lists-of : tie.Start → Lists
@@ -28,14 +27,14 @@ lists-of s =
     lists (s .args .sources .now) (s .args .targets .now) (s .args .draws .now) (s .args .gains .now) (s .args .colours .now) (s .args .actions .now)
 
 abbrev whole : tie.Start → Automaton
-whole s = joined (held (s .args .knee)) (held (s .args .habit))
+whole s = joinedFitted (s .args .knee) (s .args .habit)
 
 abbrev verdict-on : tie.Start → Verdict
-verdict-on s = sizeOf (whole s) (roomIn (lists-of s))
+verdict-on s = fittedVerdict (s .args .knee) (s .args .habit) (roomIn (lists-of s))
 
 -- the check is the verdict
-told : (d : tie.After-check-size) → d .check-size .result ≡ verdict-on (start d)
-told d = d .check-size .ensures ∙ ap {B = Verdict} (sizeOf (whole (start d))) (d .before .room .ensures)
+told : (d : tie.After-check-join) → d .check-join .result ≡ verdict-on (start d)
+told d = d .check-join .ensures ∙ ap {B = Verdict} (fittedVerdict (start d .args .knee) (start d .args .habit)) (d .before .room .ensures)
 
 enum-known-verdict : tie.Need-enum-known-verdict
 enum-known-verdict c = search needs
@@ -52,20 +51,20 @@ yes e = sym (told (e .before .before)) ∙ e .enum-told .given .1
 
 write-all-requires : tie.Need-write-all-requires
 write-all-requires c κs =
-    let e = c .before .before .before .before .before .before in
+    let e = c .before .before .before .before .before .before .before .before in
     let s = start (e .before .before) in
-    may-write (s .args .knee) (s .args .habit) (s .pre .0) (s .pre .1) (lists-of s) (yes e)
+    may-write (s .args .knee) (s .args .habit) (s .pre) (lists-of s) (yes e)
 
--- the place from which the arcs are written
+-- from where the arcs are written to where the verdict is known
 abbrev told-of : tie.After-write-all → tie.After-enum-told
-told-of w = w .before .before .before .before .before .before .before
+told-of w = w .before .before .before .before .before .before .before .before .before
 
 numbers-requires : tie.Need-numbers-requires
 numbers-requires c κs =
     let w = c .before .before .before .before .before .before .before .before .before .before .before .before in
     let e = told-of w in
     let s = start (e .before .before) in
-    count-few (s .args .knee) (s .args .habit) (s .pre .0) (s .pre .1) (lists-of s) (yes e) _ _ (w .write-all .ensures)
+    count-few (s .args .knee) (s .args .habit) (s .pre) (lists-of s) (yes e) _ _ (w .write-all .ensures)
 
 returns : tie.Need-returns
 returns c =
@@ -97,16 +96,16 @@ returns-2 c =
     let w = c .before .before .before .before .before .before .before .before .before .before .before .before .before in
     let e = told-of w in
     let s = start (e .before .before) in (
-      c .numbers .ensures ∙ joined-numbers (s .args .knee) (s .args .habit) (s .pre .0) (s .pre .1) (lists-of s) (yes e) _ _ (w .write-all .ensures),
-      joined-lists (s .args .knee) (s .args .habit) (s .pre .0) (s .pre .1) (lists-of s) (yes e) _ _ (w .write-all .ensures),
+      c .numbers .ensures ∙ joined-numbers (s .args .knee) (s .args .habit) (s .pre) (lists-of s) (yes e) _ _ (w .write-all .ensures),
+      joined-lists (s .args .knee) (s .args .habit) (s .pre) (lists-of s) (yes e) _ _ (w .write-all .ensures),
     )
 
-pub join-models-spec : {M : Type 1} → statement M
-join-models-spec =
+pub join-fitted-spec : {M : Type 1} → statement M
+join-fitted-spec =
     tie.close
     (tie.spec
     room-requires
-    check-size-requires
+    check-join-requires
     enum-known-verdict
     refused-requires
     enum-told
