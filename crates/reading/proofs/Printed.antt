@@ -133,7 +133,8 @@ module _ (n k : ℕ) where
 
   -- and reads back
   pub arcs-back : (l : List Arc) → k ≤ coloursMost → ((a : ℕ) → a < length l → ArcFits n k (getD l a noArc))
-      → ((a : ℕ) → a < length l → (getD l a noArc .draw ≡ 0) ⊎ (getD l a noArc .gain ≡ 0)) → ((a : ℕ) → a < length l → getD l a noArc .action ≡ 0)
+      → ((a : ℕ) → a < length l → (getD l a noArc .draw ≡ 0) ⊎ (getD l a noArc .gain ≡ 0))
+      → ((a : ℕ) → a < length l → getD l a noArc .action ≡ 0)
       → arcsRead (map edgeFor l) (map textArcFor l) ≡ l
   unfolding arcsRead
   arcs-back [] few f one none = refl

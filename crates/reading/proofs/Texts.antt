@@ -98,6 +98,7 @@ weight-one : (w : ℤ) → (drawOf w ≡ 0) ⊎ (gainOf w ≡ 0)
 weight-one (pos x) = inl refl
 weight-one (negsuc x) = inr refl
 
+-- so has every arc that is read, and action 0
 module _ (hoa dimacs : List ℕ) where
   pub read-one-part : OnePartArcs (modelRead hoa dimacs)
   read-one-part =

@@ -14,7 +14,7 @@ use Rattle.fields.proofs.Places.{split-end}
 use Rattle.hoa.specs.Text.{Edge, edgesFrom}
 use Rattle.dimacs.specs.Text.{TextArc, textArcOn}
 use Rattle.filling.specs.Filling.{put, writtenFrom}
-use Rattle.filling.proofs.Writing.{Writing, writing-none, writing-put, writing-done}
+use Rattle.filling.proofs.Writing.{Writing, writing-none, writing-rest, writing-put, writing-done}
 use Rattle.reading.specs.declared.Next.{Next}
 use Rattle.reading.specs.ModelRead.{arcRead, arcsRead}
 use Rattle.reading.specs.Within.{edgeOn, IsNext, NarrowArc, Narrow, Fillable}
@@ -47,28 +47,38 @@ pub record WritingTexts (body lines : List ℕ) (old now : Lists) (h d s i : ℕ
   pub narrow : Narrow (arcsLeft body lines h d s)
   pub writing : Writing (arcsLeft body lines 0 0 0) (arcsLeft body lines h d s) 0 i old now
 
+-- a turn: edge r and the `a` line that ends at place e come next
+pub record Turn (body lines : List ℕ) (old now : Lists) (h d s i : ℕ) (r : Next) (e : ℕ) : Type 0 where
+  pub writing : WritingTexts body lines old now h d s i
+  pub here : d < length lines
+  pub next : IsNext body h s r
+  pub line : e ≡ d + pieceLength feed (drop d lines)
+
 -- an edge is left where a line is
 edge-left : (f : Bool) (x : Edge) (rest all : List Edge) (m : ℕ) → all ≡ cond f (x ∷ rest) [] → length all ≡ suc m → all ≡ x ∷ rest
 edge-left true x rest all m e h = e
 edge-left false x rest all m e h = absurd (let none : 0 ≡ suc m = rw e at h in omega arith)
 
-module _ (body lines : List ℕ) (old now : Lists) (h d s i : ℕ) (w : WritingTexts body lines old now h d s i)
-    (here : d < length lines) (r : Next) (n : IsNext body h s r) (e : ℕ) (q : e ≡ d + pieceLength feed (drop d lines)) where
+module _ {body lines : List ℕ} {old now : Lists} {h d s i : ℕ} {r : Next} {e : ℕ} (t : Turn body lines old now h d s i r e) where
+  -- the line is not empty, and within the text
+  pub turn-ends : (d < e) × (e ≤ length lines)
+  turn-ends = end-bounds feed lines d e (t .here) (t .line)
+
   -- the first of the lines that are left, of the edges, and of the arcs
   first-line : linesLeft lines d ≡ textArcOn (lineFound lines d e) ∷ linesLeft lines e
-  first-line = ap {B = List TextArc} (map textArcOn) (split-at feed lines d e here q)
+  first-line = ap {B = List TextArc} (map textArcOn) (split-at feed lines d e (t .here) (t .line))
 
   first-edge : edgesLeft body h s ≡ edgeFound body r ∷ edgesLeft body (r .to) (r .source)
   first-edge =
-      edge-left (r .found) (edgeFound body r) (edgesLeft body (r .to) (r .source)) (edgesLeft body h s) (length (linesLeft lines e)) (n .edges)
-      (w .equal ∙ ap {B = ℕ} length first-line)
+      edge-left (r .found) (edgeFound body r) (edgesLeft body (r .to) (r .source)) (edgesLeft body h s) (length (linesLeft lines e)) (t .next .edges)
+      (t .writing .equal ∙ ap {B = ℕ} length first-line)
 
   first-arc : arcsLeft body lines h d s ≡ arcFound body r lines d e ∷ arcsLeft body lines (r .to) e (r .source)
   unfolding arcsRead
   first-arc = rw (first-edge, first-line) refl
 
   narrow-here : Narrow (arcFound body r lines d e ∷ arcsLeft body lines (r .to) e (r .source))
-  narrow-here = subst Narrow first-arc (w .narrow)
+  narrow-here = subst Narrow first-arc (t .writing .narrow)
 
   -- the arc that was found is narrow,
   pub found-narrow : NarrowArc (arcFound body r lines d e)
@@ -78,14 +88,14 @@ module _ (body lines : List ℕ) (old now : Lists) (h d s i : ℕ) (w : WritingT
   pub write-next : (a : Arc) (next : Lists) → a ≡ arcFound body r lines d e → next ≡ put now i a
       → WritingTexts body lines old next (r .to) e (r .source) (suc i)
   write-next a next found same =
-      let (low, high) = end-bounds feed lines d e here q in
+      let w = t .writing in
       let edges : suc (length (edgesLeft body (r .to) (r .source))) ≡ length (linesLeft lines d) = ap {B = ℕ} length (sym first-edge) ∙ w .equal in
       let all = arcsLeft body lines 0 0 0 in
       let rest = arcsLeft body lines (r .to) e (r .source) in
-      let before : Writing all (arcFound body r lines d e ∷ rest) 0 i old now = subst (λ (l : List Arc). Writing all l 0 i old now) first-arc (w .writing) in
+      let before = writing-rest all 0 i old now (arcsLeft body lines h d s) (arcFound body r lines d e ∷ rest) first-arc (w .writing) in
       record {
-        in-body = n .within;
-        count = omega (arith, w .count);
+        in-body = t .next .within;
+        count = omega (arith, w .count, turn-ends .0);
         equal = omega (arith, edges, ap {B = ℕ} length first-line);
         narrow = narrow-here .1;
         writing = rw (same, found) (writing-put all 0 i old now (arcFound body r lines d e) rest before);
@@ -110,7 +120,7 @@ write-done body lines old now h d s i w over =
     let all = arcsLeft body lines 0 0 0 in
     let lines-over : linesLeft lines d ≡ [] = ap {B = List TextArc} (map textArcOn) (split-end feed lines d over) in
     let arcs-over = no-arcs (edgesLeft body h s) (linesLeft lines d) (w .equal ∙ ap {B = ℕ} length lines-over) in
-    writing-done all 0 i old now (subst (λ (l : List Arc). Writing all l 0 i old now) arcs-over (w .writing)) .puts
+    writing-done all 0 i old now (writing-rest all 0 i old now (arcsLeft body lines h d s) [] arcs-over (w .writing)) .puts
   where
     no-arcs : (es : List Edge) (ts : List TextArc) → length es ≡ 0 → arcsRead es ts ≡ []
     no-arcs [] ts e = refl

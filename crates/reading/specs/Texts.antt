@@ -1,6 +1,5 @@
 -- Which models have texts. Document 02, Ask 1: "every fit model whose arcs of one source stand together has a pair of texts that gives it"; Ask 4, of
--- models without both parts: "so only such models have texts"; Ask 5, of actions: "always 0 in files, so other models have no texts". (Theorem
--- texts-exactly.)
+-- models without both parts: "so only such models have texts"; Ask 5, of actions, likewise. (Theorem texts-exactly.)
 use Prim.Native.Nat.{ℕ, _≤_, _<_}
 use mathlib.Core.Path.{_≡_}
 use mathlib.Core.Logic.{_⊎_}
@@ -22,7 +21,7 @@ StandTogether g =
 abbrev pub OnePartArcs : Automaton → Type 0
 OnePartArcs g = (a : ℕ) → a < length (g .arcs) → (arcAt g a .draw ≡ 0) ⊎ (arcAt g a .gain ≡ 0)
 
--- every arc has action 0
+-- every arc has action 0: "always 0 in files, so other models have no texts"
 abbrev pub NoActions : Automaton → Type 0
 NoActions g = (a : ℕ) → a < length (g .arcs) → arcAt g a .action ≡ 0
 

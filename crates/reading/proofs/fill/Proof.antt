@@ -1,16 +1,12 @@
 -- `reading::fill` meets its contract: the loop keeps `WritingTexts`. Assumes nothing.
-use mathlib.Core.List.{List}
-use Prim.Native.Nat.{ℕ, _-_, _≤_, _<_}
+use Prim.Native.Nat.{_-_}
 use native.Mathlib.Numerals.{add-one}
 use native.Mathlib.Omega.{arith}
 use lib.ListN.{length}
 use borrow.Author.Needs.{needs}
-use Rattle.model.specs.declared.Arc.{Arc}
 use Rattle.model.specs.Lists.{Lists, lists}
-use Rattle.fields.specs.Bytes.{feed}
-use Rattle.fields.proofs.Pieces.{end-bounds}
 use Rattle.filling.proofs.Writing.{SameLengths, writing-lengths}
-use Rattle.reading.proofs.Writing.{WritingTexts, arcFound, write-none, found-narrow, write-next, write-done}
+use Rattle.reading.proofs.Writing.{WritingTexts, Turn, turn-ends, write-none, found-narrow, write-next, write-done}
 use Rattle.reading.proofs.fill.Statement.{statement}
 use Rattle.reading.proofs.fill.Tie as tie
 
@@ -27,23 +23,27 @@ abbrev start : tie.At-loop Inv-loop μ-loop → tie.Start Inv-loop μ-loop
 start t = t .before .before .before .before .before .before .before .before .before
 
 abbrev listsThen : tie.Start Inv-loop μ-loop → Lists
-listsThen s = lists (s .args .sources .now) (s .args .targets .now) (s .args .draws .now) (s .args .gains .now) (s .args .colours .now) (s .args .actions .now)
+listsThen s =
+    let a = s .args in
+    lists (a .sources .now) (a .targets .now) (a .draws .now) (a .gains .now) (a .colours .now) (a .actions .now)
 
 abbrev listsNow : tie.At-loop Inv-loop μ-loop → Lists
-listsNow t = lists (t .loop .sources) (t .loop .targets) (t .loop .draws) (t .loop .gains) (t .loop .colours) (t .loop .actions)
+listsNow t = let l = t .loop in lists (l .sources) (l .targets) (l .draws) (l .gains) (l .colours) (l .actions)
 
--- the loop's head, from the place where both lines are known, and the arc that was found
+-- the loop's head, from the place where both lines are known, and the turn
 abbrev head : tie.After-piece-end Inv-loop μ-loop → tie.At-loop Inv-loop μ-loop
 head p = p .before .before .before
 
-abbrev bodyOf : tie.After-piece-end Inv-loop μ-loop → List ℕ
-bodyOf p = start (head p) .args .body .now
-
-abbrev linesIn : tie.After-piece-end Inv-loop μ-loop → List ℕ
-linesIn p = start (head p) .args .lines .now
-
-abbrev arcAt : tie.After-piece-end Inv-loop μ-loop → Arc
-arcAt p = arcFound (bodyOf p) (p .before .next-edge .result) (linesIn p) (head p .loop .d) (p .piece-end .result)
+turn : (p : tie.After-piece-end Inv-loop μ-loop) → let s = start (head p) in let l = head p .loop in
+    Turn (s .args .body .now) (s .args .lines .now) (listsThen s) (listsNow (head p)) (l .h) (l .d) (l .source) (l .i) (p .before .next-edge .result)
+    (p .piece-end .result)
+turn p =
+    record {
+      writing = head p .loop .inv;
+      here = p .before .before .loop-test .taken;
+      next = p .before .next-edge .ensures;
+      line = p .piece-end .ensures;
+    }
 
 -- from the end of a turn to the call that wrote the arc, and to the place where both lines are known
 abbrev wrote : tie.After-slice-known12 Inv-loop μ-loop → tie.After-write Inv-loop μ-loop
@@ -58,9 +58,6 @@ found c = made (wrote c) .before .before .before
 -- the lists have their lengths
 lengths : (t : tie.At-loop Inv-loop μ-loop) → SameLengths (listsThen (start t)) (listsNow t)
 lengths t = writing-lengths _ 0 (t .loop .i) _ _ _ (t .loop .inv .writing)
-
-ends : (p : tie.After-piece-end Inv-loop μ-loop) → (head p .loop .d < p .piece-end .result) × (p .piece-end .result ≤ length (linesIn p))
-ends p = end-bounds feed (linesIn p) (head p .loop .d) (p .piece-end .result) (p .before .before .loop-test .taken) (p .piece-end .ensures)
 
 loop-holds : tie.Need-loop-holds Inv-loop μ-loop
 loop-holds c =
@@ -89,14 +86,10 @@ part-arc-of-start-2 : tie.Need-part-arc-of-start-2 Inv-loop μ-loop
 part-arc-of-start-2 c = search needs
 
 part-arc-of-end-2 : tie.Need-part-arc-of-end-2 Inv-loop μ-loop
-part-arc-of-end-2 c = let (low, high) = ends (c .before) in search needs
+part-arc-of-end-2 c = let (low, high) = turn-ends (turn (c .before)) in search needs
 
 arc-of-requires : tie.Need-arc-of-requires Inv-loop μ-loop
-arc-of-requires c κs =
-    let p = c .before .before in
-    let d = head p .loop in
-    found-narrow (bodyOf p) (linesIn p) (listsThen (start (head p))) (listsNow (head p)) (d .h) (d .d) (d .source) (d .i) (d .inv) (p .before .before .loop-test .taken)
-    (p .before .next-edge .result) (p .before .next-edge .ensures) (p .piece-end .result) (p .piece-end .ensures)
+arc-of-requires c κs = found-narrow (turn (c .before .before))
 
 write-requires : tie.Need-write-requires Inv-loop μ-loop
 write-requires c κs = search needs
@@ -104,19 +97,15 @@ write-requires c κs = search needs
 add-i : tie.Need-add-i Inv-loop μ-loop
 add-i c =
     let h = head (found c) .loop .inv .count in
-    let (low, high) = ends (found c) in
+    let (low, high) = turn-ends (turn (found c)) in
     search needs
 
 loop-less : tie.Need-loop-less Inv-loop μ-loop
-loop-less c = let (low, high) = ends (found c) in omega (arith, low, high)
+loop-less c = let (low, high) = turn-ends (turn (found c)) in omega (arith, low, high)
 
 loop-again : tie.Need-loop-again Inv-loop μ-loop
 loop-again c =
-    let p = found c in
-    let d = head p .loop in
-    rw (add-one (d .i)) (write-next (bodyOf p) (linesIn p) (listsThen (start (head p))) (listsNow (head p)) (d .h) (d .d) (d .source) (d .i) (d .inv) (p .before .before .loop-test .taken)
-    (p .before .next-edge .result) (p .before .next-edge .ensures) (p .piece-end .result) (p .piece-end .ensures) _ _
-    (made (wrote c) .arc-of .ensures) (wrote c .write .ensures))
+    rw (add-one (head (found c) .loop .i)) (write-next (turn (found c)) _ _ (made (wrote c) .arc-of .ensures) (wrote c .write .ensures))
 
 same-length : tie.Need-same-length Inv-loop μ-loop
 same-length c = lengths (c .before) .sources

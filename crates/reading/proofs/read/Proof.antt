@@ -32,7 +32,9 @@ abbrev start : tie.After-check-texts → tie.Start
 start d = d .before .before .before .before .before .before .before .before .before .before .before
 
 abbrev lists-of : tie.Start → Lists
-lists-of s = lists (s .args .sources .now) (s .args .targets .now) (s .args .draws .now) (s .args .gains .now) (s .args .colours .now) (s .args .actions .now)
+lists-of s =
+    let a = s .args in
+    lists (a .sources .now) (a .targets .now) (a .draws .now) (a .gains .now) (a .colours .now) (a .actions .now)
 
 abbrev verdict-on : tie.Start → Verdict
 verdict-on s = readVerdict (s .args .hoa .now) (s .args .dimacs .now) (lists-of s)
