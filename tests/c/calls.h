@@ -34,7 +34,7 @@ int same(const void *x, const void *y, size_t bytes);
 
 /* The lists of a model in blocks of their own. */
 struct lent {
-    uint8_t *sources, *targets, *colours;
+    uint8_t *sources, *targets, *colours, *actions;
     uint16_t *draws, *gains;
 };
 
@@ -121,7 +121,10 @@ struct outcome walk_refused(uint32_t number, uint32_t detail);
 /* Every call is refused by one of 1 to 6, whatever plan, colour, allowance, buffers and gauge are. A step reads c from its gauge. */
 void all_refused(const char *what, const struct model *m, uint32_t c, uint32_t b, uint32_t number, uint32_t detail);
 
-/* A model with start mode 0 and five lists of one length. */
+/* How many lists a model has. */
+enum { MODEL_LISTS = 6 };
+
+/* A model with start mode 0, lists of one length, up to 256, and action 0 of every arc. */
 struct model model(uint32_t n, uint32_t k, size_t arcs, const uint8_t *sources, const uint8_t *targets, const uint16_t *draws,
     const uint16_t *gains, const uint8_t *colours);
 
@@ -131,9 +134,9 @@ struct model without_arcs(uint32_t n, uint32_t k);
 /* The model without its last arc, if it has any; the lists are of one length. */
 struct model without_last(const struct model *m);
 
-/* The five lists of a model. */
+/* The lists of a model. */
 struct lists {
-    uint8_t sources[CHARGEPLAN_ARCS_MOST], targets[CHARGEPLAN_ARCS_MOST], colours[CHARGEPLAN_ARCS_MOST];
+    uint8_t sources[CHARGEPLAN_ARCS_MOST], targets[CHARGEPLAN_ARCS_MOST], colours[CHARGEPLAN_ARCS_MOST], actions[CHARGEPLAN_ARCS_MOST];
     uint16_t draws[CHARGEPLAN_ARCS_MOST], gains[CHARGEPLAN_ARCS_MOST];
 };
 
