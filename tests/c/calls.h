@@ -158,6 +158,9 @@ enum { SMALL_ARCS_MOST = 8, SMALL_MOVE_MOST = 6 };
 /* A small model in these lists, with 4 modes or fewer. */
 struct model random_fit_model(struct lists *lists);
 
+/* A small model in these lists; one in five has something unfit. Lists of another length have elements enough. */
+struct model random_model(struct lists *lists);
+
 /* Gives the first arcs of the lists random draws and gains up to these; of three, one draws, one gains, and one does both. */
 void random_moves(struct lists *lists, size_t arcs, uint32_t draw_most, uint32_t gain_most);
 
@@ -254,6 +257,20 @@ void test_read_damaged_lines(void);
 void test_read_cut_texts(void);
 void test_read_rows(void);
 void test_read_long_texts(unsigned long lines);
+void test_unfit_actions(void);
+void test_examples_with_actions(void);
+void test_join_pairs(void);
+void test_join_empty(void);
+void test_join_numbers(void);
+void test_join_unequal(void);
+void test_join_unfit(void);
+void test_join_lone(void);
+void test_join_order(void);
+void test_join_sizes(void);
+void test_join_rooms(void);
+void test_two_wearers(void);
+void test_join_functions(void);
+void test_no_actions(void);
 void test_random(unsigned long models);
 void test_random_large(unsigned long models);
 void test_random_draws(unsigned long models);
@@ -270,5 +287,10 @@ void test_random_large_readings(unsigned long models);
 void test_random_damages(unsigned long texts);
 void test_random_blocks(unsigned long texts);
 void test_random_texts(unsigned long texts);
+void test_random_actions(unsigned long models);
+void test_random_joins(unsigned long models);
+void test_random_large_joins(unsigned long models);
+void test_random_joined_plans(unsigned long models);
+void test_random_pairs(unsigned long models);
 
 #endif

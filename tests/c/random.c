@@ -69,8 +69,7 @@ struct model random_fit_model(struct lists *lists)
     return m;
 }
 
-/* A small model in these lists; one in five has something unfit. Lists of another length have elements enough. */
-static struct model random_model(struct lists *lists)
+struct model random_model(struct lists *lists)
 {
     struct model m = random_fit_model(lists);
     size_t other_length = SMALL_ARCS_MOST + 1 - m.sources_length;

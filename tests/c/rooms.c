@@ -21,6 +21,18 @@ size_t shortest(const struct rooms *r)
     return least;
 }
 
+struct rooms random_rooms(size_t arcs)
+{
+    struct rooms rooms = equal_rooms(arcs);
+    size_t i;
+
+    for (i = 0; i < MODEL_LISTS; i++)
+        rooms.of[i] += below(3);
+    if (arcs > 0 && below(40) == 0)
+        rooms.of[below(MODEL_LISTS)] = below((uint32_t)arcs);
+    return rooms;
+}
+
 static void *junk_block(size_t bytes, int junk)
 {
     void *block = copied(NULL, bytes);

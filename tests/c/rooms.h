@@ -11,6 +11,9 @@ struct rooms {
 
 struct rooms equal_rooms(size_t room);
 
+/* Random lengths, most of them long enough for so many arcs. */
+struct rooms random_rooms(size_t arcs);
+
 /* How many arcs they take: the length of the shortest. */
 size_t shortest(const struct rooms *r);
 
