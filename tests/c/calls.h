@@ -268,6 +268,7 @@ void test_join_lone(void);
 void test_join_order(void);
 void test_join_sizes(void);
 void test_join_rooms(void);
+void test_join_last(void);
 void test_two_wearers(void);
 void test_join_functions(void);
 void test_no_actions(void);

@@ -153,7 +153,8 @@ static void into_rooms(size_t knee_arcs, size_t habit_arcs, size_t list, size_t 
 
     rooms.of[list] = places;
     r = join_models("one list of another length", &knee, &habit, rooms, NULL);
-    check_filled("one list of another length", r, places >= pairs && others >= pairs ? fits : expected);
+    check_filled("one list of another length", r,
+        pairs <= CHARGEPLAN_ARCS_MOST && pairs <= places && pairs <= others ? fits : expected);
 }
 
 /* Each list in turn has as many places as there are pairs, one less, one more, or none; the others as many, or more. */
@@ -178,15 +179,60 @@ static void test_each_room(void)
         }
 }
 
-/* More pairs than a model may have arcs are refused, however long the lists are. */
+/* Lists longer than a model: they take 255 pairs and fewer, and more pairs are refused. */
 static void test_long_rooms(void)
 {
-    static const struct reading expected = {CHARGEPLAN_JOIN_SIZE, 0, 0, 0, 0, 0};
-    struct lists of_knee, of_habit;
-    struct model knee = with_action(&of_knee, 16, 8), habit = with_action(&of_habit, 16, 8);
+    static const size_t rooms[] = {256, 257, 300, 65536, 65537, 70000};
+    size_t i;
 
-    check_filled("23: 256 places", join_models("23: 256 places", &knee, &habit, equal_rooms(256), NULL), expected);
-    check_filled("23: 70,000 places", join_models("23: 70,000 places", &knee, &habit, equal_rooms(70000), NULL), expected);
+    for (i = 0; i < sizeof rooms / sizeof rooms[0]; i++) {
+        into_rooms(0, 3, 0, rooms[i], rooms[i]);
+        into_rooms(2, 3, 0, rooms[i], rooms[i]);
+        into_rooms(15, 17, 0, rooms[i], rooms[i]);
+        into_rooms(16, 16, 0, rooms[i], rooms[i]);
+    }
+}
+
+/* Two models that 23 refuses: 5 of the habit and 5 of the knee come before it. Their arcs are in these lists. */
+static void looked_at_last(const char *what, const struct model *knee, struct lists *of_knee, const struct model *habit,
+    struct lists *of_habit)
+{
+    uint32_t last = (uint32_t)knee->sources_length - 1, last_of_habit = (uint32_t)habit->sources_length - 1;
+
+    joined_as(what, knee, habit, CHARGEPLAN_JOIN_SIZE, 0);
+    of_habit->targets[last_of_habit] = UINT8_MAX;
+    joined_as(what, knee, habit, CHARGEPLAN_UNFIT_ARC, last_of_habit);
+    of_knee->targets[last] = UINT8_MAX;
+    joined_as(what, knee, habit, CHARGEPLAN_UNFIT_ARC, last);
+}
+
+/* By modes, colours, arcs, draws and gains; by the lists it is in the order of the refusals. */
+void test_join_last(void)
+{
+    struct lists of_knee, of_habit;
+    struct model knee = with_action(&of_knee, 2, 1), habit = with_action(&of_habit, 3, 1);
+
+    knee.n = 13;
+    habit.n = 5;
+    looked_at_last("65 modes", &knee, &of_knee, &habit, &of_habit);
+    knee = with_action(&of_knee, 2, 1);
+    habit = with_action(&of_habit, 3, 1);
+    knee.k = 4;
+    habit.k = 1;
+    looked_at_last("5 colours", &knee, &of_knee, &habit, &of_habit);
+    knee = with_action(&of_knee, 2, 1);
+    habit = with_action(&of_habit, 128, 1);
+    looked_at_last("256 arcs", &knee, &of_knee, &habit, &of_habit);
+    knee = with_action(&of_knee, 2, 1);
+    habit = with_action(&of_habit, 3, 1);
+    of_knee.draws[0] = 10000;
+    of_habit.draws[0] = 1;
+    looked_at_last("a draw of 10,001", &knee, &of_knee, &habit, &of_habit);
+    knee = with_action(&of_knee, 2, 1);
+    habit = with_action(&of_habit, 3, 1);
+    of_knee.gains[0] = 1;
+    of_habit.gains[0] = 10000;
+    looked_at_last("a gain of 10,001", &knee, &of_knee, &habit, &of_habit);
 }
 
 void test_join_sizes(void)

@@ -194,6 +194,7 @@ static const struct {
     {"join, the order of the refusals", test_join_order},
     {"join, 23: modes, colours, arcs, draws and gains", test_join_sizes},
     {"join, 23: lists of any lengths", test_join_rooms},
+    {"join, 23 is looked at last", test_join_last},
     {"join, one knee and two wearers", test_two_wearers},
     {"join over structs, and the two arcs of a joined arc", test_join_functions},
     {"header", test_header},
