@@ -19,12 +19,8 @@ static void joined_exactly(const char *what, const struct model *knee, const str
 static struct model knee_of_two(struct lists *to)
 {
     static const struct arc arcs[] = {{0, 1, 3, 0, 0, 2}, {1, 0, 0, 5, 1, 7}, {1, 1, 1, 1, 0, 2}, {0, 0, 9, 9, 1, 0}};
-    struct model m;
-    size_t a;
+    struct model m = of_arcs(to, 2, 1, arcs, 4);
 
-    for (a = 0; a < 4; a++)
-        put(to, a, arcs[a]);
-    m = listed(2, 1, to, 4);
     m.start = 1;
     return m;
 }
@@ -32,14 +28,24 @@ static struct model knee_of_two(struct lists *to)
 static struct model habit_of_three(struct lists *to)
 {
     static const struct arc arcs[] = {{2, 0, 10, 20, 2, 7}, {0, 1, 0, 40, 0, 2}, {1, 2, 50, 0, 1, 2}, {2, 2, 0, 0, 3, 15}};
-    struct model m;
-    size_t a;
+    struct model m = of_arcs(to, 3, 2, arcs, 4);
 
-    for (a = 0; a < 4; a++)
-        put(to, a, arcs[a]);
-    m = listed(3, 2, to, 4);
     m.start = 1;
     return m;
+}
+
+/* The example of docs/C-API.md. */
+static void test_example(void)
+{
+    static const struct arc of_knee[] = {{0, 1, 4, 0, 1, 1}, {1, 0, 1, 0, 0, 3}, {1, 1, 7, 0, 1, 1}},
+                            of_habit[] = {{2, 0, 0, 0, 1, 3}, {0, 2, 1, 0, 0, 1}, {1, 0, 0, 9, 0, 2}},
+                            arcs[] = {{0, 5, 5, 0, 1, 1}, {5, 0, 1, 0, 2, 3}, {3, 5, 8, 0, 1, 1}};
+    static const struct reading numbers = {0, 0, 6, 1, 2, 3};
+    struct lists lists, other_lists;
+    struct model knee = of_arcs(&lists, 2, 1, of_knee, 3), habit = of_arcs(&other_lists, 3, 1, of_habit, 3);
+
+    habit.start = 1;
+    joined_exactly("the example of docs/C-API.md", &knee, &habit, numbers, arcs);
 }
 
 /* Each arc of the knee in turn with the arcs of the habit that have its action; knee and habit exchanged give another order. */
@@ -139,6 +145,7 @@ static void test_any_habit(void)
 void test_join_pairs(void)
 {
     test_by_hand();
+    test_example();
     test_starts();
     test_every_action();
     test_every_colour();

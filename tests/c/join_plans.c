@@ -106,11 +106,8 @@ static struct model wearing_knee(struct lists *to)
 {
     static const struct arc arcs[] = {
         {0, 1, 4, 0, 1, WALK}, {1, 1, 6, 0, 1, WALK}, {0, 0, 0, 8, 0, CHARGE}, {1, 1, 0, 8, 0, CHARGE}, {1, 0, 1, 0, 0, RETUNE}};
-    size_t a;
 
-    for (a = 0; a < 5; a++)
-        put(to, a, arcs[a]);
-    return listed(2, 1, to, 5);
+    return of_arcs(to, 2, 1, arcs, 5);
 }
 
 /* A wearer who walks by day and charges by night, and in the evening retunes, which is a duty, or has never opened the app. */
