@@ -71,12 +71,13 @@
  * THE CALLS. First the calls over a struct chargeplan_model, which have the model in one argument. They are inline functions over the
  * library's own entries, which come after them and take each list with a length of its own.
  *
- * COST. Stack, with the arguments on it: up to 15,000 bytes for judging and for search, 8,600 for starting a gauge, 10,700 for a
- * step of one, 17,100 for the walk, 600 for reading. Every call but reading reads the six lists of a model once. Judging then looks at
- * 2 * p + 4 * q places of the plan at most, and the walk at p + q more. Search tries arcs at most
+ * COST. Stack, with the arguments on it: up to 12,900 bytes for judging, 8,900 for search, 200 for starting a gauge, 4,400 for a step of
+ * one, 14,900 for the walk, 600 for reading, 8,700 for the join. Every call but reading reads the six lists of a model once. Judging then
+ * looks at 2 * p + 4 * q places of the plan at most, and the walk at p + q more. Search tries arcs at most
  * m * (b + 1) * ((k + 1) * (n + 1) + 2) times, where there are m of them: 25 million times at the ceilings. The slowest search that was
  * found takes some 35 ms, one of a random model of 64 modes 0.1 ms. The time of reading grows in proportion to the texts, where the
- * model is fit. The join looks at each pair of arcs twice: 65,025 pairs at most. docs/C-API.md says how this was counted and measured.
+ * model is fit. The join looks at each pair of arcs twice, 65,025 pairs at most, in some 80 us. docs/C-API.md says how this was counted
+ * and measured.
  */
 #ifndef CHARGEPLAN_H
 #define CHARGEPLAN_H
