@@ -72,8 +72,8 @@
  * library's own entries, which come after them and take each list with a length of its own.
  *
  * COST. Stack, with the arguments on it: up to 12,900 bytes for judging, 8,900 for search, 200 for starting a gauge, 4,400 for a step of
- * one, 14,900 for the walk, 600 for reading, 8,700 for the join. Every call but reading reads the six lists of a model once. Judging then
- * looks at 2 * p + 4 * q places of the plan at most, and the walk at p + q more. Search tries arcs at most
+ * one, 14,900 for the walk, 600 for reading, 8,700 for the join. Every call but reading reads the six lists of a model once. Judging
+ * then looks at 2 * p + 4 * q places of the plan at most, and the walk at p + q more. Search tries arcs at most
  * m * (b + 1) * ((k + 1) * (n + 1) + 2) times, where there are m of them: 25 million times at the ceilings. The slowest search that was
  * found takes some 35 ms, one of a random model of 64 modes 0.1 ms. The time of reading grows in proportion to the texts, where the
  * model is fit. The join looks at each pair of arcs twice, 65,025 pairs at most, in some 80 us. docs/C-API.md says how this was counted
@@ -180,8 +180,8 @@ struct chargeplan_reading {
 };
 
 /*
- * A model: its numbers, and its arcs as six lists of one length. Where `actions` is a null pointer, as in a model filled by name for
- * version 2, the calls are told of no actions, so that 3 refuses a model with arcs.
+ * A model: its numbers, and its arcs as six lists of one length. Where `actions` is a null pointer, as in a model initialised by names
+ * for version 2, the calls are told of no actions, so that 3 refuses a model with arcs.
  */
 struct chargeplan_model {
     uint32_t n, start, k;

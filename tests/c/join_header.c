@@ -124,7 +124,7 @@ static void all_answer(const char *what, const struct chargeplan_model *m, uint3
     check(chargeplan_model_join(&joined, &lent, &none, m).number == number, what);
 }
 
-/* A model filled by name for version 2 has a null pointer for its actions: 3, where it has arcs. */
+/* A model initialised by names for version 2 has a null pointer for its actions: 3, where it has arcs. */
 static void test_null_actions(void)
 {
     struct chargeplan_model m = {1, 0, 0, zeros, zeros, nothing, nothing, zeros, NULL, 1}, whole = m, k = m;
