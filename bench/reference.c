@@ -399,7 +399,8 @@ static struct tally count_pairs(const struct model *knee, const struct model *ha
             if (knee->actions[i] != habit->actions[j])
                 continue;
             tally.count++;
-            if (knee->draws[i] + habit->draws[j] > (int)CHARGEPLAN_DRAW_MOST || knee->gains[i] + habit->gains[j] > (int)CHARGEPLAN_GAIN_MOST)
+            if (knee->draws[i] + habit->draws[j] > (int32_t)CHARGEPLAN_DRAW_MOST ||
+                knee->gains[i] + habit->gains[j] > (int32_t)CHARGEPLAN_GAIN_MOST)
                 tally.heavy = true;
         }
     return tally;

@@ -784,14 +784,14 @@ static void print_help(void)
            "MOVE is -DRAW, GAIN, +GAIN or -DRAW+GAIN. An arc without @ACTION has action 0. What follows a '#' is a comment. A line has\n"
            "at most %d characters.\n"
            "\n"
-           "HABIT is a text of the same lines without bound and credit: what the wearer of the knee does. The knee is joined with it, and\n"
+           "HABIT is a text of the same lines without bound and credit: what the wearer of the knee does. The knee is joined with it:\n"
            "each step of the plan is an arc of the knee and an arc of the habit with the same action.\n"
            "\n"
            "In place of a mission the model may stand in two texts: NAME.hoa, in HOA version 1, and beside it NAME.dimacs, in the DIMACS\n"
            "shortest-path form. include/chargeplan.h says which lines they have.\n"
            "\n"
-           "Exit status: 0 a plan, 1 no plan exists, 2 refused, 3 the mission or the habit cannot be read, the answer cannot be written, or\n"
-           "there is no memory.\n",
+           "Exit status: 0 a plan, 1 no plan exists, 2 refused, 3 the mission or the habit cannot be read, the answer cannot be written,\n"
+           "or there is no memory.\n",
         LINE);
 }
 

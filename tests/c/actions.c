@@ -59,11 +59,11 @@ static void same_plan(const struct model *m, const struct model *other, uint32_t
     uint8_t plan[12];
     size_t length = m->sources_length == 0 ? 0 : random_plan(m, plan, sizeof plan);
     uint32_t p = length == 0 ? 0 : below((uint32_t)length), q = (uint32_t)length - p, j = below(6);
+    uint64_t judgement = judge("actions, judged", m, c, b, p, q, plan, length);
+    uint64_t outcome = walk("actions, walked", m, c, b, p, q, plan, length, j, 9);
 
-    check(judge("actions, judged", m, c, b, p, q, plan, length) == judge("other actions, judged", other, c, b, p, q, plan, length),
-        "actions, judged");
-    check(walk("actions, walked", m, c, b, p, q, plan, length, j, 9) == walk("other actions, walked", other, c, b, p, q, plan, length, j, 9),
-        "actions, walked");
+    check(judge("other actions, judged", other, c, b, p, q, plan, length) == judgement, "actions, judged");
+    check(walk("other actions, walked", other, c, b, p, q, plan, length, j, 9) == outcome, "actions, walked");
 }
 
 /* A gauge of each makes the same random steps. */
@@ -75,8 +75,9 @@ static void same_gauge(const struct model *m, const struct model *other, uint32_
     check(start_gauge("actions, started", &g, m, c, b) == start_gauge("other actions, started", &h, other, c, b), "actions, started");
     for (steps = 0; steps < 6; steps++) {
         uint32_t arc = random_arc(m, g.mode);
+        uint64_t answer = step_gauge("actions, stepped", &g, m, b, arc);
 
-        check(step_gauge("actions, stepped", &g, m, b, arc) == step_gauge("other actions, stepped", &h, other, b, arc), "actions, stepped");
+        check(step_gauge("other actions, stepped", &h, other, b, arc) == answer, "actions, stepped");
         check_gauge("actions, stepped", g, h);
     }
 }

@@ -156,7 +156,7 @@ static void same_calls(const char *what, const struct model *m, uint32_t c, uint
 
 static void test_model_functions(void)
 {
-    static const uint8_t plan_i[] = {0, 0, 0, 0, 0, 1, 2}, plan_j[] = {1, 0};
+    static const uint8_t plan_i[] = {0, 0, 0, 0, 0, 1, 2}, plan_j[] = {1, 0}, actions[] = {15, 0, 7}, unfit_actions[] = {15, 16, 7};
     static const uint16_t five[] = {5}, eight[] = {8};
     struct model g = model_g(), j = model_j(), e = model_e(), dip = model(1, 0, 1, zeros, zeros, five, eight, zeros),
                  many = model(1, 0, CHARGEPLAN_ARCS_MOST + 1, zeros, zeros, nothing, nothing, zeros);
@@ -177,6 +177,11 @@ static void test_model_functions(void)
     g.start = 0;
     g.k = 0;
     same_calls("5: colour bit k", &g, 0, 5, 6, 1, plan_i);
+    g.k = 1;
+    g.actions = actions;
+    same_calls("any actions", &g, 0, 5, 6, 1, plan_i);
+    g.actions = unfit_actions;
+    same_calls("5: an action", &g, 0, 5, 6, 1, plan_i);
 }
 
 /* Whether two lists to be filled, which hold so many arcs, have the same content. */

@@ -2,7 +2,7 @@
 
 #include <stdlib.h>
 
-/* Knee and habit in blocks of their own are joined into lists with gaps; of these the places of arcs that the plain join gives may change. */
+/* Knee and habit in blocks of their own are joined into lists with gaps, of which the places of the plain join's arcs may change. */
 static struct reading join_once(const char *what, const struct model *knee, const struct model *habit, const struct rooms *r, size_t gap,
     int junk, const struct arc *arcs, size_t count)
 {

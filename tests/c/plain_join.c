@@ -147,16 +147,19 @@ struct move {
     uint32_t from, to, of_knee, of_habit;
 };
 
-/* The most moves: one from each triple by each pair of arcs. */
-enum { MOVES_MOST = PLAIN_TRIPLES_MOST * PLAIN_TRIPLES_ARCS_MOST * PLAIN_TRIPLES_ARCS_MOST };
+/* All of them: one from each triple by each pair of arcs at most. */
+struct moves {
+    struct move at[PLAIN_TRIPLES_MOST * PLAIN_TRIPLES_ARCS_MOST * PLAIN_TRIPLES_ARCS_MOST];
+    size_t count;
+};
 
 static uint32_t triple(const struct model *habit, uint32_t b, uint32_t i, uint32_t j, uint32_t charge)
 {
     return (i * habit->n + j) * (b + 1) + charge;
 }
 
-/* Adds the moves by a pair of arcs, one for each charge from which they are possible; how many moves there are now. */
-static size_t add_moves(struct move *moves, size_t count, const struct model *knee, size_t i, const struct model *habit, size_t j, uint32_t b)
+/* Adds the moves by a pair of arcs, one for each charge from which they are possible. */
+static void add_moves(struct moves *to, const struct model *knee, size_t i, const struct model *habit, size_t j, uint32_t b)
 {
     uint32_t charge;
 
@@ -170,32 +173,31 @@ static size_t add_moves(struct move *moves, size_t count, const struct model *kn
         m.to = triple(habit, b, knee->targets[i], habit->targets[j], (uint32_t)after);
         m.of_knee = knee->colours[i];
         m.of_habit = habit->colours[j];
-        moves[count++] = m;
+        to->at[to->count++] = m;
     }
-    return count;
 }
 
-static size_t all_moves(struct move *moves, const struct model *knee, const struct model *habit, uint32_t b)
+static void find_moves(struct moves *to, const struct model *knee, const struct model *habit, uint32_t b)
 {
-    size_t count = 0, i, j;
+    size_t i, j;
 
+    to->count = 0;
     for (i = 0; i < knee->sources_length; i++)
         for (j = 0; j < habit->sources_length; j++)
             if (knee->actions[i] == habit->actions[j])
-                count = add_moves(moves, count, knee, i, habit, j, b);
-    return count;
+                add_moves(to, knee, i, habit, j, b);
 }
 
 /* reach[x]: the triples that are reached from x by one move or more, a bit for each. */
-static void close_triples(const struct move *moves, size_t count, uint32_t triples, uint64_t *reach)
+static void close_triples(const struct moves *moves, uint32_t triples, uint64_t *reach)
 {
     uint32_t x, y;
     size_t i;
 
     for (x = 0; x < triples; x++)
         reach[x] = 0;
-    for (i = 0; i < count; i++)
-        reach[moves[i].from] |= (uint64_t)1 << moves[i].to;
+    for (i = 0; i < moves->count; i++)
+        reach[moves->at[i].from] |= (uint64_t)1 << moves->at[i].to;
     for (y = 0; y < triples; y++)
         for (x = 0; x < triples; x++)
             if (reach[x] >> y & 1)
@@ -203,18 +205,17 @@ static void close_triples(const struct move *moves, size_t count, uint32_t tripl
 }
 
 /* Whether the moves on walks from x back to x meet all colours of both. */
-static int meet_all(const struct move *moves, size_t count, const uint64_t *reach, uint32_t x, const struct model *knee,
-    const struct model *habit)
+static int meet_all(const struct moves *moves, const uint64_t *reach, uint32_t x, const struct model *knee, const struct model *habit)
 {
     uint32_t of_knee = 0, of_habit = 0;
     size_t i;
 
-    for (i = 0; i < count; i++) {
-        uint32_t from = moves[i].from, to = moves[i].to;
+    for (i = 0; i < moves->count; i++) {
+        const struct move *m = &moves->at[i];
 
-        if ((from == x || (reach[x] >> from & 1)) && (to == x || (reach[to] >> x & 1))) {
-            of_knee |= moves[i].of_knee;
-            of_habit |= moves[i].of_habit;
+        if ((m->from == x || (reach[x] >> m->from & 1)) && (m->to == x || (reach[m->to] >> x & 1))) {
+            of_knee |= m->of_knee;
+            of_habit |= m->of_habit;
         }
     }
     return of_knee == (1u << knee->k) - 1 && of_habit == (1u << habit->k) - 1;
@@ -223,14 +224,14 @@ static int meet_all(const struct move *moves, size_t count, const uint64_t *reac
 /* As of one model: there are plans exactly where from some triple within reach a walk of one move or more leads back and meets all. */
 int plain_has_plans(const struct model *knee, const struct model *habit, uint32_t c, uint32_t b)
 {
-    static struct move moves[MOVES_MOST];
+    static struct moves moves;
     uint64_t reach[PLAIN_TRIPLES_MOST];
     uint32_t triples = knee->n * habit->n * (b + 1), first = triple(habit, b, knee->start, habit->start, c), x;
-    size_t count = all_moves(moves, knee, habit, b);
 
-    close_triples(moves, count, triples, reach);
+    find_moves(&moves, knee, habit, b);
+    close_triples(&moves, triples, reach);
     for (x = 0; x < triples; x++)
-        if ((x == first || (reach[first] >> x & 1)) && (reach[x] >> x & 1) && meet_all(moves, count, reach, x, knee, habit))
+        if ((x == first || (reach[first] >> x & 1)) && (reach[x] >> x & 1) && meet_all(&moves, reach, x, knee, habit))
             return 1;
     return 0;
 }

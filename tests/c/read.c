@@ -26,7 +26,8 @@ void test_read_pairs(void)
     static const struct reading knee = {0, 0, 4, 3, 2, 4}, least = {0, 0, 1, 0, 0, 0}, g = {0, 0, 2, 0, 1, 3}, all = {0, 0, 64, 63, 4, 1},
                                 rest = {0, 0, 3, 0, 2, 4};
     static const struct arc knee_arcs[] = {{3, 1, 3, 0, 0, 0}, {3, 2, 0, 9, 1, 0}, {1, 3, 0, 0, 3, 0}, {1, 3, 10000, 0, 0, 0}},
-                            g_arcs[] = {{0, 0, 0, 1, 0, 0}, {0, 1, 5, 0, 0, 0}, {1, 1, 0, 0, 1, 0}}, all_arcs[] = {{63, 63, 0, 10000, 15, 0}},
+                            g_arcs[] = {{0, 0, 0, 1, 0, 0}, {0, 1, 5, 0, 0, 0}, {1, 1, 0, 0, 1, 0}},
+                            all_arcs[] = {{63, 63, 0, 10000, 15, 0}},
                             rest_arcs[] = {{0, 1, 9, 0, 1, 0}, {0, 2, 1, 0, 0, 0}, {2, 2, 0, 5, 0, 0}, {2, 0, 0, 0, 3, 0}};
 
     read_exactly("every form", knee_hoa, knee_dimacs, knee, knee_arcs);
