@@ -143,13 +143,13 @@ int plain_together(const struct model *knee, const struct model *habit, uint32_t
 }
 
 /* A step of both from one triple to another, and the colours that it meets. */
-struct move {
+struct step {
     uint32_t from, to, of_knee, of_habit;
 };
 
 /* All of them: one from each triple by each pair of arcs at most. */
-struct moves {
-    struct move at[PLAIN_TRIPLES_MOST * PLAIN_TRIPLES_ARCS_MOST * PLAIN_TRIPLES_ARCS_MOST];
+struct steps {
+    struct step at[PLAIN_TRIPLES_MOST * PLAIN_TRIPLES_ARCS_MOST * PLAIN_TRIPLES_ARCS_MOST];
     size_t count;
 };
 
@@ -158,26 +158,26 @@ static uint32_t triple(const struct model *habit, uint32_t b, uint32_t i, uint32
     return (i * habit->n + j) * (b + 1) + charge;
 }
 
-/* Adds the moves by a pair of arcs, one for each charge from which they are possible. */
-static void add_moves(struct moves *to, const struct model *knee, size_t i, const struct model *habit, size_t j, uint32_t b)
+/* Adds the steps by a pair of arcs, one for each charge from which they are possible. */
+static void add_steps(struct steps *to, const struct model *knee, size_t i, const struct model *habit, size_t j, uint32_t b)
 {
     uint32_t charge;
 
     for (charge = 0; charge <= b; charge++) {
         int32_t after = charge_after(knee, i, habit, j, (int32_t)charge, b);
-        struct move m;
+        struct step s;
 
         if (after < 0)
             continue;
-        m.from = triple(habit, b, knee->sources[i], habit->sources[j], charge);
-        m.to = triple(habit, b, knee->targets[i], habit->targets[j], (uint32_t)after);
-        m.of_knee = knee->colours[i];
-        m.of_habit = habit->colours[j];
-        to->at[to->count++] = m;
+        s.from = triple(habit, b, knee->sources[i], habit->sources[j], charge);
+        s.to = triple(habit, b, knee->targets[i], habit->targets[j], (uint32_t)after);
+        s.of_knee = knee->colours[i];
+        s.of_habit = habit->colours[j];
+        to->at[to->count++] = s;
     }
 }
 
-static void find_moves(struct moves *to, const struct model *knee, const struct model *habit, uint32_t b)
+static void find_steps(struct steps *to, const struct model *knee, const struct model *habit, uint32_t b)
 {
     size_t i, j;
 
@@ -185,53 +185,53 @@ static void find_moves(struct moves *to, const struct model *knee, const struct 
     for (i = 0; i < knee->sources_length; i++)
         for (j = 0; j < habit->sources_length; j++)
             if (knee->actions[i] == habit->actions[j])
-                add_moves(to, knee, i, habit, j, b);
+                add_steps(to, knee, i, habit, j, b);
 }
 
-/* reach[x]: the triples that are reached from x by one move or more, a bit for each. */
-static void close_triples(const struct moves *moves, uint32_t triples, uint64_t *reach)
+/* reach[x]: the triples that are reached from x by one step or more, a bit for each. */
+static void close_triples(const struct steps *steps, uint32_t triples, uint64_t *reach)
 {
     uint32_t x, y;
     size_t i;
 
     for (x = 0; x < triples; x++)
         reach[x] = 0;
-    for (i = 0; i < moves->count; i++)
-        reach[moves->at[i].from] |= (uint64_t)1 << moves->at[i].to;
+    for (i = 0; i < steps->count; i++)
+        reach[steps->at[i].from] |= (uint64_t)1 << steps->at[i].to;
     for (y = 0; y < triples; y++)
         for (x = 0; x < triples; x++)
             if (reach[x] >> y & 1)
                 reach[x] |= reach[y];
 }
 
-/* Whether the moves on walks from x back to x meet all colours of both. */
-static int meet_all(const struct moves *moves, const uint64_t *reach, uint32_t x, const struct model *knee, const struct model *habit)
+/* Whether the steps on walks from x back to x meet all colours of both. */
+static int meet_all(const struct steps *steps, const uint64_t *reach, uint32_t x, const struct model *knee, const struct model *habit)
 {
     uint32_t of_knee = 0, of_habit = 0;
     size_t i;
 
-    for (i = 0; i < moves->count; i++) {
-        const struct move *m = &moves->at[i];
+    for (i = 0; i < steps->count; i++) {
+        const struct step *s = &steps->at[i];
 
-        if ((m->from == x || (reach[x] >> m->from & 1)) && (m->to == x || (reach[m->to] >> x & 1))) {
-            of_knee |= m->of_knee;
-            of_habit |= m->of_habit;
+        if ((s->from == x || (reach[x] >> s->from & 1)) && (s->to == x || (reach[s->to] >> x & 1))) {
+            of_knee |= s->of_knee;
+            of_habit |= s->of_habit;
         }
     }
     return of_knee == (1u << knee->k) - 1 && of_habit == (1u << habit->k) - 1;
 }
 
-/* As of one model: there are plans exactly where from some triple within reach a walk of one move or more leads back and meets all. */
+/* As of one model: there are plans exactly where from some triple within reach a walk of one step or more leads back and meets all. */
 int plain_has_plans(const struct model *knee, const struct model *habit, uint32_t c, uint32_t b)
 {
-    static struct moves moves;
+    static struct steps steps;
     uint64_t reach[PLAIN_TRIPLES_MOST];
     uint32_t triples = knee->n * habit->n * (b + 1), first = triple(habit, b, knee->start, habit->start, c), x;
 
-    find_moves(&moves, knee, habit, b);
-    close_triples(&moves, triples, reach);
+    find_steps(&steps, knee, habit, b);
+    close_triples(&steps, triples, reach);
     for (x = 0; x < triples; x++)
-        if ((x == first || (reach[first] >> x & 1)) && (reach[x] >> x & 1) && meet_all(&moves, reach, x, knee, habit))
+        if ((x == first || (reach[first] >> x & 1)) && (reach[x] >> x & 1) && meet_all(&steps, reach, x, knee, habit))
             return 1;
     return 0;
 }
