@@ -29,14 +29,16 @@ struct version {
     search_entry *search;
     judge_entry *judge;
     read_entry *read;
+    join_entry *join;
 };
 
 /*
  * A set of inputs of one kind that have the same number as answer. Plans to be judged have `length` arcs. Texts to be read have `comments`
- * comments and the colours of each arc `times` times. Where both length and times are 0, it is for search.
+ * comments and the colours of each arc `times` times.
  */
 struct family {
     const char *name;
+    uint64_t (*call)(const struct version *version, const struct input *in);
     void (*make)(struct input *in);
     size_t count;
     uint32_t number;
@@ -46,48 +48,17 @@ struct family {
 };
 
 static const struct version versions[VERSIONS] = {
-    {"library", chargeplan_search, chargeplan_judge, chargeplan_read},
-    {"C -O2", reference_o2_search, reference_o2_judge, reference_o2_read},
-    {"C -O3", reference_o3_search, reference_o3_judge, reference_o3_read},
+    {"library", chargeplan_search, chargeplan_judge, chargeplan_read, chargeplan_join},
+    {"C -O2", reference_o2_search, reference_o2_judge, reference_o2_read, reference_o2_join},
+    {"C -O3", reference_o3_search, reference_o3_judge, reference_o3_read, reference_o3_join},
 };
 
-static const struct family families[] = {
-    {"search, random, 64 modes, 255 arcs, b 127, with a plan", make_64_modes, 16, 0, 0, 0, 0},
-    {"search, random, 64 modes, 255 arcs, b 127, without", make_64_modes, 16, 10, 0, 0, 0},
-    {"search, chain of 64 modes with +1 loops, b 127, without", make_chain, 1, 10, 0, 0, 0},
-    {"search, document 001's figure 6, b 60, with a plan", make_figure_6, 1, 0, 0, 0, 0},
-    {"search, ring of 64 modes, 255 arcs, b 127, without", make_ring, 1, 10, 0, 0, 0},
-    {"search, random, 8 modes, 64 arcs, b 1,023, with a plan", make_8_modes, 16, 0, 0, 0, 0},
-    {"search, random, 8 modes, 64 arcs, b 1,023, without", make_8_modes, 16, 10, 0, 0, 0},
-    {"search, 1 mode, 255 arcs, b 8,191, k 0, with a plan", make_one_mode, 16, 0, 0, 0, 0},
-    {"search, 1 mode, 255 arcs, b 8,191, k 4, with a plan", make_one_mode_colours, 16, 0, 0, 0, 0},
-    {"search, 1 mode, 255 arcs, b 8,191, k 1, without", make_one_mode_climb, 4, 10, 0, 0, 0},
-    {"judging, 1 arc", make_plan, 16, 0, 1, 0, 0},
-    {"judging, 255 arcs", make_plan, 16, 0, 255, 0, 0},
-    {"judging, 4,000 arcs", make_plan, 16, 0, 4000, 0, 0},
-    {"judging, 65,000 arcs", make_plan, 16, 0, 65000, 0, 0},
-    {"judging, 65,000 arcs, many steps cut off at the bound", make_steep_plan, 16, 0, 65000, 0, 0},
-    {"search, 64 modes, 255 arcs with both parts, with a plan", make_64_modes_both, 16, 0, 0, 0, 0},
-    {"judging, 65,000 arcs with both parts", make_plan_both, 16, 0, 65000, 0, 0},
-    {"judging, 65,000 arcs, below, exactly and above the bound", make_low_bound_plan, 16, 0, 65000, 0, 0},
-    {"reading, 64 modes, 255 arcs, sources ascending", make_model_with_texts, 16, 0, 0, 0, 1},
-    {"reading, the same with 1,000 comments of 64 bytes", make_model_with_texts, 4, 0, 0, 1000, 1},
-    {"reading, the same with 2,000 comments", make_model_with_texts, 4, 0, 0, 2000, 1},
-    {"reading, the same with 4,000 comments", make_model_with_texts, 4, 0, 0, 4000, 1},
-    {"reading, the same with each colour 100 times", make_model_with_texts, 4, 0, 0, 0, 100},
-    {"reading, the same with each colour 200 times", make_model_with_texts, 4, 0, 0, 0, 200},
-    {"reading, the same with each colour 400 times", make_model_with_texts, 4, 0, 0, 0, 400},
-    {"reading, 64 modes, 255 arcs, sources descending", make_descending_model, 16, 0, 0, 0, 1},
-    {"reading, the same with each colour 100 times", make_descending_model, 4, 0, 0, 0, 100},
-    {"reading, the same with each colour 200 times", make_descending_model, 4, 0, 0, 0, 200},
-    {"reading, the same with each colour 400 times", make_descending_model, 4, 0, 0, 0, 400},
-};
-
-/* The lists that reading fills, and the numbers that it answers. */
+/* The lists that reading and the join fill, and the numbers that they answer. */
 struct filled {
     uint8_t sources[CHARGEPLAN_ARCS_MOST];
     uint8_t targets[CHARGEPLAN_ARCS_MOST];
     uint8_t colours[CHARGEPLAN_ARCS_MOST];
+    uint8_t actions[CHARGEPLAN_ARCS_MOST];
     uint16_t draws[CHARGEPLAN_ARCS_MOST];
     uint16_t gains[CHARGEPLAN_ARCS_MOST];
     uint32_t n;
@@ -97,10 +68,10 @@ struct filled {
 };
 
 /*
- * Allocated once: the inputs of a family, their plans to be judged, their texts, the buffers of search, the lists of reading, and what the
- * library left in these.
+ * Allocated once: the inputs of a family, their habits, their plans to be judged, their texts, the buffers of search, the lists to be
+ * filled, and what the library left in these.
  */
-static struct input inputs[SET_MOST];
+static struct input inputs[SET_MOST], habits[SET_MOST];
 static uint8_t judged[SET_MOST][CHARGEPLAN_PLAN_MOST];
 static char hoa[SET_MOST][TEXT_MOST], dimacs[SET_MOST][TEXT_MOST];
 static uint16_t work[WORK_WORDS], library_work[WORK_WORDS];
@@ -116,38 +87,82 @@ static void fail(const struct family *family, const char *what)
 static uint64_t call_search(const struct version *version, const struct input *in)
 {
     return version->search(in->n, in->start, in->k, in->sources, in->arcs, in->targets, in->arcs, in->draws, in->arcs,
-                           in->gains, in->arcs, in->colours, in->arcs, in->c, in->b, work,
+                           in->gains, in->arcs, in->colours, in->arcs, in->actions, in->arcs, in->c, in->b, work,
                            chargeplan_work_words(in->n, in->k, in->b), plan, chargeplan_plan_bytes(in->n, in->k, in->b));
 }
 
 static uint64_t call_judge(const struct version *version, const struct input *in)
 {
     return version->judge(in->n, in->start, in->k, in->sources, in->arcs, in->targets, in->arcs, in->draws, in->arcs,
-                          in->gains, in->arcs, in->colours, in->arcs, in->c, in->b, in->p, in->q, in->plan,
-                          (size_t)in->p + in->q);
+                          in->gains, in->arcs, in->colours, in->arcs, in->actions, in->arcs, in->c, in->b, in->p, in->q,
+                          in->plan, (size_t)in->p + in->q);
 }
 
-/* The number and the detail of reading, as the other calls have them. */
-static uint64_t call_read(const struct version *version, const struct input *in)
+/* Keeps the numbers that a call which fills lists answers, and returns its number and detail as the other calls have them. */
+static uint64_t keep_numbers(struct chargeplan_reading reading)
 {
-    enum { ROOM = CHARGEPLAN_ARCS_MOST };
-    struct filled *f = &filled;
-    struct chargeplan_reading reading =
-        version->read((const uint8_t *)in->hoa, in->hoa_length, (const uint8_t *)in->dimacs, in->dimacs_length, f->sources, ROOM,
-                      f->targets, ROOM, f->draws, ROOM, f->gains, ROOM, f->colours, ROOM);
-    f->n = reading.n;
-    f->start = reading.start;
-    f->k = reading.k;
-    f->m = reading.m;
+    filled.n = reading.n;
+    filled.start = reading.start;
+    filled.k = reading.k;
+    filled.m = reading.m;
     return reading.number | reading.detail << 8;
 }
 
-static uint64_t call(const struct family *family, const struct version *version, const struct input *in)
+enum { ROOM = CHARGEPLAN_ARCS_MOST };
+
+static uint64_t call_read(const struct version *version, const struct input *in)
 {
-    if (family->times > 0)
-        return call_read(version, in);
-    return family->length > 0 ? call_judge(version, in) : call_search(version, in);
+    struct filled *f = &filled;
+    return keep_numbers(version->read((const uint8_t *)in->hoa, in->hoa_length, (const uint8_t *)in->dimacs, in->dimacs_length,
+                                      f->sources, ROOM, f->targets, ROOM, f->draws, ROOM, f->gains, ROOM, f->colours, ROOM,
+                                      f->actions, ROOM));
 }
+
+static uint64_t call_join(const struct version *version, const struct input *in)
+{
+    struct filled *f = &filled;
+    const struct input *habit = in->habit;
+    return keep_numbers(version->join(in->n, in->start, in->k, in->sources, in->arcs, in->targets, in->arcs, in->draws, in->arcs,
+                                      in->gains, in->arcs, in->colours, in->arcs, in->actions, in->arcs, habit->n, habit->start,
+                                      habit->k, habit->sources, habit->arcs, habit->targets, habit->arcs, habit->draws, habit->arcs,
+                                      habit->gains, habit->arcs, habit->colours, habit->arcs, habit->actions, habit->arcs,
+                                      f->sources, ROOM, f->targets, ROOM, f->draws, ROOM, f->gains, ROOM, f->colours, ROOM,
+                                      f->actions, ROOM));
+}
+
+static const struct family families[] = {
+    {"search, random, 64 modes, 255 arcs, b 127, with a plan", call_search, make_64_modes, 16, 0, 0, 0, 0},
+    {"search, random, 64 modes, 255 arcs, b 127, without", call_search, make_64_modes, 16, 10, 0, 0, 0},
+    {"search, chain of 64 modes with +1 loops, b 127, without", call_search, make_chain, 1, 10, 0, 0, 0},
+    {"search, document 001's figure 6, b 60, with a plan", call_search, make_figure_6, 1, 0, 0, 0, 0},
+    {"search, ring of 64 modes, 255 arcs, b 127, without", call_search, make_ring, 1, 10, 0, 0, 0},
+    {"search, random, 8 modes, 64 arcs, b 1,023, with a plan", call_search, make_8_modes, 16, 0, 0, 0, 0},
+    {"search, random, 8 modes, 64 arcs, b 1,023, without", call_search, make_8_modes, 16, 10, 0, 0, 0},
+    {"search, 1 mode, 255 arcs, b 8,191, k 0, with a plan", call_search, make_one_mode, 16, 0, 0, 0, 0},
+    {"search, 1 mode, 255 arcs, b 8,191, k 4, with a plan", call_search, make_one_mode_colours, 16, 0, 0, 0, 0},
+    {"search, 1 mode, 255 arcs, b 8,191, k 1, without", call_search, make_one_mode_climb, 4, 10, 0, 0, 0},
+    {"judging, 1 arc", call_judge, make_plan, 16, 0, 1, 0, 0},
+    {"judging, 255 arcs", call_judge, make_plan, 16, 0, 255, 0, 0},
+    {"judging, 4,000 arcs", call_judge, make_plan, 16, 0, 4000, 0, 0},
+    {"judging, 65,000 arcs", call_judge, make_plan, 16, 0, 65000, 0, 0},
+    {"judging, 65,000 arcs, many steps cut off at the bound", call_judge, make_steep_plan, 16, 0, 65000, 0, 0},
+    {"search, 64 modes, 255 arcs with both parts, with a plan", call_search, make_64_modes_both, 16, 0, 0, 0, 0},
+    {"judging, 65,000 arcs with both parts", call_judge, make_plan_both, 16, 0, 65000, 0, 0},
+    {"judging, 65,000 arcs, below, exactly and above the bound", call_judge, make_low_bound_plan, 16, 0, 65000, 0, 0},
+    {"reading, 64 modes, 255 arcs, sources ascending", call_read, make_model_with_texts, 16, 0, 0, 0, 1},
+    {"reading, the same with 1,000 comments of 64 bytes", call_read, make_model_with_texts, 4, 0, 0, 1000, 1},
+    {"reading, the same with 2,000 comments", call_read, make_model_with_texts, 4, 0, 0, 2000, 1},
+    {"reading, the same with 4,000 comments", call_read, make_model_with_texts, 4, 0, 0, 4000, 1},
+    {"reading, the same with each colour 100 times", call_read, make_model_with_texts, 4, 0, 0, 0, 100},
+    {"reading, the same with each colour 200 times", call_read, make_model_with_texts, 4, 0, 0, 0, 200},
+    {"reading, the same with each colour 400 times", call_read, make_model_with_texts, 4, 0, 0, 0, 400},
+    {"reading, 64 modes, 255 arcs, sources descending", call_read, make_descending_model, 16, 0, 0, 0, 1},
+    {"reading, the same with each colour 100 times", call_read, make_descending_model, 4, 0, 0, 0, 100},
+    {"reading, the same with each colour 200 times", call_read, make_descending_model, 4, 0, 0, 0, 200},
+    {"reading, the same with each colour 400 times", call_read, make_descending_model, 4, 0, 0, 0, 400},
+    {"join, 255 by 255 arcs, 255 pairs written", call_join, make_large_join, 16, 0, 0, 0, 0},
+    {"join, 12 by 4 arcs, 12 pairs written", call_join, make_small_join, 16, 0, 0, 0, 0},
+};
 
 /* The same junk in the buffers before each comparison and each sample. */
 static void fill_buffers(void)
@@ -170,13 +185,14 @@ static void make_inputs(const struct family *family)
         in->plan = judged[i];
         in->hoa = hoa[i];
         in->dimacs = dimacs[i];
+        in->habit = &habits[i];
         do {
             if (tries++ == TRIES_MOST)
                 fail(family, "no such input was made");
             family->make(in);
             if (family->times > 0)
                 print_texts(in, family->comments, family->times);
-        } while (chargeplan_number(call(family, &versions[0], in)) != family->number);
+        } while (chargeplan_number(family->call(&versions[0], in)) != family->number);
     }
 }
 
@@ -184,20 +200,20 @@ static void make_inputs(const struct family *family)
 static void compare(const struct family *family, const struct input *in)
 {
     fill_buffers();
-    uint64_t answer = call(family, &versions[0], in);
+    uint64_t answer = family->call(&versions[0], in);
     memcpy(library_work, work, sizeof work);
     memcpy(library_plan, plan, sizeof plan);
     memcpy(&library_filled, &filled, sizeof filled);
     for (size_t v = 1; v < VERSIONS; v++) {
         fill_buffers();
-        if (call(family, &versions[v], in) != answer)
+        if (family->call(&versions[v], in) != answer)
             fail(family, "answers differ");
         if (memcmp(library_work, work, sizeof work) != 0)
             fail(family, "working spaces differ");
         if (memcmp(library_plan, plan, sizeof plan) != 0)
             fail(family, "plan buffers differ");
         if (memcmp(&library_filled, &filled, sizeof filled) != 0)
-            fail(family, "what was read differs");
+            fail(family, "filled lists differ");
     }
 }
 
@@ -215,7 +231,7 @@ static double sample(const struct family *family, const struct version *version,
     double before = microseconds();
     for (size_t round = 0; round < rounds; round++)
         for (size_t i = 0; i < family->count; i++)
-            call(family, version, &inputs[i]);
+            family->call(version, &inputs[i]);
     return microseconds() - before;
 }
 

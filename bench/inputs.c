@@ -51,6 +51,7 @@ static void add_move(struct input *in, uint32_t source, uint32_t target, uint16_
     in->draws[in->arcs] = draw;
     in->gains[in->arcs] = gain;
     in->colours[in->arcs] = colours;
+    in->actions[in->arcs] = 0;
     in->arcs++;
 }
 
@@ -285,4 +286,40 @@ void print_texts(struct input *in, size_t comments, size_t times)
     for (size_t a = 0; a < in->arcs; a++)
         at += sprintf(at, "a %d %d %d\n", in->sources[a] + 1, in->targets[a] + 1, in->gains[a] - in->draws[a]);
     in->dimacs_length = (size_t)(at - in->dimacs);
+}
+
+/* Random arcs with both parts, of which two together draw and gain up to 10,000, and a random order of these actions. */
+static void add_actions(struct input *in, size_t count, const uint8_t *actions)
+{
+    add_random_moves(in, count, CHARGEPLAN_DRAW_MOST / 2, CHARGEPLAN_GAIN_MOST / 2, 2);
+    for (size_t a = 0; a < count; a++) {
+        size_t other = below((uint32_t)a + 1);
+        in->actions[a] = in->actions[other];
+        in->actions[other] = actions[a];
+    }
+}
+
+void make_large_join(struct input *in)
+{
+    enum { ARCS = CHARGEPLAN_ARCS_MOST, EACH = ARCS / CHARGEPLAN_ACTION_MOST };
+    uint8_t of_knee[ARCS], of_habit[ARCS];
+
+    for (size_t a = 0; a < ARCS; a++) {
+        of_knee[a] = (uint8_t)(a / EACH);
+        of_habit[a] = (uint8_t)(a < CHARGEPLAN_ACTION_MOST ? a : CHARGEPLAN_ACTION_MOST);
+    }
+    set_numbers(in, 8, 2, 0, 0);
+    add_actions(in, ARCS, of_knee);
+    set_numbers(in->habit, 8, 2, 0, 0);
+    add_actions(in->habit, ARCS, of_habit);
+}
+
+void make_small_join(struct input *in)
+{
+    static const uint8_t of_knee[] = {0, 0, 0, 1, 1, 1, 2, 2, 2, 3, 3, 3}, of_habit[] = {0, 1, 2, 3};
+
+    set_numbers(in, 4, 2, 0, 0);
+    add_actions(in, sizeof of_knee, of_knee);
+    set_numbers(in->habit, 3, 1, 0, 0);
+    add_actions(in->habit, sizeof of_habit, of_habit);
 }

@@ -1,6 +1,6 @@
 /*
- * The inputs of the benchmark: models with credit and bound, for judging a plan, and for reading the texts of a model. An arc with a weight
- * draws or gains; those of two kinds do both.
+ * The inputs of the benchmark: models with credit and bound, for judging a plan, for reading the texts of a model, and for joining a knee
+ * with a habit. An arc with a weight draws or gains; those of two kinds do both.
  */
 #ifndef INPUTS_H
 #define INPUTS_H
@@ -21,6 +21,7 @@ struct input {
     uint16_t draws[CHARGEPLAN_ARCS_MOST];
     uint16_t gains[CHARGEPLAN_ARCS_MOST];
     uint8_t colours[CHARGEPLAN_ARCS_MOST];
+    uint8_t actions[CHARGEPLAN_ARCS_MOST]; /* 0 where the model is not to be joined */
     uint32_t c;
     uint32_t b;
     uint32_t p;
@@ -30,6 +31,7 @@ struct input {
     char *dimacs;
     size_t hoa_length;
     size_t dimacs_length;
+    struct input *habit; /* the model to be joined with this one */
 };
 
 enum { TEXT_MOST = 1 << 20 };
@@ -99,5 +101,14 @@ void make_descending_model(struct input *in);
 
 /* Prints the texts of such a model, with so many comments of 64 bytes, and with the colours of an arc so many times. */
 void print_texts(struct input *in, size_t comments, size_t times);
+
+/*
+ * A knee of 8 modes and 255 arcs with the actions 0 to 14, 17 arcs each, and a habit of 8 modes and 255 arcs, of which one has each of these
+ * actions and the others have action 15: 65,025 pairs to be looked at, of which 255 have equal actions.
+ */
+void make_large_join(struct input *in);
+
+/* A knee of 4 modes and 12 arcs with the actions 0 to 3, 3 arcs each, and a habit of 3 modes and 4 arcs, one of each action: 12 pairs. */
+void make_small_join(struct input *in);
 
 #endif

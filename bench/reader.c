@@ -10,8 +10,8 @@
 #include "chargeplan.h"
 #include "reference.h"
 
-#define JOIN_NAMES(a, b) a##b
-#define JOIN(a, b) JOIN_NAMES(a, b)
+#define PASTE_NAMES(a, b) a##b
+#define PASTE(a, b) PASTE_NAMES(a, b)
 
 enum { DIGITS_MOST = 9, WEIGHT_MOST = 10000 };
 
@@ -332,13 +332,13 @@ static size_t smaller(size_t a, size_t b)
     return a < b ? a : b;
 }
 
-struct chargeplan_reading JOIN(REFERENCE, _read)(const uint8_t *hoa, size_t hoa_len, const uint8_t *dimacs, size_t dimacs_len,
-                                                 uint8_t *sources, size_t sources_len, uint8_t *targets, size_t targets_len,
-                                                 uint16_t *draws, size_t draws_len, uint16_t *gains, size_t gains_len,
-                                                 uint8_t *colours, size_t colours_len)
+struct chargeplan_reading PASTE(REFERENCE, _read)(const uint8_t *hoa, size_t hoa_len, const uint8_t *dimacs, size_t dimacs_len,
+                                                  uint8_t *sources, size_t sources_len, uint8_t *targets, size_t targets_len,
+                                                  uint16_t *draws, size_t draws_len, uint16_t *gains, size_t gains_len,
+                                                  uint8_t *colours, size_t colours_len, uint8_t *actions, size_t actions_len)
 {
     struct cursor hoa_text = {hoa, hoa + hoa_len}, dimacs_text = {dimacs, dimacs + dimacs_len};
-    size_t room = smaller(smaller(smaller(sources_len, targets_len), smaller(draws_len, gains_len)), colours_len);
+    size_t room = smaller(smaller(sources_len, targets_len), smaller(smaller(draws_len, gains_len), smaller(colours_len, actions_len)));
     struct hoa h;
     struct dimacs d;
     uint64_t detail = read_hoa(hoa_text, &h);
@@ -359,6 +359,7 @@ struct chargeplan_reading JOIN(REFERENCE, _read)(const uint8_t *hoa, size_t hoa_
         draws[i] = (uint16_t)(d.weights[i] < 0 ? -d.weights[i] : 0);
         gains[i] = (uint16_t)(d.weights[i] < 0 ? 0 : d.weights[i]);
         colours[i] = h.edges.colours[i];
+        actions[i] = 0;
     }
     struct chargeplan_reading reading = {CHARGEPLAN_YES, 0, h.n, h.start, h.k, d.m};
     return reading;

@@ -1,6 +1,7 @@
 /*
- * Search and judging in C, to compare the library with: the same checks, passes and scans in the same order, the arcs grouped by source, so
- * that answers and plans are equal. The entries are REFERENCE_search and REFERENCE_judge, where the build names REFERENCE.
+ * Search, judging and the join in C, to compare the library with: the same checks, passes and scans in the same order, the arcs grouped by
+ * source, so that answers and plans are equal. The entries are REFERENCE_search, REFERENCE_judge and REFERENCE_join, where the build names
+ * REFERENCE.
  */
 #include <stdbool.h>
 #include <stddef.h>
@@ -10,8 +11,8 @@
 #include "chargeplan.h"
 #include "reference.h"
 
-#define JOIN_NAMES(a, b) a##b
-#define JOIN(a, b) JOIN_NAMES(a, b)
+#define PASTE_NAMES(a, b) a##b
+#define PASTE(a, b) PASTE_NAMES(a, b)
 
 enum { NODES_MOST = (CHARGEPLAN_COLOURS_MOST + 1) * CHARGEPLAN_MODES_MOST };
 
@@ -26,6 +27,7 @@ struct model {
     const uint16_t *draws;
     const uint16_t *gains;
     const uint8_t *colours;
+    const uint8_t *actions;
     int32_t bound;
     int32_t credit;
 };
@@ -78,18 +80,19 @@ static int32_t step(int32_t charge, int32_t draw, int32_t gain, int32_t bound)
 static bool unfit_arc(const struct model *m, size_t a)
 {
     return m->sources[a] >= m->modes || m->targets[a] >= m->modes || m->draws[a] > CHARGEPLAN_DRAW_MOST ||
-           m->gains[a] > CHARGEPLAN_GAIN_MOST || m->colours[a] >> m->levels != 0;
+           m->gains[a] > CHARGEPLAN_GAIN_MOST || m->colours[a] >> m->levels != 0 || m->actions[a] > CHARGEPLAN_ACTION_MOST;
 }
 
 /* Refusals 1 to 5. */
-static uint64_t check_model(const struct model *m, size_t targets_len, size_t draws_len, size_t gains_len, size_t colours_len)
+static uint64_t check_model(const struct model *m, size_t targets_len, size_t draws_len, size_t gains_len, size_t colours_len,
+                            size_t actions_len)
 {
     if (m->modes == 0 || m->modes > CHARGEPLAN_MODES_MOST)
         return CHARGEPLAN_MODE_COUNT;
     if (m->start >= m->modes)
         return CHARGEPLAN_START_MODE;
     if (targets_len != m->arcs || draws_len != m->arcs || gains_len != m->arcs || colours_len != m->arcs ||
-        m->arcs > CHARGEPLAN_ARCS_MOST)
+        actions_len != m->arcs || m->arcs > CHARGEPLAN_ARCS_MOST)
         return CHARGEPLAN_ARC_LISTS;
     if (m->levels > CHARGEPLAN_COLOURS_MOST)
         return CHARGEPLAN_COLOUR_COUNT;
@@ -259,14 +262,14 @@ static uint64_t decide(const struct model *m, uint16_t *work, uint8_t *plan)
     return CHARGEPLAN_NO_PLAN;
 }
 
-uint64_t JOIN(REFERENCE, _search)(uint32_t n, uint32_t start, uint32_t k, const uint8_t *sources, size_t sources_len,
-                                  const uint8_t *targets, size_t targets_len, const uint16_t *draws, size_t draws_len,
-                                  const uint16_t *gains, size_t gains_len, const uint8_t *colours, size_t colours_len,
-                                  uint32_t c, uint32_t b, uint16_t *work, size_t work_len, uint8_t *plan,
-                                  size_t plan_len)
+uint64_t PASTE(REFERENCE, _search)(uint32_t n, uint32_t start, uint32_t k, const uint8_t *sources, size_t sources_len,
+                                   const uint8_t *targets, size_t targets_len, const uint16_t *draws, size_t draws_len,
+                                   const uint16_t *gains, size_t gains_len, const uint8_t *colours, size_t colours_len,
+                                   const uint8_t *actions, size_t actions_len, uint32_t c, uint32_t b, uint16_t *work,
+                                   size_t work_len, uint8_t *plan, size_t plan_len)
 {
-    struct model m = {n, start, k, sources_len, sources, targets, draws, gains, colours, (int32_t)b, (int32_t)c};
-    uint64_t answer = check_model(&m, targets_len, draws_len, gains_len, colours_len);
+    struct model m = {n, start, k, sources_len, sources, targets, draws, gains, colours, actions, (int32_t)b, (int32_t)c};
+    uint64_t answer = check_model(&m, targets_len, draws_len, gains_len, colours_len, actions_len);
 
     if (answer == CHARGEPLAN_YES)
         answer = check_levels(c, b);
@@ -358,13 +361,14 @@ static uint64_t check_colours(const struct model *m, const uint8_t *cycle, size_
     return refused(CHARGEPLAN_MISSING_COLOUR, missing);
 }
 
-uint64_t JOIN(REFERENCE, _judge)(uint32_t n, uint32_t start, uint32_t k, const uint8_t *sources, size_t sources_len,
-                                 const uint8_t *targets, size_t targets_len, const uint16_t *draws, size_t draws_len,
-                                 const uint16_t *gains, size_t gains_len, const uint8_t *colours, size_t colours_len,
-                                 uint32_t c, uint32_t b, uint32_t p, uint32_t q, const uint8_t *plan, size_t plan_len)
+uint64_t PASTE(REFERENCE, _judge)(uint32_t n, uint32_t start, uint32_t k, const uint8_t *sources, size_t sources_len,
+                                  const uint8_t *targets, size_t targets_len, const uint16_t *draws, size_t draws_len,
+                                  const uint16_t *gains, size_t gains_len, const uint8_t *colours, size_t colours_len,
+                                  const uint8_t *actions, size_t actions_len, uint32_t c, uint32_t b, uint32_t p, uint32_t q,
+                                  const uint8_t *plan, size_t plan_len)
 {
-    struct model m = {n, start, k, sources_len, sources, targets, draws, gains, colours, (int32_t)b, (int32_t)c};
-    uint64_t answer = check_model(&m, targets_len, draws_len, gains_len, colours_len);
+    struct model m = {n, start, k, sources_len, sources, targets, draws, gains, colours, actions, (int32_t)b, (int32_t)c};
+    uint64_t answer = check_model(&m, targets_len, draws_len, gains_len, colours_len, actions_len);
 
     if (answer == CHARGEPLAN_YES)
         answer = check_levels(c, b);
@@ -377,4 +381,104 @@ uint64_t JOIN(REFERENCE, _judge)(uint32_t n, uint32_t start, uint32_t k, const u
     if (answer == CHARGEPLAN_YES)
         answer = check_colours(&m, plan + p, q);
     return answer;
+}
+
+/* How many pairs of arcs have equal actions, and whether one of them draws or gains too much together. */
+struct tally {
+    size_t count;
+    bool heavy;
+};
+
+/* The first pass of the join: it counts and checks. */
+static struct tally count_pairs(const struct model *knee, const struct model *habit)
+{
+    struct tally tally = {0, false};
+
+    for (size_t i = 0; i < knee->arcs; i++)
+        for (size_t j = 0; j < habit->arcs; j++) {
+            if (knee->actions[i] != habit->actions[j])
+                continue;
+            tally.count++;
+            if (knee->draws[i] + habit->draws[j] > (int32_t)CHARGEPLAN_DRAW_MOST ||
+                knee->gains[i] + habit->gains[j] > (int32_t)CHARGEPLAN_GAIN_MOST)
+                tally.heavy = true;
+        }
+    return tally;
+}
+
+/* Refusal 23. */
+static uint64_t check_join(const struct model *knee, const struct model *habit, size_t room)
+{
+    if (knee->modes * habit->modes > CHARGEPLAN_MODES_MOST || knee->levels + habit->levels > CHARGEPLAN_COLOURS_MOST)
+        return CHARGEPLAN_JOIN_SIZE;
+    struct tally tally = count_pairs(knee, habit);
+    return tally.count > CHARGEPLAN_ARCS_MOST || tally.heavy || tally.count > room ? CHARGEPLAN_JOIN_SIZE : CHARGEPLAN_YES;
+}
+
+/* The lists that the join fills. */
+struct joined {
+    uint8_t *sources;
+    uint8_t *targets;
+    uint16_t *draws;
+    uint16_t *gains;
+    uint8_t *colours;
+    uint8_t *actions;
+};
+
+/* The second pass writes the joined arcs, and returns their number. */
+static uint32_t write_pairs(const struct model *knee, const struct model *habit, struct joined to)
+{
+    uint32_t at = 0;
+
+    for (size_t i = 0; i < knee->arcs; i++)
+        for (size_t j = 0; j < habit->arcs; j++) {
+            if (knee->actions[i] != habit->actions[j])
+                continue;
+            to.sources[at] = (uint8_t)(knee->sources[i] * habit->modes + habit->sources[j]);
+            to.targets[at] = (uint8_t)(knee->targets[i] * habit->modes + habit->targets[j]);
+            to.draws[at] = (uint16_t)(knee->draws[i] + habit->draws[j]);
+            to.gains[at] = (uint16_t)(knee->gains[i] + habit->gains[j]);
+            to.colours[at] = (uint8_t)(knee->colours[i] | habit->colours[j] << knee->levels);
+            to.actions[at] = knee->actions[i];
+            at++;
+        }
+    return at;
+}
+
+static size_t smaller(size_t a, size_t b)
+{
+    return a < b ? a : b;
+}
+
+struct chargeplan_reading PASTE(REFERENCE, _join)(
+    uint32_t n1, uint32_t start1, uint32_t k1, const uint8_t *sources1, size_t sources1_len, const uint8_t *targets1,
+    size_t targets1_len, const uint16_t *draws1, size_t draws1_len, const uint16_t *gains1, size_t gains1_len,
+    const uint8_t *colours1, size_t colours1_len, const uint8_t *actions1, size_t actions1_len, uint32_t n2, uint32_t start2,
+    uint32_t k2, const uint8_t *sources2, size_t sources2_len, const uint8_t *targets2, size_t targets2_len,
+    const uint16_t *draws2, size_t draws2_len, const uint16_t *gains2, size_t gains2_len, const uint8_t *colours2,
+    size_t colours2_len, const uint8_t *actions2, size_t actions2_len, uint8_t *sources, size_t sources_len, uint8_t *targets,
+    size_t targets_len, uint16_t *draws, size_t draws_len, uint16_t *gains, size_t gains_len, uint8_t *colours,
+    size_t colours_len, uint8_t *actions, size_t actions_len)
+{
+    struct model knee = {n1, start1, k1, sources1_len, sources1, targets1, draws1, gains1, colours1, actions1, 0, 0};
+    struct model habit = {n2, start2, k2, sources2_len, sources2, targets2, draws2, gains2, colours2, actions2, 0, 0};
+    struct joined to = {sources, targets, draws, gains, colours, actions};
+    struct chargeplan_reading reading = {CHARGEPLAN_YES, 0, 0, 0, 0, 0};
+    size_t room = smaller(smaller(sources_len, targets_len), smaller(smaller(draws_len, gains_len), smaller(colours_len, actions_len)));
+    uint64_t answer = check_model(&knee, targets1_len, draws1_len, gains1_len, colours1_len, actions1_len);
+
+    if (answer == CHARGEPLAN_YES)
+        answer = check_model(&habit, targets2_len, draws2_len, gains2_len, colours2_len, actions2_len);
+    if (answer == CHARGEPLAN_YES)
+        answer = check_join(&knee, &habit, room);
+    if (answer != CHARGEPLAN_YES) {
+        reading.number = (uint8_t)chargeplan_number(answer);
+        reading.detail = chargeplan_detail(answer);
+        return reading;
+    }
+    reading.n = n1 * n2;
+    reading.start = start1 * n2 + start2;
+    reading.k = k1 + k2;
+    reading.m = write_pairs(&knee, &habit, to);
+    return reading;
 }

@@ -1,19 +1,20 @@
 /*
- * chargeplan.h: judging, searching and walking charge plans for a knee joint, and reading its model from texts, from C99 or C++ on
- * Linux for 64-bit x86 (System V calls).
+ * chargeplan.h: judging, searching and walking charge plans for a knee joint, reading its model from texts, and joining it with the
+ * habit of its wearer, from C99 or C++ on Linux for 64-bit x86 (System V calls).
  *
  * Link with target/staticlib/libdesk.a, which `rt staticlib desk` writes once the code is proved. There is no set-up, no
  * state between calls and no heap: calls on different buffers may run at the same time, and no input traps or hangs a call.
  *
  * THE MODEL. n modes, numbered from 0; a start mode; k colours (duties), numbered from 0; and arcs (moves), numbered from 0 in
- * the order given. Arc a leaves mode sources[a], enters mode targets[a], has the draw draws[a] and the gain gains[a], and meets
- * colour j where bit j of colours[a] is set.
+ * the order given. Arc a leaves mode sources[a], enters mode targets[a], has the draw draws[a] and the gain gains[a], meets colour j
+ * where bit j of colours[a] is set, and has the action actions[a].
  *   n        1 to 64
  *   start    0 to n - 1
  *   k        0 to 4
- *   arcs     0 to 255: five lists of one length
+ *   arcs     0 to 255: six lists of one length
  *   draw     0 to 10,000: what the arc takes from the charge
  *   gain     0 to 10,000: what it then adds
+ *   action   0 to 15: by it the join pairs arcs (below); no other call looks at it, but to refuse one above 15
  *   b        the bound (battery size), 0 to 8,191
  *   c        the credit (charge on arrival), 0 to b
  * Draws, gains, b and c are in the same whole units. Draw first, then gain: a step is possible where the charge is at least the arc's
@@ -40,26 +41,43 @@
  * zeros in front among them; a minus may stand before W alone. MODE and TARGET are below N, U and V from 1 to N, a COLOUR is below K.
  * The i-th line [t] and the i-th line a are arc i, both counted from 0: the first has its source (of the line State before it),
  * target and colours, the second source and target again and its weight. A negative weight W is a draw of -W, any other a gain of W.
+ * The action of every arc is 0.
+ *
+ * THE JOIN. The wearer's habit is a second model. Its arcs say by their actions what the wearer may do next; they may draw and gain
+ * too, and meet colours, the duties of the wearer. The join of a knee and a habit is the model of both at once: a step is an arc of the
+ * knee and an arc of the habit with the same action. Where the knee has n1 modes and k1 colours, and the habit n2 and k2, it has
+ *   modes     n1 * n2: mode i of the knee with mode j of the habit is mode i * n2 + j, and the start modes are joined likewise
+ *   colours   k1 + k2: the knee's keep their numbers, colour j of the habit is colour k1 + j
+ *   arcs      a joined arc for each pair of arcs with equal action: first the pairs of the knee's arc 0 with the habit's arcs in their
+ *             order, then those of the knee's arc 1, and so on. Its draw is the sum of the two draws, its gain that of the two gains;
+ *             it meets the colours of both arcs, and keeps their action
+ * An arc with an action that the other model has on no arc is in no pair, and cannot be walked. For any c and b, the joined model has a
+ * feasible and accepted plan exactly where the two models have plans with prefixes of one length, cycles of one length and the same
+ * action at each step, such that every step is possible, in any number of rounds, on a charge that both share, with both draws first
+ * and then both gains, and each colour of either model stands on some arc of that model's cycle. The joined model goes into every other
+ * call as any model does, and chargeplan_model_pair tells of which two arcs a joined arc is made.
  *
  * LISTS, BUFFERS AND THE GAUGE. A list, buffer or text is a pointer, and a call is told the number of its elements. The caller sees to
  * three things: the memory is as long as the call is told, it is aligned as its type asks, and no two lists, buffers or texts of one
- * call, nor a gauge, share memory. One without elements may be a null pointer; a gauge may not. Reading writes to the lists, every
- * other call only reads them. No text needs a NUL byte at its end.
+ * call, nor a gauge, share memory. One without elements may be a null pointer; a gauge may not. Reading and the join write to the
+ * lists that they are lent to be filled; every call only reads the lists of a model. No text needs a NUL byte at its end.
  *
  * THE ANSWER. One word of 64 bits: bits 0 to 7 the number, 8 to 31 the detail; with a plan found 32 to 47 p, 48 to 63 q; with a
  * walk 32 to 47 the steps made, 48 whether the colour was met. (Starting a gauge answers a struct with that word and the gauge,
- * reading a struct with number and detail in fields of their own.) Number 0 is yes; every other number is a refusal (below), the
- * first that applies, top to bottom. The detail is 0 where none is named below, and all bits that are not named are 0.
+ * reading and the join a struct with number and detail in fields of their own.) Number 0 is yes; every other number is a refusal
+ * (below), the first that applies, top to bottom; of a join 1 to 5 are first looked at of the knee and then of the habit. The detail is
+ * 0 where none is named below, and all bits that are not named are 0.
  *
  * THE CALLS. First the calls over a struct chargeplan_model, which have the model in one argument. They are inline functions over the
  * library's own entries, which come after them and take each list with a length of its own.
  *
- * COST. Stack, with the arguments on it: up to 15,000 bytes for judging and for search, 8,600 for starting a gauge, 10,700 for a
- * step of one, 17,100 for the walk, 600 for reading. Every call but reading reads the five lists once. Judging then looks at
- * 2 * p + 4 * q places of the plan at most, and the walk at p + q more. Search tries arcs at most
+ * COST. Stack, with the arguments on it: up to 12,900 bytes for judging, 8,900 for search, 200 for starting a gauge, 4,400 for a step of
+ * one, 14,900 for the walk, 600 for reading, 8,700 for the join. Every call but reading reads the six lists of a model once. Judging
+ * then looks at 2 * p + 4 * q places of the plan at most, and the walk at p + q more. Search tries arcs at most
  * m * (b + 1) * ((k + 1) * (n + 1) + 2) times, where there are m of them: 25 million times at the ceilings. The slowest search that was
  * found takes some 35 ms, one of a random model of 64 modes 0.1 ms. The time of reading grows in proportion to the texts, where the
- * model is fit. docs/C-API.md says how this was counted and measured.
+ * model is fit. The join looks at each pair of arcs twice, 65,025 pairs at most, in some 80 us. docs/C-API.md says how this was counted
+ * and measured.
  */
 #ifndef CHARGEPLAN_H
 #define CHARGEPLAN_H
@@ -72,10 +90,10 @@ extern "C" {
 #endif
 
 /*
- * The version of the entries' signatures, raised whenever one changes. 2: draws and gains. A header without this macro is version 1,
- * with one list of weights in their place.
+ * The version of the entries' signatures, raised whenever one changes. 3: a sixth list, the actions; zeros in it make the model of
+ * before. 2: draws and gains. A header without this macro is version 1, with one list of weights in their place.
  */
-#define CHARGEPLAN_VERSION 2
+#define CHARGEPLAN_VERSION 3
 
 /* The ceilings. */
 #define CHARGEPLAN_MODES_MOST 64u
@@ -86,6 +104,7 @@ extern "C" {
 #define CHARGEPLAN_PLAN_MOST 65535u   /* arcs of a plan, for judging */
 #define CHARGEPLAN_DRAW_MOST 10000u
 #define CHARGEPLAN_GAIN_MOST 10000u
+#define CHARGEPLAN_ACTION_MOST 15u
 
 /*
  * Buffers of these sizes serve every search that 7 does not refuse: some 328 KB and 49 KB. Every word of working space that is lent is
@@ -96,22 +115,25 @@ extern "C" {
 
 /*
  * The numbers. Search answers 0 to 10; judging 0 to 6 and 11 to 17; starting a gauge 0 to 6; a step of a gauge 0 to 6, 22, 12, 13
- * and 15, the last four with detail 0; the walk 0 to 6 and 11 to 18; reading 0, 19 to 21 and 1 to 5.
+ * and 15, the last four with detail 0; the walk 0 to 6 and 11 to 18; reading 0, 19 to 21 and 1 to 5; the join 0 to 5 and 23.
  */
 enum {
     CHARGEPLAN_YES = 0,              /* judging: the plan is feasible and accepted; search: a plan is in the buffer; gauge: it is
-                                        started, or has moved on; walk: the steps are made; reading: the lists are filled */
+                                        started, or has moved on; walk: the steps are made; reading, join: the lists are filled */
     CHARGEPLAN_HOA_LINE = 19,        /* reading: a line of the HOA text is outside the forms above, or missing; detail: the first
                                         such line, counted from 1, one past the last line where the text ends early */
     CHARGEPLAN_DIMACS_LINE = 20,     /* the same of the DIMACS text */
     CHARGEPLAN_TEXTS_DISAGREE = 21,  /* reading: the two texts have another n, number of arcs, source or target */
     CHARGEPLAN_MODE_COUNT = 1,       /* n is 0 or above 64 */
     CHARGEPLAN_START_MODE = 2,       /* the start mode is not below n */
-    CHARGEPLAN_ARC_LISTS = 3,        /* the five arc lists are of unequal length, or longer than 255; reading: the texts have more
+    CHARGEPLAN_ARC_LISTS = 3,        /* the six arc lists are of unequal length, or longer than 255; reading: the texts have more
                                         arcs than 255 or than the shortest of the lists takes */
     CHARGEPLAN_COLOUR_COUNT = 4,     /* k is above 4 */
-    CHARGEPLAN_UNFIT_ARC = 5,        /* a source or target not below n, a draw or gain above 10,000, or a colour bit at or
-                                        above k; reading: a weight outside -10,000 to 10,000; detail: the lowest such arc */
+    CHARGEPLAN_UNFIT_ARC = 5,        /* a source or target not below n, a draw or gain above 10,000, a colour bit at or above k, or
+                                        an action above 15; reading: a weight outside -10,000 to 10,000; detail: the lowest such
+                                        arc */
+    CHARGEPLAN_JOIN_SIZE = 23,       /* join: more than 64 joined modes, 255 joined arcs or 4 joined colours, a joined draw or gain
+                                        above 10,000, or more joined arcs than the shortest of the lists takes */
     CHARGEPLAN_LEVELS = 6,           /* b is above 8,191, or c is above b; a step reads the gauge's own charge in place of c */
     CHARGEPLAN_MIXED_GAUGE = 22,     /* a step of a gauge: n, the number of arcs or b is not the one that it was started with */
     CHARGEPLAN_PRODUCT = 7,          /* n * (b + 1) is above 8,192 */
@@ -150,28 +172,39 @@ struct chargeplan_started {
     struct chargeplan_gauge gauge;
 };
 
-/* What reading answers: number and detail, and the model's n, start mode, k and number of arcs, which are 0 where it is refused. */
+/* What reading and the join answer: number and detail, and the model's n, start mode, k and number of arcs, 0 where it is refused. */
 struct chargeplan_reading {
     uint8_t number;
     uint64_t detail;
     uint32_t n, start, k, m;
 };
 
-/* A model: its numbers, and its arcs as five lists of one length. */
+/*
+ * A model: its numbers, and its arcs as six lists of one length. Where `actions` is a null pointer, as in a model initialised by names
+ * for version 2, the calls are told of no actions, so that 3 refuses a model with arcs.
+ */
 struct chargeplan_model {
     uint32_t n, start, k;
     const uint8_t *sources, *targets;
     const uint16_t *draws, *gains;
-    const uint8_t *colours;
+    const uint8_t *colours, *actions;
     size_t arcs;
 };
 
-/* Five lists to be filled by reading, each with room for so many arcs; CHARGEPLAN_ARCS_MOST are enough for every model. */
+/*
+ * Six lists to be filled by reading or the join, each with room for so many arcs; CHARGEPLAN_ARCS_MOST are enough for every model.
+ * Where `actions` is a null pointer, it has room for none.
+ */
 struct chargeplan_lists {
     uint8_t *sources, *targets;
     uint16_t *draws, *gains;
-    uint8_t *colours;
+    uint8_t *colours, *actions;
     size_t room;
+};
+
+/* The two arcs that a joined arc is made of, by their numbers. */
+struct chargeplan_pair {
+    uint32_t knee, habit;
 };
 
 /*
@@ -257,6 +290,34 @@ static inline uint64_t chargeplan_model_walk(const struct chargeplan_model *m, u
 static inline struct chargeplan_reading chargeplan_model_read(struct chargeplan_model *m, const struct chargeplan_lists *lists,
     const uint8_t *hoa, size_t hoa_length, const uint8_t *dimacs, size_t dimacs_length);
 
+/*
+ * The join: the model of a knee and a habit at once (THE JOIN, above).
+ *
+ * m        is given the joined model; its lists are those of `lists`
+ * lists    the lists to be filled
+ * knee     the knee
+ * habit    the habit, with lists of its own
+ *
+ * Answers number 0 and the joined model's numbers, and writes one place of each list per joined arc, from place 0; later places are as
+ * they were. Else answers the first of 1 to 5 of the knee, 1 to 5 of the habit, and 23, in this order, that applies, and leaves all
+ * lists as they were; m then has n 0 and no arcs, which every call refuses by 1. A model that was joined is fit. The answer does not
+ * tell whose number 1 to 5 is: it is the knee's exactly where starting a gauge of the knee, with c 0 and b 0, is refused.
+ */
+static inline struct chargeplan_reading chargeplan_model_join(struct chargeplan_model *m, const struct chargeplan_lists *lists,
+    const struct chargeplan_model *knee, const struct chargeplan_model *habit);
+
+/*
+ * The two arcs that a joined arc is made of.
+ *
+ * knee, habit   as in the join
+ * arc           the number of the joined arc
+ *
+ * Counts the pairs of arcs with equal action in the order of the join, in up to 65,025 steps. Of a number that no joined arc has, both
+ * fields are the number of arcs, of the knee and of the habit, which are the numbers of no arcs.
+ */
+static inline struct chargeplan_pair chargeplan_model_pair(const struct chargeplan_model *knee, const struct chargeplan_model *habit,
+    uint32_t arc);
+
 /* The library's entry for judging: each list, and the plan, with its own length. */
 uint64_t chargeplan_judge(
     uint32_t n, uint32_t start, uint32_t k,
@@ -265,6 +326,7 @@ uint64_t chargeplan_judge(
     const uint16_t *draws, size_t draws_length,
     const uint16_t *gains, size_t gains_length,
     const uint8_t *colours, size_t colours_length,
+    const uint8_t *actions, size_t actions_length,
     uint32_t c, uint32_t b,
     uint32_t p, uint32_t q,
     const uint8_t *plan, size_t plan_length);
@@ -277,6 +339,7 @@ uint64_t chargeplan_search(
     const uint16_t *draws, size_t draws_length,
     const uint16_t *gains, size_t gains_length,
     const uint8_t *colours, size_t colours_length,
+    const uint8_t *actions, size_t actions_length,
     uint32_t c, uint32_t b,
     uint16_t *work, size_t work_length,
     uint8_t *plan, size_t plan_length);
@@ -289,6 +352,7 @@ struct chargeplan_started chargeplan_gauge_start(
     const uint16_t *draws, size_t draws_length,
     const uint16_t *gains, size_t gains_length,
     const uint8_t *colours, size_t colours_length,
+    const uint8_t *actions, size_t actions_length,
     uint32_t c, uint32_t b);
 
 /* The library's entry for a step of a gauge. */
@@ -300,6 +364,7 @@ uint64_t chargeplan_gauge_step(
     const uint16_t *draws, size_t draws_length,
     const uint16_t *gains, size_t gains_length,
     const uint8_t *colours, size_t colours_length,
+    const uint8_t *actions, size_t actions_length,
     uint32_t b, uint32_t arc);
 
 /* The library's entry for the walk. */
@@ -310,6 +375,7 @@ uint64_t chargeplan_walk(
     const uint16_t *draws, size_t draws_length,
     const uint16_t *gains, size_t gains_length,
     const uint8_t *colours, size_t colours_length,
+    const uint8_t *actions, size_t actions_length,
     uint32_t c, uint32_t b,
     uint32_t p, uint32_t q,
     const uint8_t *plan, size_t plan_length,
@@ -323,7 +389,34 @@ struct chargeplan_reading chargeplan_read(
     uint8_t *targets, size_t targets_length,
     uint16_t *draws, size_t draws_length,
     uint16_t *gains, size_t gains_length,
-    uint8_t *colours, size_t colours_length);
+    uint8_t *colours, size_t colours_length,
+    uint8_t *actions, size_t actions_length);
+
+/*
+ * The library's entry for the join: the knee, the habit, and the lists to be filled, which may be of any lengths, also unequal ones, as
+ * those of reading.
+ */
+struct chargeplan_reading chargeplan_join(
+    uint32_t n1, uint32_t start1, uint32_t k1,
+    const uint8_t *sources1, size_t sources1_length,
+    const uint8_t *targets1, size_t targets1_length,
+    const uint16_t *draws1, size_t draws1_length,
+    const uint16_t *gains1, size_t gains1_length,
+    const uint8_t *colours1, size_t colours1_length,
+    const uint8_t *actions1, size_t actions1_length,
+    uint32_t n2, uint32_t start2, uint32_t k2,
+    const uint8_t *sources2, size_t sources2_length,
+    const uint8_t *targets2, size_t targets2_length,
+    const uint16_t *draws2, size_t draws2_length,
+    const uint16_t *gains2, size_t gains2_length,
+    const uint8_t *colours2, size_t colours2_length,
+    const uint8_t *actions2, size_t actions2_length,
+    uint8_t *sources, size_t sources_length,
+    uint8_t *targets, size_t targets_length,
+    uint16_t *draws, size_t draws_length,
+    uint16_t *gains, size_t gains_length,
+    uint8_t *colours, size_t colours_length,
+    uint8_t *actions, size_t actions_length);
 
 /* The number of an answer. */
 static inline uint32_t chargeplan_number(uint64_t answer)
@@ -395,56 +488,107 @@ static inline size_t chargeplan_plan_bytes(uint32_t n, uint32_t k, uint32_t b)
     return chargeplan_unsearchable(n, k, b) ? 0 : (size_t)(k + 2) * n * (b + 1);
 }
 
+/* The length of a model's list of actions: 0 where the pointer is null. */
+static inline size_t chargeplan_model_actions(const struct chargeplan_model *m)
+{
+    return m->actions == NULL ? 0 : m->arcs;
+}
+
+/* The same of a list to be filled. */
+static inline size_t chargeplan_lists_actions(const struct chargeplan_lists *lists)
+{
+    return lists->actions == NULL ? 0 : lists->room;
+}
+
 static inline uint64_t chargeplan_model_judge(const struct chargeplan_model *m, uint32_t c, uint32_t b, uint32_t p, uint32_t q,
     const uint8_t *plan)
 {
     return chargeplan_judge(m->n, m->start, m->k, m->sources, m->arcs, m->targets, m->arcs, m->draws, m->arcs, m->gains, m->arcs,
-        m->colours, m->arcs, c, b, p, q, plan, (size_t)p + q);
+        m->colours, m->arcs, m->actions, chargeplan_model_actions(m), c, b, p, q, plan, (size_t)p + q);
 }
 
 static inline uint64_t chargeplan_model_search(const struct chargeplan_model *m, uint32_t c, uint32_t b, uint16_t *work,
     size_t work_length, uint8_t *plan, size_t plan_length)
 {
     return chargeplan_search(m->n, m->start, m->k, m->sources, m->arcs, m->targets, m->arcs, m->draws, m->arcs, m->gains, m->arcs,
-        m->colours, m->arcs, c, b, work, work_length, plan, plan_length);
+        m->colours, m->arcs, m->actions, chargeplan_model_actions(m), c, b, work, work_length, plan, plan_length);
 }
 
 static inline struct chargeplan_started chargeplan_model_gauge_start(const struct chargeplan_model *m, uint32_t c, uint32_t b)
 {
     return chargeplan_gauge_start(m->n, m->start, m->k, m->sources, m->arcs, m->targets, m->arcs, m->draws, m->arcs, m->gains, m->arcs,
-        m->colours, m->arcs, c, b);
+        m->colours, m->arcs, m->actions, chargeplan_model_actions(m), c, b);
 }
 
 static inline uint64_t chargeplan_model_gauge_step(struct chargeplan_gauge *gauge, const struct chargeplan_model *m, uint32_t b,
     uint32_t arc)
 {
     return chargeplan_gauge_step(gauge, m->n, m->start, m->k, m->sources, m->arcs, m->targets, m->arcs, m->draws, m->arcs, m->gains,
-        m->arcs, m->colours, m->arcs, b, arc);
+        m->arcs, m->colours, m->arcs, m->actions, chargeplan_model_actions(m), b, arc);
 }
 
 static inline uint64_t chargeplan_model_walk(const struct chargeplan_model *m, uint32_t c, uint32_t b, uint32_t p, uint32_t q,
     const uint8_t *plan, uint32_t j, uint16_t allowance)
 {
     return chargeplan_walk(m->n, m->start, m->k, m->sources, m->arcs, m->targets, m->arcs, m->draws, m->arcs, m->gains, m->arcs,
-        m->colours, m->arcs, c, b, p, q, plan, (size_t)p + q, j, allowance);
+        m->colours, m->arcs, m->actions, chargeplan_model_actions(m), c, b, p, q, plan, (size_t)p + q, j, allowance);
+}
+
+/* The model of which a call has filled the lists. */
+static inline void chargeplan_model_filled(struct chargeplan_model *m, const struct chargeplan_lists *lists,
+    const struct chargeplan_reading *reading)
+{
+    m->n = reading->n;
+    m->start = reading->start;
+    m->k = reading->k;
+    m->sources = lists->sources;
+    m->targets = lists->targets;
+    m->draws = lists->draws;
+    m->gains = lists->gains;
+    m->colours = lists->colours;
+    m->actions = lists->actions;
+    m->arcs = reading->m;
 }
 
 static inline struct chargeplan_reading chargeplan_model_read(struct chargeplan_model *m, const struct chargeplan_lists *lists,
     const uint8_t *hoa, size_t hoa_length, const uint8_t *dimacs, size_t dimacs_length)
 {
     struct chargeplan_reading reading = chargeplan_read(hoa, hoa_length, dimacs, dimacs_length, lists->sources, lists->room,
-        lists->targets, lists->room, lists->draws, lists->room, lists->gains, lists->room, lists->colours, lists->room);
+        lists->targets, lists->room, lists->draws, lists->room, lists->gains, lists->room, lists->colours, lists->room, lists->actions,
+        chargeplan_lists_actions(lists));
 
-    m->n = reading.n;
-    m->start = reading.start;
-    m->k = reading.k;
-    m->sources = lists->sources;
-    m->targets = lists->targets;
-    m->draws = lists->draws;
-    m->gains = lists->gains;
-    m->colours = lists->colours;
-    m->arcs = reading.m;
+    chargeplan_model_filled(m, lists, &reading);
     return reading;
+}
+
+static inline struct chargeplan_reading chargeplan_model_join(struct chargeplan_model *m, const struct chargeplan_lists *lists,
+    const struct chargeplan_model *knee, const struct chargeplan_model *habit)
+{
+    struct chargeplan_reading reading = chargeplan_join(knee->n, knee->start, knee->k, knee->sources, knee->arcs, knee->targets,
+        knee->arcs, knee->draws, knee->arcs, knee->gains, knee->arcs, knee->colours, knee->arcs, knee->actions,
+        chargeplan_model_actions(knee), habit->n, habit->start, habit->k, habit->sources, habit->arcs, habit->targets, habit->arcs,
+        habit->draws, habit->arcs, habit->gains, habit->arcs, habit->colours, habit->arcs, habit->actions,
+        chargeplan_model_actions(habit), lists->sources, lists->room, lists->targets, lists->room, lists->draws, lists->room,
+        lists->gains, lists->room, lists->colours, lists->room, lists->actions, chargeplan_lists_actions(lists));
+
+    chargeplan_model_filled(m, lists, &reading);
+    return reading;
+}
+
+static inline struct chargeplan_pair chargeplan_model_pair(const struct chargeplan_model *knee, const struct chargeplan_model *habit,
+    uint32_t arc)
+{
+    size_t knee_arcs = chargeplan_model_actions(knee), habit_arcs = chargeplan_model_actions(habit), i, j;
+    struct chargeplan_pair pair = {(uint32_t)knee->arcs, (uint32_t)habit->arcs};
+
+    for (i = 0; i < knee_arcs; i++)
+        for (j = 0; j < habit_arcs; j++)
+            if (knee->actions[i] == habit->actions[j] && arc-- == 0) {
+                pair.knee = (uint32_t)i;
+                pair.habit = (uint32_t)j;
+                return pair;
+            }
+    return pair;
 }
 
 #ifdef __cplusplus

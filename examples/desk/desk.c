@@ -1,24 +1,29 @@
 /*
  * The fitting desk: reads a mission (the model of a knee, battery size and charge on arrival), searches a plan for it, judges it, and
  * runs it on the bench: a gauge is stepped through the prefix and two rounds of the cycle, and shows what each step loses at the bound;
- * a walk tells at which step each colour is first met.
+ * a walk tells at which step each colour is first met. Where the habit of a wearer is given, the knee is joined with it first.
  *
  *     desk MISSION
+ *     desk MISSION HABIT
  *     desk NAME.hoa BOUND CREDIT
  *     desk -h
  *
  * A mission is a text of lines, in any order: "modes N", "start MODE", "colours K", "bound B" and "credit C", each once, and for
- * each arc "arc SOURCE TARGET MOVE COLOUR..", with the numbers of the colours that the arc meets. A move is one word: "-9" draws 9, "5"
- * or "+5" gains 5, "0" does nothing, and "-5+8" draws 5 first and then gains 8. Other numbers have no sign: "-5 +3" cannot be read,
- * but "-5 3" can, as a draw of 5 and colour 3. What follows a '#' is a comment. A line has at most 250 characters and ends with LF, with
- * CR LF or with the file. A NUL byte cannot be read, nor a CR elsewhere, not even in a comment. Of the first line that cannot be read
- * stderr has the number and what is wrong in it.
+ * each arc "arc SOURCE TARGET MOVE COLOUR.. @ACTION", with the numbers of the colours that the arc meets and its action. A move is one
+ * word: "-9" draws 9, "5" or "+5" gains 5, "0" does nothing, and "-5+8" draws 5 first and then gains 8. The action is the last word, as
+ * "@3"; an arc without one has action 0. Other numbers have no sign: "-5 +3" cannot be read, but "-5 3" can, as a draw of 5 and colour
+ * 3. What follows a '#' is a comment. A line has at most 250 characters and ends with LF, with CR LF or with the file. A NUL byte cannot
+ * be read, nor a CR elsewhere, not even in a comment. Of the first line that cannot be read stderr has the number and what is wrong in it.
+ *
+ * A habit is written as a mission is, without "bound" and "credit". The planner joins the mission's knee with it, and the joined model is
+ * planned with the mission's bound and credit: each step is an arc of the knee and an arc of the habit with the same action. A refused
+ * join is told as the knee's, as the habit's, or by the size of both together.
  *
  * In place of a mission the model may stand in two texts, NAME.hoa and beside it NAME.dimacs, with the battery size BOUND and the charge
  * on arrival CREDIT. The planner reads them, and include/chargeplan.h has their forms (THE TEXTS). A damaged text is refused with its
- * name and its line.
- * Exit status: 0 a plan, or -h; 1 no plan exists; 2 refused; 3 the mission cannot be read, the answer cannot be written, or there is no
- * memory.
+ * name and its line. All arcs have action 0 there, so no habit can be given with it.
+ * Exit status: 0 a plan, or -h; 1 no plan exists; 2 refused; 3 the mission or the habit cannot be read, the answer cannot be written, or
+ * there is no memory.
  */
 #include "chargeplan.h"
 
@@ -44,11 +49,12 @@ enum { ARCS_KEPT = CHARGEPLAN_ARCS_MOST + 1 };
 /* The greatest colour that a byte of the list can hold. */
 enum { COLOUR_BIT_MOST = 7 };
 
-/* The numbers of a mission, in the order of their words. */
-enum { MODES, START, COLOURS, BOUND, CREDIT, NUMBERS };
+/* The numbers of a mission, in the order of their words; a habit has those before the bound. */
+enum { MODES, START, COLOURS, BOUND, CREDIT, NUMBERS, HABIT_NUMBERS = BOUND };
 
 static const char *const number_words[NUMBERS] = {"modes", "start", "colours", "bound", "credit"};
 
+/* A mission, or a habit, whose bound and credit are 0. */
 struct mission {
     uint32_t numbers[NUMBERS];
     unsigned lines[NUMBERS]; /* where each number stands; 0 where it has not been read */
@@ -58,6 +64,7 @@ struct mission {
     uint16_t draws[ARCS_KEPT];
     uint16_t gains[ARCS_KEPT];
     uint8_t met[ARCS_KEPT];
+    uint8_t actions[ARCS_KEPT];
 };
 
 /* The sentence that each number stands for, and what its detail is. A number that no call answers has no sentence. */
@@ -71,9 +78,12 @@ static const struct {
     [CHARGEPLAN_TEXTS_DISAGREE] = {"the two texts disagree in the number of modes or arcs, or in the ends of an arc", NULL},
     [CHARGEPLAN_MODE_COUNT] = {"the number of modes is 0 or above 64", NULL},
     [CHARGEPLAN_START_MODE] = {"the start mode is not below the number of modes", NULL},
-    [CHARGEPLAN_ARC_LISTS] = {"the five arc lists are of unequal length, or longer than 255", NULL},
+    [CHARGEPLAN_ARC_LISTS] = {"the six arc lists are of unequal length, or longer than 255", NULL},
     [CHARGEPLAN_COLOUR_COUNT] = {"there are more than 4 colours", NULL},
-    [CHARGEPLAN_UNFIT_ARC] = {"an arc has a mode or a colour that the model has not, or a draw or a gain above 10,000", "arc"},
+    [CHARGEPLAN_UNFIT_ARC] = {
+        "an arc has a mode or a colour that the model has not, a draw or a gain above 10,000, or an action above 15", "arc"},
+    [CHARGEPLAN_JOIN_SIZE] = {
+        "knee and habit together have more than 64 modes, 255 arcs or 4 colours, or an arc with a draw or a gain above 10,000", NULL},
     [CHARGEPLAN_LEVELS] = {"the bound is above 8,191, or the credit is above the bound", NULL},
     [CHARGEPLAN_MIXED_GAUGE] = {"the number of modes or arcs, or the bound, is not the one that the gauge was started with", NULL},
     [CHARGEPLAN_PRODUCT] = {"modes times (bound + 1) is above 8,192", NULL},
@@ -114,11 +124,15 @@ static int is_yes(const char *call, uint64_t answer)
     return 0;
 }
 
-/* A text that is being read, and the number of the line that was read last; 0 where there are no lines. */
+/*
+ * A text that is being read, the number of the line that was read last, 0 where there are no lines, and how many of the numbers' words
+ * its lines may have.
+ */
 struct text {
     const char *name;
     FILE *file;
     unsigned line;
+    int numbers;
 };
 
 /* Says what is wrong with the line that was read last. The answer is 0: it cannot be read. */
@@ -192,21 +206,28 @@ static int read_value(const struct text *t, const char *what, char *word, uint32
     return 1;
 }
 
+/* The line ends here; the answer is 0 where a word follows, with the reason printed. */
+static int read_line_end(const struct text *t, char *line)
+{
+    char *word = next_word(&line);
+
+    return word == NULL || wrong(t, "\"%s\" where the line should end", shown(word));
+}
+
 /* The number after its word, to the end of the line; once. */
 static int read_number(const struct text *t, struct mission *m, int which, char *line)
 {
     const char *name = number_words[which];
     char *word = next_word(&line);
 
+    if (which >= t->numbers)
+        return wrong(t, "a habit has no \"%s\": the mission has it", name);
     if (m->lines[which] > 0)
         return wrong(t, "\"%s\" a second time, after line %u", name, m->lines[which]);
     if (word == NULL)
         return wrong(t, "no number after \"%s\"", name);
-    if (!read_value(t, name, word, UINT32_MAX, &m->numbers[which]))
+    if (!read_value(t, name, word, UINT32_MAX, &m->numbers[which]) || !read_line_end(t, line))
         return 0;
-    word = next_word(&line);
-    if (word != NULL)
-        return wrong(t, "\"%s\" where the line should end", shown(word));
     m->lines[which] = t->line;
     return 1;
 }
@@ -259,30 +280,41 @@ static int read_move(const struct text *t, char **line, uint16_t *draw, uint16_t
     return 1;
 }
 
-/* The colours that an arc meets, a bit each, to the end of its line. */
-static int read_colours(const struct text *t, char *line, uint8_t *met)
+/* The action behind its '@', to the end of the line. */
+static int read_action(const struct text *t, char *word, char *line, uint8_t *action)
+{
+    uint32_t value = 0;
+
+    if (!read_value(t, "action", word, UINT8_MAX, &value) || !read_line_end(t, line))
+        return 0;
+    *action = (uint8_t)value;
+    return 1;
+}
+
+/* The colours that an arc meets, a bit each, and its action, if there is one, to the end of its line. */
+static int read_colours(const struct text *t, char *line, uint8_t *met, uint8_t *action)
 {
     unsigned bits = 0;
     uint32_t colour = 0;
     char *word;
 
-    while ((word = next_word(&line)) != NULL) {
+    while ((word = next_word(&line)) != NULL && *word != '@') {
         if (!read_value(t, "colour", word, COLOUR_BIT_MOST, &colour))
             return 0;
         bits |= 1u << colour;
     }
     *met = (uint8_t)bits;
-    return 1;
+    return word == NULL || read_action(t, word + 1, line, action);
 }
 
 /* One arc, to the end of the line. A number that its list can hold is left to the planner. */
 static int read_arc(const struct text *t, struct mission *m, char *line)
 {
-    uint8_t source = 0, target = 0, met = 0;
+    uint8_t source = 0, target = 0, met = 0, action = 0;
     uint16_t draw = 0, gain = 0;
 
     if (!read_end(t, "source", &line, &source) || !read_end(t, "target", &line, &target) || !read_move(t, &line, &draw, &gain)
-        || !read_colours(t, line, &met))
+        || !read_colours(t, line, &met, &action))
         return 0;
     if (m->arcs == ARCS_KEPT)
         return 1;
@@ -291,6 +323,7 @@ static int read_arc(const struct text *t, struct mission *m, char *line)
     m->draws[m->arcs] = draw;
     m->gains[m->arcs] = gain;
     m->met[m->arcs] = met;
+    m->actions[m->arcs] = action;
     m->arcs++;
     return 1;
 }
@@ -357,10 +390,10 @@ static int read_lines(struct text *t, struct mission *m)
     return !ferror(t->file) || wrong_file(t->name, "read");
 }
 
-/* The mission of a file; the answer is 0 where it cannot be read or lacks a number, with the reason printed. */
-static int read_mission(const char *name, struct mission *m)
+/* The mission or habit of a file, with so many numbers; the answer is 0 where it cannot be read or lacks one, with the reason printed. */
+static int read_mission(const char *name, int numbers, struct mission *m)
 {
-    struct text t = {name, fopen(name, "r"), 0};
+    struct text t = {name, fopen(name, "r"), 0, numbers};
     int fine, which;
 
     if (t.file == NULL)
@@ -368,7 +401,7 @@ static int read_mission(const char *name, struct mission *m)
     memset(m, 0, sizeof *m);
     fine = read_lines(&t, m);
     fclose(t.file);
-    for (which = 0; fine && which < NUMBERS; which++)
+    for (which = 0; fine && which < numbers; which++)
         if (m->lines[which] == 0) {
             fprintf(stderr, "%s: has no line \"%s\"\n", name, number_words[which]);
             fine = 0;
@@ -432,7 +465,7 @@ static void print_unread(const char *hoa, const char *dimacs, const struct charg
 /* Reads the model of a mission from two texts. The answer is an exit status: PLAN where it is read, REFUSED with the reason printed. */
 static int read_model(const char *hoa, const struct bytes *h, const char *dimacs, const struct bytes *d, struct mission *m)
 {
-    struct chargeplan_lists lists = {m->sources, m->targets, m->draws, m->gains, m->met, ARCS_KEPT};
+    struct chargeplan_lists lists = {m->sources, m->targets, m->draws, m->gains, m->met, m->actions, ARCS_KEPT};
     struct chargeplan_model model;
     struct chargeplan_reading reading = chargeplan_model_read(&model, &lists, h->at, h->length, d->at, d->length);
 
@@ -474,7 +507,7 @@ static int is_hoa(const char *name)
 static int read_pair(const char *hoa, char *bound, char *credit, struct mission *m)
 {
     static const char dimacs_end[] = ".dimacs";
-    struct text arguments = {"desk", NULL, 0};
+    struct text arguments = {"desk", NULL, 0, NUMBERS};
     size_t stem = strlen(hoa) - strlen(hoa_end);
     char *dimacs;
     int status;
@@ -499,10 +532,17 @@ static int read_pair(const char *hoa, char *bound, char *credit, struct mission 
 static struct chargeplan_model model_of(const struct mission *m)
 {
     struct chargeplan_model model = {m->numbers[MODES], m->numbers[START], m->numbers[COLOURS], m->sources, m->targets, m->draws,
-        m->gains, m->met, m->arcs};
+        m->gains, m->met, m->actions, m->arcs};
 
     return model;
 }
+
+/* What is planned: a model with its credit and bound and, where the model is joined, the knee and the habit; else they are null. */
+struct task {
+    struct chargeplan_model model;
+    uint32_t c, b;
+    const struct chargeplan_model *knee, *habit;
+};
 
 /* The longest word of a move, with its end. */
 enum { MOVE = sizeof "-65535+65535" };
@@ -516,17 +556,41 @@ static void write_move(char word[MOVE], uint16_t draw, uint16_t gain)
         snprintf(word, MOVE, "%s%u", draw > 0 ? "-" : "", (unsigned)(draw > 0 ? draw : gain));
 }
 
-/* Steps the gauge on an arc, and prints the arc's move, the gauge and the step's spill. The answer is 0 where the step is refused. */
-static int run_arc(const struct chargeplan_model *model, uint32_t b, uint8_t arc, struct chargeplan_gauge *gauge)
+/* Prints a mode, in so many places: of a joined model those of the knee and of the habit. */
+static void print_mode(const struct task *task, int width, uint32_t mode)
+{
+    if (task->knee == NULL)
+        printf("mode %*u", width, (unsigned)mode);
+    else
+        printf("modes %*u, %*u", width, (unsigned)(mode / task->habit->n), width, (unsigned)(mode % task->habit->n));
+}
+
+/* Prints an arc by its number: of a joined model those of the knee and of the habit, and their action. */
+static void print_arc(const struct task *task, uint8_t arc)
+{
+    struct chargeplan_pair pair;
+
+    if (task->knee == NULL) {
+        printf("  arc %3u", (unsigned)arc);
+        return;
+    }
+    pair = chargeplan_model_pair(task->knee, task->habit, arc);
+    printf("  knee %3u  habit %3u  action %2u", (unsigned)pair.knee, (unsigned)pair.habit, (unsigned)task->model.actions[arc]);
+}
+
+/* Steps the gauge on an arc, and prints the arc, its move, the gauge and the step's spill. The answer is 0 where the step is refused. */
+static int run_arc(const struct task *task, uint8_t arc, struct chargeplan_gauge *gauge)
 {
     uint64_t before = gauge->spill;
     char move[MOVE];
 
-    if (!is_yes("the gauge refuses", chargeplan_model_gauge_step(gauge, model, b, arc)))
+    if (!is_yes("the gauge refuses", chargeplan_model_gauge_step(gauge, &task->model, task->b, arc)))
         return 0;
-    write_move(move, model->draws[arc], model->gains[arc]);
-    printf("  arc %3u  move %6s  mode %2u  charge %4u  spill %4" PRIu64 "\n", (unsigned)arc, move, (unsigned)gauge->mode,
-        (unsigned)gauge->charge, gauge->spill - before);
+    write_move(move, task->model.draws[arc], task->model.gains[arc]);
+    print_arc(task, arc);
+    printf("  move %6s  ", move);
+    print_mode(task, 2, gauge->mode);
+    printf("  charge %4u  spill %4" PRIu64 "\n", (unsigned)gauge->charge, gauge->spill - before);
     return 1;
 }
 
@@ -534,18 +598,17 @@ static int run_arc(const struct chargeplan_model *model, uint32_t b, uint8_t arc
  * Steps the gauge over some arcs of the plan; at the end prints the charge, and what they drew, gained and lost: the charge before and
  * the gains are the charge after, the draws and the spill. The answer is 0 where a step is refused.
  */
-static int run_arcs(const struct chargeplan_model *model, uint32_t b, const char *title, const uint8_t *arcs, uint32_t count,
-    struct chargeplan_gauge *gauge)
+static int run_arcs(const struct task *task, const char *title, const uint8_t *arcs, uint32_t count, struct chargeplan_gauge *gauge)
 {
     uint64_t at_first = gauge->spill, draws = 0, gains = 0;
     uint32_t i;
 
     printf("%s, %u %s, from charge %u\n", title, (unsigned)count, count == 1 ? "arc" : "arcs", (unsigned)gauge->charge);
     for (i = 0; i < count; i++) {
-        if (!run_arc(model, b, arcs[i], gauge))
+        if (!run_arc(task, arcs[i], gauge))
             return 0;
-        draws += model->draws[arcs[i]];
-        gains += model->gains[arcs[i]];
+        draws += task->model.draws[arcs[i]];
+        gains += task->model.gains[arcs[i]];
     }
     printf("  ends with charge %u; draws %" PRIu64 ", gains %" PRIu64 ", spill %" PRIu64 "\n", (unsigned)gauge->charge, draws, gains,
         gauge->spill - at_first);
@@ -553,66 +616,78 @@ static int run_arcs(const struct chargeplan_model *model, uint32_t b, const char
 }
 
 /* The plan on the bench: its prefix and two rounds of its cycle. The answer is 0 where the gauge refuses. */
-static int run_plan(const struct chargeplan_model *model, uint32_t c, uint32_t b, const uint8_t *plan, uint32_t p, uint32_t q)
+static int run_plan(const struct task *task, const uint8_t *plan, uint32_t p, uint32_t q)
 {
-    struct chargeplan_started started = chargeplan_model_gauge_start(model, c, b);
+    struct chargeplan_started started = chargeplan_model_gauge_start(&task->model, task->c, task->b);
     struct chargeplan_gauge *gauge = &started.gauge;
 
-    if (!is_yes("the gauge does not start", started.answer) || !run_arcs(model, b, "prefix", plan, p, gauge)
-        || !run_arcs(model, b, "first round", plan + p, q, gauge) || !run_arcs(model, b, "second round", plan + p, q, gauge))
+    if (!is_yes("the gauge does not start", started.answer) || !run_arcs(task, "prefix", plan, p, gauge)
+        || !run_arcs(task, "first round", plan + p, q, gauge) || !run_arcs(task, "second round", plan + p, q, gauge))
         return 0;
     printf("spill in all: %" PRIu64 "\n", gauge->spill);
     return 1;
 }
 
+/* Prints a colour: of a joined model one of the knee or of the habit. */
+static void print_colour(const struct task *task, uint32_t j)
+{
+    if (task->knee == NULL)
+        printf("colour %u", (unsigned)j);
+    else if (j < task->knee->k)
+        printf("the knee's colour %u", (unsigned)j);
+    else
+        printf("the habit's colour %u", (unsigned)(j - task->knee->k));
+}
+
 /* The step, counted from 1, at which each colour is first met. The answer is 0 where the walk refuses. */
-static int print_colours(const struct chargeplan_model *model, uint32_t c, uint32_t b, const uint8_t *plan, uint32_t p, uint32_t q)
+static int print_colours(const struct task *task, const uint8_t *plan, uint32_t p, uint32_t q)
 {
     uint32_t j;
 
-    for (j = 0; j < model->k; j++) {
-        uint64_t answer = chargeplan_model_walk(model, c, b, p, q, plan, j, UINT16_MAX);
+    for (j = 0; j < task->model.k; j++) {
+        uint64_t answer = chargeplan_model_walk(&task->model, task->c, task->b, p, q, plan, j, UINT16_MAX);
 
         if (!is_yes("the walk refuses", answer))
             return 0;
+        print_colour(task, j);
         if (chargeplan_met(answer))
-            printf("colour %u is first met at step %u\n", (unsigned)j, (unsigned)chargeplan_steps(answer));
+            printf(" is first met at step %u\n", (unsigned)chargeplan_steps(answer));
         else
-            printf("colour %u is not met in %u steps\n", (unsigned)j, (unsigned)chargeplan_steps(answer));
+            printf(" is not met in %u steps\n", (unsigned)chargeplan_steps(answer));
     }
     return 1;
 }
 
 /* Searches, and tells what came of it. */
-static int plan_mission(const struct chargeplan_model *model, uint32_t c, uint32_t b, uint16_t *work, size_t words, uint8_t *plan,
-    size_t bytes)
+static int search_plan(const struct task *task, uint16_t *work, size_t words, uint8_t *plan, size_t bytes)
 {
-    uint64_t answer = chargeplan_model_search(model, c, b, work, words, plan, bytes);
+    uint64_t answer = chargeplan_model_search(&task->model, task->c, task->b, work, words, plan, bytes);
     uint32_t p = chargeplan_prefix(answer);
     uint32_t q = chargeplan_cycle(answer);
 
     if (chargeplan_number(answer) == CHARGEPLAN_NO_PLAN) {
-        printf("no plan exists for this model with bound %u and credit %u\n", (unsigned)b, (unsigned)c);
+        printf("no plan exists for this %s with bound %u and credit %u\n", task->knee == NULL ? "model" : "knee and habit",
+            (unsigned)task->b, (unsigned)task->c);
         return NO_PLAN;
     }
     if (!is_yes("search refuses", answer))
         return REFUSED;
-    printf("plan: prefix %u, cycle %u; from mode %u with charge %u\n", (unsigned)p, (unsigned)q, (unsigned)model->start, (unsigned)c);
-    if (!is_yes("judging refuses", chargeplan_model_judge(model, c, b, p, q, plan)))
+    printf("plan: prefix %u, cycle %u; from ", (unsigned)p, (unsigned)q);
+    print_mode(task, 1, task->model.start);
+    printf(" with charge %u\n", (unsigned)task->c);
+    if (!is_yes("judging refuses", chargeplan_model_judge(&task->model, task->c, task->b, p, q, plan)))
         return REFUSED;
     printf("judged: feasible and accepted\n");
     /* A plan so judged is refused neither by the gauge nor by the walk. */
-    return run_plan(model, c, b, plan, p, q) && print_colours(model, c, b, plan, p, q) ? PLAN : REFUSED;
+    return run_plan(task, plan, p, q) && print_colours(task, plan, p, q) ? PLAN : REFUSED;
 }
 
-/* Lends the buffers that the mission's search needs, and tells what came of it. */
-static int answer_mission(const struct mission *m)
+/* Lends the buffers that the search needs, and tells what came of it. */
+static int answer_task(const struct task *task)
 {
-    struct chargeplan_model model = model_of(m);
-    uint32_t bound = m->numbers[BOUND];
     /* Where the numbers are refused in any case, no buffer is needed: both sizes are 0. */
-    size_t words = chargeplan_work_words(model.n, model.k, bound);
-    size_t bytes = chargeplan_plan_bytes(model.n, model.k, bound);
+    size_t words = chargeplan_work_words(task->model.n, task->model.k, task->b);
+    size_t bytes = chargeplan_plan_bytes(task->model.n, task->model.k, task->b);
     uint16_t *work = malloc(words * sizeof *work);
     uint8_t *plan = malloc(bytes);
     int status = FAILED;
@@ -620,15 +695,80 @@ static int answer_mission(const struct mission *m)
     if (words > 0 && (work == NULL || plan == NULL))
         fprintf(stderr, "no memory for %lu words and %lu bytes\n", (unsigned long)words, (unsigned long)bytes);
     else
-        status = plan_mission(&model, m->numbers[CREDIT], bound, work, words, plan, bytes);
+        status = search_plan(task, work, words, plan, bytes);
     free(work);
     free(plan);
     return status;
 }
 
+/* Plans a mission. */
+static int answer_mission(const struct mission *m)
+{
+    struct task task = {model_of(m), m->numbers[CREDIT], m->numbers[BOUND], NULL, NULL};
+
+    return answer_task(&task);
+}
+
+/* What two fit models would have together, so that the fitter sees which size 23 refuses. */
+static void print_together(const struct chargeplan_model *knee, const struct chargeplan_model *habit)
+{
+    unsigned arcs = 0, draw = 0, gain = 0;
+    size_t i, j;
+
+    for (i = 0; i < knee->arcs; i++)
+        for (j = 0; j < habit->arcs; j++) {
+            unsigned drawn = (unsigned)knee->draws[i] + habit->draws[j], gained = (unsigned)knee->gains[i] + habit->gains[j];
+
+            if (knee->actions[i] != habit->actions[j])
+                continue;
+            arcs++;
+            draw = drawn > draw ? drawn : draw;
+            gain = gained > gain ? gained : gain;
+        }
+    printf("together: modes %u, arcs %u, colours %u, draws up to %u, gains up to %u\n", (unsigned)(knee->n * habit->n), arcs,
+        (unsigned)(knee->k + habit->k), draw, gain);
+}
+
+/* Whether 1 to 5 do not refuse a model: with credit and bound 0, a gauge of it is refused by nothing else. */
+static int is_fit(const struct chargeplan_model *model)
+{
+    return chargeplan_number(chargeplan_model_gauge_start(model, 0, 0).answer) == CHARGEPLAN_YES;
+}
+
+/* Prints a refused join. The answer does not tell whose 1 to 5 are; the knee is looked at first, so they are the habit's if it is fit. */
+static void print_unjoined(const struct chargeplan_reading *reading, const struct chargeplan_model *knee,
+    const struct chargeplan_model *habit)
+{
+    if (reading->number == CHARGEPLAN_JOIN_SIZE) {
+        print_refusal("the join refuses", reading->number, reading->detail);
+        print_together(knee, habit);
+    } else {
+        print_refusal(is_fit(knee) ? "the join refuses the habit" : "the join refuses the knee", reading->number, reading->detail);
+    }
+}
+
+/* Joins the knee of a mission with a habit, and plans the joined model with the mission's credit and bound. */
+static int answer_joined(const struct mission *m, const struct mission *h)
+{
+    struct mission joined; /* its lists alone are used */
+    struct chargeplan_lists lists = {
+        joined.sources, joined.targets, joined.draws, joined.gains, joined.met, joined.actions, CHARGEPLAN_ARCS_MOST};
+    struct chargeplan_model knee = model_of(m), habit = model_of(h), model;
+    struct chargeplan_reading reading = chargeplan_model_join(&model, &lists, &knee, &habit);
+    struct task task = {model, m->numbers[CREDIT], m->numbers[BOUND], &knee, &habit};
+
+    if (reading.number != CHARGEPLAN_YES) {
+        print_unjoined(&reading, &knee, &habit);
+        return REFUSED;
+    }
+    printf("joined: modes %u, colours %u, arcs %u\n", (unsigned)reading.n, (unsigned)reading.k, (unsigned)reading.m);
+    return answer_task(&task);
+}
+
 static void print_help(void)
 {
     printf("usage: desk MISSION\n"
+           "       desk MISSION HABIT\n"
            "       desk NAME.hoa BOUND CREDIT\n"
            "\n"
            "Searches a plan for a mission, judges it and runs it on the bench. A mission is a text of lines, in any order:\n"
@@ -638,15 +778,20 @@ static void print_help(void)
            "    colours K                          how many colours (duties), numbered from 0\n"
            "    bound B                            the battery size\n"
            "    credit C                           the charge on arrival\n"
-           "    arc SOURCE TARGET MOVE COLOUR..    one for each arc, with the numbers of the colours that it meets\n"
+           "    arc SOURCE TARGET MOVE COLOUR.. @ACTION\n"
+           "                                       one for each arc, with the numbers of the colours that it meets, and its action\n"
            "\n"
-           "MOVE is -DRAW, GAIN, +GAIN or -DRAW+GAIN. What follows a '#' is a comment. A line has at most %d characters.\n"
+           "MOVE is -DRAW, GAIN, +GAIN or -DRAW+GAIN. An arc without @ACTION has action 0. What follows a '#' is a comment. A line has\n"
+           "at most %d characters.\n"
+           "\n"
+           "HABIT is a text of the same lines without bound and credit: what the wearer of the knee does. The knee is joined with it:\n"
+           "each step of the plan is an arc of the knee and an arc of the habit with the same action.\n"
            "\n"
            "In place of a mission the model may stand in two texts: NAME.hoa, in HOA version 1, and beside it NAME.dimacs, in the DIMACS\n"
            "shortest-path form. include/chargeplan.h says which lines they have.\n"
            "\n"
-           "Exit status: 0 a plan, 1 no plan exists, 2 refused, 3 the mission cannot be read, the answer cannot be written, or there is\n"
-           "no memory.\n",
+           "Exit status: 0 a plan, 1 no plan exists, 2 refused, 3 the mission or the habit cannot be read, the answer cannot be written,\n"
+           "or there is no memory.\n",
         LINE);
 }
 
@@ -661,28 +806,33 @@ static int close_output(int status)
     return FAILED;
 }
 
-/* The mission that the arguments name. The answer is an exit status: PLAN where it is read. */
-static int read_arguments(int argc, char **argv, struct mission *m)
+/* Plans what the arguments name. The answer is an exit status. */
+static int answer_arguments(int argc, char **argv)
 {
+    struct mission m, habit;
+    int status;
+
     if (argc == 2 && !is_hoa(argv[1]))
-        return read_mission(argv[1], m) ? PLAN : FAILED;
-    if (argc == 4 && is_hoa(argv[1]))
-        return read_pair(argv[1], argv[2], argv[3], m);
-    fprintf(stderr, "usage: desk MISSION, or desk NAME.hoa BOUND CREDIT (desk -h says what they are)\n");
+        return read_mission(argv[1], NUMBERS, &m) ? answer_mission(&m) : FAILED;
+    if (argc == 3 && !is_hoa(argv[1]) && !is_hoa(argv[2]))
+        return read_mission(argv[1], NUMBERS, &m) && read_mission(argv[2], HABIT_NUMBERS, &habit) ? answer_joined(&m, &habit)
+                                                                                                  : FAILED;
+    if (argc == 4 && is_hoa(argv[1])) {
+        status = read_pair(argv[1], argv[2], argv[3], &m);
+        return status == PLAN ? answer_mission(&m) : status;
+    }
+    fprintf(stderr, "usage: desk MISSION, desk MISSION HABIT, or desk NAME.hoa BOUND CREDIT (desk -h says what they are)\n");
     return FAILED;
 }
 
 int main(int argc, char **argv)
 {
-    struct mission m;
     int status;
 
     if (argc == 2 && (strcmp(argv[1], "-h") == 0 || strcmp(argv[1], "--help") == 0)) {
         print_help();
         return close_output(EXIT_SUCCESS);
     }
-    status = read_arguments(argc, argv, &m);
-    if (status == PLAN)
-        status = answer_mission(&m);
+    status = answer_arguments(argc, argv);
     return status == FAILED ? FAILED : close_output(status);
 }

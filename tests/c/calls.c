@@ -89,6 +89,7 @@ struct lent lend(const struct model *m)
     l.draws = copied(m->draws, m->draws_length * sizeof *m->draws);
     l.gains = copied(m->gains, m->gains_length * sizeof *m->gains);
     l.colours = copied(m->colours, m->colours_length);
+    l.actions = copied(m->actions, m->actions_length);
     return l;
 }
 
@@ -97,12 +98,13 @@ void take_back(const struct model *m, struct lent l, const char *what)
     check(same(l.sources, m->sources, m->sources_length) && same(l.targets, m->targets, m->targets_length)
             && same(l.draws, m->draws, m->draws_length * sizeof *m->draws)
             && same(l.gains, m->gains, m->gains_length * sizeof *m->gains)
-            && same(l.colours, m->colours, m->colours_length), what);
+            && same(l.colours, m->colours, m->colours_length) && same(l.actions, m->actions, m->actions_length), what);
     free(l.sources);
     free(l.targets);
     free(l.draws);
     free(l.gains);
     free(l.colours);
+    free(l.actions);
 }
 
 uint64_t judge(const char *what, const struct model *m, uint32_t c, uint32_t b, uint32_t p, uint32_t q,
@@ -111,7 +113,8 @@ uint64_t judge(const char *what, const struct model *m, uint32_t c, uint32_t b, 
     struct lent l = lend(m);
     uint8_t *bytes = copied(plan, length);
     uint64_t answer = chargeplan_judge(m->n, m->start, m->k, l.sources, m->sources_length, l.targets, m->targets_length,
-        l.draws, m->draws_length, l.gains, m->gains_length, l.colours, m->colours_length, c, b, p, q, bytes, length);
+        l.draws, m->draws_length, l.gains, m->gains_length, l.colours, m->colours_length, l.actions, m->actions_length, c, b, p, q,
+        bytes, length);
 
     check(same(bytes, plan, length), what);
     free(bytes);
@@ -191,7 +194,8 @@ static uint64_t search_to(const char *what, const struct model *m, uint32_t c, u
     struct lent l = lend(m);
     struct buffers s = lend_buffers(words, bytes, junk);
     uint64_t answer = chargeplan_search(m->n, m->start, m->k, l.sources, m->sources_length, l.targets, m->targets_length,
-        l.draws, m->draws_length, l.gains, m->gains_length, l.colours, m->colours_length, c, b, s.work, words, s.plan, bytes);
+        l.draws, m->draws_length, l.gains, m->gains_length, l.colours, m->colours_length, l.actions, m->actions_length, c, b, s.work,
+        words, s.plan, bytes);
     uint32_t number = chargeplan_number(answer);
 
     if (number == CHARGEPLAN_YES) {
@@ -279,7 +283,8 @@ uint64_t start_gauge(const char *what, struct gauge *g, const struct model *m, u
 {
     struct lent l = lend(m);
     struct chargeplan_started s = chargeplan_gauge_start(m->n, m->start, m->k, l.sources, m->sources_length, l.targets,
-        m->targets_length, l.draws, m->draws_length, l.gains, m->gains_length, l.colours, m->colours_length, c, b);
+        m->targets_length, l.draws, m->draws_length, l.gains, m->gains_length, l.colours, m->colours_length, l.actions,
+        m->actions_length, c, b);
 
     *g = read_gauge(&s.gauge);
     take_back(m, l, what);
@@ -303,7 +308,7 @@ uint64_t step_gauge(const char *what, struct gauge *g, const struct model *m, ui
     struct chargeplan_gauge *lent = lend_gauge(*g);
     struct gauge kept = *g;
     uint64_t answer = chargeplan_gauge_step(lent, m->n, m->start, m->k, l.sources, m->sources_length, l.targets, m->targets_length,
-        l.draws, m->draws_length, l.gains, m->gains_length, l.colours, m->colours_length, b, arc);
+        l.draws, m->draws_length, l.gains, m->gains_length, l.colours, m->colours_length, l.actions, m->actions_length, b, arc);
 
     *g = read_gauge(lent);
     if (chargeplan_number(answer) == CHARGEPLAN_YES) {
@@ -339,7 +344,8 @@ uint64_t walk(const char *what, const struct model *m, uint32_t c, uint32_t b, u
     struct lent l = lend(m);
     uint8_t *bytes = copied(plan, length);
     uint64_t answer = chargeplan_walk(m->n, m->start, m->k, l.sources, m->sources_length, l.targets, m->targets_length,
-        l.draws, m->draws_length, l.gains, m->gains_length, l.colours, m->colours_length, c, b, p, q, bytes, length, j, allowance);
+        l.draws, m->draws_length, l.gains, m->gains_length, l.colours, m->colours_length, l.actions, m->actions_length, c, b, p, q,
+        bytes, length, j, allowance);
 
     check(same(bytes, plan, length), what);
     free(bytes);

@@ -34,7 +34,7 @@ int same(const void *x, const void *y, size_t bytes);
 
 /* The lists of a model in blocks of their own. */
 struct lent {
-    uint8_t *sources, *targets, *colours;
+    uint8_t *sources, *targets, *colours, *actions;
     uint16_t *draws, *gains;
 };
 
@@ -121,7 +121,10 @@ struct outcome walk_refused(uint32_t number, uint32_t detail);
 /* Every call is refused by one of 1 to 6, whatever plan, colour, allowance, buffers and gauge are. A step reads c from its gauge. */
 void all_refused(const char *what, const struct model *m, uint32_t c, uint32_t b, uint32_t number, uint32_t detail);
 
-/* A model with start mode 0 and five lists of one length. */
+/* How many lists a model has. */
+enum { MODEL_LISTS = 6 };
+
+/* A model with start mode 0, lists of one length, up to 256, and action 0 of every arc. */
 struct model model(uint32_t n, uint32_t k, size_t arcs, const uint8_t *sources, const uint8_t *targets, const uint16_t *draws,
     const uint16_t *gains, const uint8_t *colours);
 
@@ -131,9 +134,9 @@ struct model without_arcs(uint32_t n, uint32_t k);
 /* The model without its last arc, if it has any; the lists are of one length. */
 struct model without_last(const struct model *m);
 
-/* The five lists of a model. */
+/* The lists of a model. */
 struct lists {
-    uint8_t sources[CHARGEPLAN_ARCS_MOST], targets[CHARGEPLAN_ARCS_MOST], colours[CHARGEPLAN_ARCS_MOST];
+    uint8_t sources[CHARGEPLAN_ARCS_MOST], targets[CHARGEPLAN_ARCS_MOST], colours[CHARGEPLAN_ARCS_MOST], actions[CHARGEPLAN_ARCS_MOST];
     uint16_t draws[CHARGEPLAN_ARCS_MOST], gains[CHARGEPLAN_ARCS_MOST];
 };
 
@@ -154,6 +157,9 @@ enum { SMALL_ARCS_MOST = 8, SMALL_MOVE_MOST = 6 };
 
 /* A small model in these lists, with 4 modes or fewer. */
 struct model random_fit_model(struct lists *lists);
+
+/* A small model in these lists; one in five has something unfit. Lists of another length have elements enough. */
+struct model random_model(struct lists *lists);
 
 /* Gives the first arcs of the lists random draws and gains up to these; of three, one draws, one gains, and one does both. */
 void random_moves(struct lists *lists, size_t arcs, uint32_t draw_most, uint32_t gain_most);
@@ -251,6 +257,21 @@ void test_read_damaged_lines(void);
 void test_read_cut_texts(void);
 void test_read_rows(void);
 void test_read_long_texts(unsigned long lines);
+void test_unfit_actions(void);
+void test_examples_with_actions(void);
+void test_join_pairs(void);
+void test_join_empty(void);
+void test_join_numbers(void);
+void test_join_unequal(void);
+void test_join_unfit(void);
+void test_join_lone(void);
+void test_join_order(void);
+void test_join_sizes(void);
+void test_join_rooms(void);
+void test_join_last(void);
+void test_two_wearers(void);
+void test_join_functions(void);
+void test_no_actions(void);
 void test_random(unsigned long models);
 void test_random_large(unsigned long models);
 void test_random_draws(unsigned long models);
@@ -267,5 +288,10 @@ void test_random_large_readings(unsigned long models);
 void test_random_damages(unsigned long texts);
 void test_random_blocks(unsigned long texts);
 void test_random_texts(unsigned long texts);
+void test_random_actions(unsigned long models);
+void test_random_joins(unsigned long models);
+void test_random_large_joins(unsigned long models);
+void test_random_joined_plans(unsigned long models);
+void test_random_pairs(unsigned long models);
 
 #endif

@@ -13,13 +13,16 @@ static const uint8_t j_colours[] = {1, 2};
 struct model model(uint32_t n, uint32_t k, size_t arcs, const uint8_t *sources, const uint8_t *targets, const uint16_t *draws,
     const uint16_t *gains, const uint8_t *colours)
 {
-    struct model m = {n, 0, k, sources, arcs, targets, arcs, draws, arcs, gains, arcs, colours, arcs, NULL};
+    struct model m = {n, 0, k, sources, arcs, targets, arcs, draws, arcs, gains, arcs, colours, arcs, zeros, arcs, NULL};
     return m;
 }
 
 struct model listed(uint32_t n, uint32_t k, const struct lists *lists, size_t arcs)
 {
-    return model(n, k, arcs, lists->sources, lists->targets, lists->draws, lists->gains, lists->colours);
+    struct model m = model(n, k, arcs, lists->sources, lists->targets, lists->draws, lists->gains, lists->colours);
+
+    m.actions = lists->actions;
+    return m;
 }
 
 void put(struct lists *to, size_t at, struct arc arc)
@@ -29,6 +32,7 @@ void put(struct lists *to, size_t at, struct arc arc)
     to->draws[at] = (uint16_t)arc.draw;
     to->gains[at] = (uint16_t)arc.gain;
     to->colours[at] = (uint8_t)arc.colours;
+    to->actions[at] = (uint8_t)arc.action;
 }
 
 struct model without_arcs(uint32_t n, uint32_t k)
@@ -42,6 +46,7 @@ struct model without_last(const struct model *m)
     struct model r = model(m->n, m->k, arcs, m->sources, m->targets, m->draws, m->gains, m->colours);
 
     r.start = m->start;
+    r.actions = m->actions;
     return r;
 }
 
@@ -127,17 +132,18 @@ void test_numbers(void)
     all_refused("1 before 2", &m, 0, 5, CHARGEPLAN_MODE_COUNT, 0);
 }
 
-/* The five lists, by their places, and a set of all of them with a bit for each. */
-enum { LISTS = 5, ALL_LISTS = (1 << LISTS) - 1 };
+/* A set of all lists of a model, by their places, with a bit for each. */
+enum { ALL_LISTS = (1 << MODEL_LISTS) - 1 };
 
 /* So many arcs that change nothing, where the lists of a set have another length. */
 static struct model unequal(size_t arcs, unsigned set, size_t length)
 {
     struct model m = model(1, 0, arcs, zeros, zeros, nothing, nothing, zeros);
-    size_t *lengths[LISTS] = {&m.sources_length, &m.targets_length, &m.draws_length, &m.gains_length, &m.colours_length};
+    size_t *lengths[MODEL_LISTS] = {
+        &m.sources_length, &m.targets_length, &m.draws_length, &m.gains_length, &m.colours_length, &m.actions_length};
     unsigned list;
 
-    for (list = 0; list < LISTS; list++)
+    for (list = 0; list < MODEL_LISTS; list++)
         if (set >> list & 1)
             *lengths[list] = length;
     return m;
@@ -167,15 +173,16 @@ static void some_unequal(const char *what, size_t arcs, size_t length)
 void test_lists(void)
 {
     static const char *const shorter[] = {"3: sources one short", "3: targets one short", "3: draws one short", "3: gains one short",
-        "3: colours one short"};
+        "3: colours one short", "3: actions one short"};
     static const char *const longer[] = {"3: sources one long", "3: targets one long", "3: draws one long", "3: gains one long",
-        "3: colours one long"};
-    static const char *const missing[] = {"3: no sources", "3: no targets", "3: no draws", "3: no gains", "3: no colours"};
+        "3: colours one long", "3: actions one long"};
+    static const char *const missing[] = {
+        "3: no sources", "3: no targets", "3: no draws", "3: no gains", "3: no colours", "3: no actions"};
     enum { MOST = CHARGEPLAN_ARCS_MOST };
     struct model m;
     unsigned list;
 
-    for (list = 0; list < LISTS; list++) {
+    for (list = 0; list < MODEL_LISTS; list++) {
         one_unequal(shorter[list], list, 3, 2);
         one_unequal(longer[list], list, 3, 4);
         one_unequal(missing[list], list, 3, 0);
@@ -228,28 +235,32 @@ static void fit_arc(const char *what, size_t at, struct arc arc)
 /* 5. */
 void test_arcs(void)
 {
-    enum { DRAW = CHARGEPLAN_DRAW_MOST, GAIN = CHARGEPLAN_GAIN_MOST };
+    enum { DRAW = CHARGEPLAN_DRAW_MOST, GAIN = CHARGEPLAN_GAIN_MOST, ACTION = CHARGEPLAN_ACTION_MOST };
     static const struct {
         const char *what;
         struct arc arc;
     } unfit[] = {
-        {"5: source n", {2, 0, 0, 0, 0}},
-        {"5: source 255", {255, 0, 0, 0, 0}},
-        {"5: target n", {0, 2, 0, 0, 0}},
-        {"5: colour bit k", {0, 0, 0, 0, 2}},
-        {"5: colour bit 7", {0, 0, 0, 0, 129}},
-        {"5: draw 10,001", {0, 0, DRAW + 1, 0, 0}},
-        {"5: gain 10,001", {0, 0, 0, GAIN + 1, 0}},
-        {"5: draw 10,001, the greatest gain", {0, 0, DRAW + 1, GAIN, 0}},
-        {"5: gain 10,001, the greatest draw", {0, 0, DRAW, GAIN + 1, 0}},
-        {"5: draw 32,768", {0, 0, 32768, 0, 0}},
-        {"5: gain 32,768", {0, 0, 0, 32768, 0}},
-        {"5: draw 65,535", {0, 0, UINT16_MAX, 0, 0}},
-        {"5: gain 65,535", {0, 0, 0, UINT16_MAX, 0}},
-        {"5: both 65,535", {0, 0, UINT16_MAX, UINT16_MAX, 0}},
+        {"5: source n", {2, 0, 0, 0, 0, 0}},
+        {"5: source 255", {255, 0, 0, 0, 0, 0}},
+        {"5: target n", {0, 2, 0, 0, 0, 0}},
+        {"5: colour bit k", {0, 0, 0, 0, 2, 0}},
+        {"5: colour bit 7", {0, 0, 0, 0, 129, 0}},
+        {"5: draw 10,001", {0, 0, DRAW + 1, 0, 0, 0}},
+        {"5: gain 10,001", {0, 0, 0, GAIN + 1, 0, 0}},
+        {"5: draw 10,001, the greatest gain", {0, 0, DRAW + 1, GAIN, 0, 0}},
+        {"5: gain 10,001, the greatest draw", {0, 0, DRAW, GAIN + 1, 0, 0}},
+        {"5: draw 32,768", {0, 0, 32768, 0, 0, 0}},
+        {"5: gain 32,768", {0, 0, 0, 32768, 0, 0}},
+        {"5: draw 65,535", {0, 0, UINT16_MAX, 0, 0, 0}},
+        {"5: gain 65,535", {0, 0, 0, UINT16_MAX, 0, 0}},
+        {"5: both 65,535", {0, 0, UINT16_MAX, UINT16_MAX, 0, 0}},
+        {"5: action 16", {0, 0, 0, 0, 0, ACTION + 1}},
+        {"5: action 31", {0, 0, 0, 0, 0, 31}},
+        {"5: action 128", {0, 0, 0, 0, 0, 128}},
+        {"5: action 255", {0, 0, 0, 0, 0, 255}},
     };
-    static const struct arc gain_most = {0, 0, 0, GAIN, 0}, draw_most = {0, 0, DRAW, 0, 0}, both_most = {0, 0, DRAW, GAIN, 0},
-                            coloured = {0, 0, 0, 1, 1};
+    static const struct arc gain_most = {0, 0, 0, GAIN, 0, 0}, draw_most = {0, 0, DRAW, 0, 0, 0}, both_most = {0, 0, DRAW, GAIN, 0, 0},
+                            coloured = {0, 0, 0, 1, 1, 0}, last_action = {0, 0, 0, 1, 0, ACTION};
     size_t at, i;
 
     for (at = 0; at < 3; at++)
@@ -259,6 +270,7 @@ void test_arcs(void)
     fit_arc("draw 10,000", 0, draw_most);
     fit_arc("both 10,000", 0, both_most);
     fit_arc("colour 0 on another arc", 0, coloured);
+    fit_arc("action 15", 0, last_action);
 }
 
 /* 6. */

@@ -7,7 +7,7 @@
 /* One mode with one arc, in these lists. */
 static struct model one_arc(struct lists *to, uint32_t draw, uint32_t gain)
 {
-    struct arc arc = {0, 0, draw, gain, 0};
+    struct arc arc = {0, 0, draw, gain, 0, 0};
 
     put(to, 0, arc);
     return listed(1, 0, to, 1);
@@ -16,7 +16,7 @@ static struct model one_arc(struct lists *to, uint32_t draw, uint32_t gain)
 /* Ask 4's move, which draws 5 and then harvests 8 and has the colour, and a move that charges 1. */
 static struct model model_of_dip(struct lists *to)
 {
-    static const struct arc dip = {0, 0, 5, 8, 1}, charge = {0, 0, 0, 1, 0};
+    static const struct arc dip = {0, 0, 5, 8, 1, 0}, charge = {0, 0, 0, 1, 0, 0};
 
     put(to, 0, dip);
     put(to, 1, charge);
@@ -226,9 +226,9 @@ static void three_arcs(const struct arc *kinds[3])
 void test_unfit_moves(void)
 {
     enum { KINDS = 5 };
-    static const struct arc kinds[KINDS] = {{0, 0, CHARGEPLAN_DRAW_MOST, CHARGEPLAN_GAIN_MOST, 0},
-        {0, 0, CHARGEPLAN_DRAW_MOST + 1, 0, 0}, {0, 0, 0, CHARGEPLAN_GAIN_MOST + 1, 0}, {0, 0, UINT16_MAX, 0, 0},
-        {0, 0, 0, UINT16_MAX, 0}};
+    static const struct arc kinds[KINDS] = {{0, 0, CHARGEPLAN_DRAW_MOST, CHARGEPLAN_GAIN_MOST, 0, 0},
+        {0, 0, CHARGEPLAN_DRAW_MOST + 1, 0, 0, 0}, {0, 0, 0, CHARGEPLAN_GAIN_MOST + 1, 0, 0}, {0, 0, UINT16_MAX, 0, 0, 0},
+        {0, 0, 0, UINT16_MAX, 0, 0}};
     unsigned i;
 
     for (i = 0; i < KINDS * KINDS * KINDS; i++) {
@@ -263,7 +263,7 @@ void test_search_draws(void)
 /* Two modes, there and back: the first arc gains, the second draws. No arc can be repeated to make up for a gain read too small. */
 static struct model there_and_back(struct lists *to, uint32_t gain, uint32_t draw)
 {
-    struct arc there = {0, 1, 0, gain, 0}, back = {1, 0, draw, 0, 0};
+    struct arc there = {0, 1, 0, gain, 0, 0}, back = {1, 0, draw, 0, 0, 0};
 
     put(to, 0, there);
     put(to, 1, back);
@@ -273,7 +273,7 @@ static struct model there_and_back(struct lists *to, uint32_t gain, uint32_t dra
 /* One arc gains, and the other one draws and has the colour. */
 static struct model gain_or_draw(struct lists *to, uint32_t gain, uint32_t draw)
 {
-    struct arc gained = {0, 0, 0, gain, 0}, drawn = {0, 0, draw, 0, 1};
+    struct arc gained = {0, 0, 0, gain, 0, 0}, drawn = {0, 0, draw, 0, 1, 0};
 
     put(to, 0, gained);
     put(to, 1, drawn);

@@ -25,7 +25,7 @@ enum { TRIALS = sizeof trials / sizeof trials[0] };
 
 /* Lists and buffers, each behind a gap in a block of its own. */
 struct blocks {
-    uint8_t *sources, *targets, *colours, *plan;
+    uint8_t *sources, *targets, *colours, *actions, *plan;
     uint16_t *draws, *gains, *work;
     size_t gap, words, bytes;
 };
@@ -86,6 +86,7 @@ static struct blocks lend_blocks(const struct model *m, uint32_t b, const struct
     s.sources = behind(s.gap, m->sources, m->sources_length);
     s.targets = behind(s.gap, m->targets, m->targets_length);
     s.colours = behind(s.gap, m->colours, m->colours_length);
+    s.actions = behind(s.gap, m->actions, m->actions_length);
     s.draws = words_behind(s.gap, m->draws, m->draws_length);
     s.gains = words_behind(s.gap, m->gains, m->gains_length);
     s.work = words_behind(s.gap, NULL, s.words);
@@ -102,6 +103,7 @@ static void free_blocks(struct blocks *s)
     free(s->sources);
     free(s->targets);
     free(s->colours);
+    free(s->actions);
     free(s->draws);
     free(s->gains);
     free(s->work);
@@ -114,7 +116,8 @@ static void search_other(const struct blocks *s)
     struct model e = model_e();
 
     chargeplan_search(e.n, e.start, e.k, e.sources, e.sources_length, e.targets, e.targets_length, e.draws, e.draws_length, e.gains,
-        e.gains_length, e.colours, e.colours_length, 10, 10, s->work + s->gap, s->words, s->plan + s->gap, s->bytes);
+        e.gains_length, e.colours, e.colours_length, e.actions, e.actions_length, 10, 10, s->work + s->gap, s->words, s->plan + s->gap,
+        s->bytes);
 }
 
 /* A search; the plan found is copied to `to`. */
@@ -127,7 +130,7 @@ static uint64_t search_once(const struct model *m, uint32_t c, uint32_t b, const
     if (t->junk == LEFT)
         search_other(&s);
     answer = chargeplan_search(m->n, m->start, m->k, s.sources + gap, arcs, s.targets + gap, arcs, s.draws + gap, arcs, s.gains + gap,
-        arcs, s.colours + gap, arcs, c, b, s.work + gap, s.words, s.plan + gap, s.bytes);
+        arcs, s.colours + gap, arcs, s.actions + gap, arcs, c, b, s.work + gap, s.words, s.plan + gap, s.bytes);
     check(chargeplan_prefix(answer) + chargeplan_cycle(answer) <= s.bytes, "a plan within its buffer");
     memcpy(to, s.plan + gap, chargeplan_prefix(answer) + chargeplan_cycle(answer));
     free_blocks(&s);
@@ -199,6 +202,7 @@ static struct model random_wide_model(struct lists *lists, uint32_t b, uint32_t 
         lists->sources[a] = (uint8_t)below(n);
         lists->targets[a] = (uint8_t)below(n);
         lists->colours[a] = (uint8_t)(k > 0 && below(2) ? 1u << below(k) : 0);
+        lists->actions[a] = (uint8_t)below(CHARGEPLAN_ACTION_MOST + 1);
     }
     return m;
 }

@@ -15,6 +15,7 @@ struct model reordered(const struct model *m, const uint8_t *order, struct lists
         to->draws[i] = m->draws[order[i]];
         to->gains[i] = m->gains[order[i]];
         to->colours[i] = m->colours[order[i]];
+        to->actions[i] = m->actions[order[i]];
     }
     return r;
 }
@@ -50,7 +51,7 @@ static void in_any_order(const char *what, const struct model *m, uint32_t c, ui
 /* An arc more, which draws or gains. */
 static void add(struct lists *to, size_t *arcs, uint32_t source, uint32_t target, int weight, unsigned colours)
 {
-    struct arc arc = {source, target, chargeplan_draw_of((int16_t)weight), chargeplan_gain_of((int16_t)weight), colours};
+    struct arc arc = {source, target, chargeplan_draw_of((int16_t)weight), chargeplan_gain_of((int16_t)weight), colours, 0};
 
     put(to, *arcs, arc);
     ++*arcs;

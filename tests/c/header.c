@@ -7,20 +7,22 @@
 #include <stdlib.h>
 #include <string.h>
 
-/* The numbers of document 01's table, in its order, and those of Asks 1 and 3. */
+/* The numbers of document 01's table, in its order, and those of Asks 1, 3 and 5. */
 static void test_constants(void)
 {
     static const unsigned numbers[] = {CHARGEPLAN_YES, CHARGEPLAN_MODE_COUNT, CHARGEPLAN_START_MODE, CHARGEPLAN_ARC_LISTS,
         CHARGEPLAN_COLOUR_COUNT, CHARGEPLAN_UNFIT_ARC, CHARGEPLAN_LEVELS, CHARGEPLAN_PRODUCT, CHARGEPLAN_WORKING_SPACE,
         CHARGEPLAN_PLAN_BUFFER, CHARGEPLAN_NO_PLAN, CHARGEPLAN_PLAN_LENGTH, CHARGEPLAN_ARC_NUMBER, CHARGEPLAN_OTHER_MODE,
         CHARGEPLAN_OPEN_CYCLE, CHARGEPLAN_IMPOSSIBLE_STEP, CHARGEPLAN_FALLING_CYCLE, CHARGEPLAN_MISSING_COLOUR,
-        CHARGEPLAN_NO_SUCH_COLOUR, CHARGEPLAN_HOA_LINE, CHARGEPLAN_DIMACS_LINE, CHARGEPLAN_TEXTS_DISAGREE, CHARGEPLAN_MIXED_GAUGE};
+        CHARGEPLAN_NO_SUCH_COLOUR, CHARGEPLAN_HOA_LINE, CHARGEPLAN_DIMACS_LINE, CHARGEPLAN_TEXTS_DISAGREE, CHARGEPLAN_MIXED_GAUGE,
+        CHARGEPLAN_JOIN_SIZE};
     unsigned i;
 
-    check(sizeof numbers / sizeof numbers[0] == 23, "the numbers 0 to 22");
+    check(sizeof numbers / sizeof numbers[0] == 24, "the numbers 0 to 23");
     for (i = 0; i < sizeof numbers / sizeof numbers[0]; i++)
         check(numbers[i] == i, "a number of the header");
-    check(CHARGEPLAN_VERSION == 2, "the version with draws and gains");
+    check(CHARGEPLAN_VERSION == 3, "the version with actions");
+    check(CHARGEPLAN_ACTION_MOST == 15, "the greatest action");
 }
 
 /* Where the library reads and writes. */
@@ -35,7 +37,7 @@ static void test_layout(void)
     check(sizeof(struct chargeplan_reading) == 32 && offsetof(struct chargeplan_reading, number) == 0
             && offsetof(struct chargeplan_reading, detail) == 8 && offsetof(struct chargeplan_reading, n) == 16
             && offsetof(struct chargeplan_reading, start) == 20 && offsetof(struct chargeplan_reading, k) == 24
-            && offsetof(struct chargeplan_reading, m) == 28, "what reading hands back");
+            && offsetof(struct chargeplan_reading, m) == 28, "what reading and the join hand back");
 }
 
 /* The functions that take an answer apart: each reads its own bits. */
@@ -55,7 +57,8 @@ static void test_parts(void)
 /* A model with lists of one length, as the header has it. */
 static struct chargeplan_model in_one(const struct model *m, struct lent l)
 {
-    struct chargeplan_model one = {m->n, m->start, m->k, l.sources, l.targets, l.draws, l.gains, l.colours, m->sources_length};
+    struct chargeplan_model one = {
+        m->n, m->start, m->k, l.sources, l.targets, l.draws, l.gains, l.colours, l.actions, m->sources_length};
     return one;
 }
 
@@ -89,7 +92,8 @@ static void same_search(const char *what, const struct model *m, uint32_t c, uin
     memset(plan, 0, bytes);
     memset(expected, 0, bytes);
     answer = chargeplan_search(m->n, m->start, m->k, l.sources, m->sources_length, l.targets, m->targets_length, l.draws,
-        m->draws_length, l.gains, m->gains_length, l.colours, m->colours_length, c, b, work, words, expected, bytes);
+        m->draws_length, l.gains, m->gains_length, l.colours, m->colours_length, l.actions, m->actions_length, c, b, work, words,
+        expected, bytes);
     check(chargeplan_model_search(&one, c, b, work, words, plan, bytes) == answer, what);
     check(memcmp(plan, expected, bytes) == 0, what);
     free(work);
@@ -152,7 +156,7 @@ static void same_calls(const char *what, const struct model *m, uint32_t c, uint
 
 static void test_model_functions(void)
 {
-    static const uint8_t plan_i[] = {0, 0, 0, 0, 0, 1, 2}, plan_j[] = {1, 0};
+    static const uint8_t plan_i[] = {0, 0, 0, 0, 0, 1, 2}, plan_j[] = {1, 0}, actions[] = {15, 0, 7}, unfit_actions[] = {15, 16, 7};
     static const uint16_t five[] = {5}, eight[] = {8};
     struct model g = model_g(), j = model_j(), e = model_e(), dip = model(1, 0, 1, zeros, zeros, five, eight, zeros),
                  many = model(1, 0, CHARGEPLAN_ARCS_MOST + 1, zeros, zeros, nothing, nothing, zeros);
@@ -173,20 +177,27 @@ static void test_model_functions(void)
     g.start = 0;
     g.k = 0;
     same_calls("5: colour bit k", &g, 0, 5, 6, 1, plan_i);
+    g.k = 1;
+    g.actions = actions;
+    same_calls("any actions", &g, 0, 5, 6, 1, plan_i);
+    g.actions = unfit_actions;
+    same_calls("5: an action", &g, 0, 5, 6, 1, plan_i);
 }
 
 /* Whether two lists to be filled, which hold so many arcs, have the same content. */
 static int same_lists(const struct lists *x, const struct lists *y, size_t arcs)
 {
     return same(x->sources, y->sources, arcs) && same(x->targets, y->targets, arcs) && same(x->draws, y->draws, arcs * sizeof x->draws[0])
-        && same(x->gains, y->gains, arcs * sizeof x->gains[0]) && same(x->colours, y->colours, arcs);
+        && same(x->gains, y->gains, arcs * sizeof x->gains[0]) && same(x->colours, y->colours, arcs)
+        && same(x->actions, y->actions, arcs);
 }
 
 /* Reading into lists with room for so many arcs: answer and lists are those of the entry, and the model is made of them. */
 static void same_reading(const char *what, const char *hoa, const char *dimacs, size_t room)
 {
     struct lists of_entry, of_model;
-    struct chargeplan_lists lent = {of_model.sources, of_model.targets, of_model.draws, of_model.gains, of_model.colours, room};
+    struct chargeplan_lists lent = {
+        of_model.sources, of_model.targets, of_model.draws, of_model.gains, of_model.colours, of_model.actions, room};
     struct text h = as_text(hoa), d = as_text(dimacs);
     struct chargeplan_reading entry, reading;
     struct chargeplan_model m;
@@ -194,14 +205,14 @@ static void same_reading(const char *what, const char *hoa, const char *dimacs, 
     memset(&of_entry, 0x5a, sizeof of_entry);
     memset(&of_model, 0x5a, sizeof of_model);
     entry = chargeplan_read(h.bytes, h.length, d.bytes, d.length, of_entry.sources, room, of_entry.targets, room, of_entry.draws, room,
-        of_entry.gains, room, of_entry.colours, room);
+        of_entry.gains, room, of_entry.colours, room, of_entry.actions, room);
     reading = chargeplan_model_read(&m, &lent, h.bytes, h.length, d.bytes, d.length);
     check(reading.number == entry.number && reading.detail == entry.detail && reading.n == entry.n && reading.start == entry.start
             && reading.k == entry.k && reading.m == entry.m, what);
     check(same_lists(&of_entry, &of_model, CHARGEPLAN_ARCS_MOST), what);
     check(m.n == entry.n && m.start == entry.start && m.k == entry.k && m.arcs == entry.m, what);
     check(m.sources == of_model.sources && m.targets == of_model.targets && m.draws == of_model.draws && m.gains == of_model.gains
-            && m.colours == of_model.colours, what);
+            && m.colours == of_model.colours && m.actions == of_model.actions, what);
     check(chargeplan_number(chargeplan_model_gauge_start(&m, 0, 0).answer) == (entry.number == 0 ? CHARGEPLAN_YES : CHARGEPLAN_MODE_COUNT),
         what);
 }

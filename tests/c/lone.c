@@ -16,7 +16,7 @@ static struct model with_lone(struct lists *to, struct arc others, size_t at, st
 /* The others gain 1; the arc at this place draws 5 and has the colour. */
 static void lone_draw(uint8_t at)
 {
-    static const struct arc others = {0, 0, 0, 1, 0}, lone = {0, 0, 5, 0, 1};
+    static const struct arc others = {0, 0, 0, 1, 0, 0}, lone = {0, 0, 5, 0, 1, 0};
     uint8_t o = at == 0 ? LAST : 0, plan[] = {o, o, o, o, o, at};
     struct stop drawn = {at, 0, 0, 0};
     struct lists lists;
@@ -38,7 +38,7 @@ static void lone_draw(uint8_t at)
 /* The others draw 1 and have the colour; the arc at this place gains 5. */
 static void lone_gain(uint8_t at)
 {
-    static const struct arc others = {0, 0, 1, 0, 1}, lone = {0, 0, 0, 5, 0};
+    static const struct arc others = {0, 0, 1, 0, 1, 0}, lone = {0, 0, 0, 5, 0, 0};
     uint8_t o = at == 0 ? LAST : 0, plan[] = {at, o, o, o, o, o, o};
     struct stop gained = {at, 0, 5, 0}, spilled = {at, 0, 5, 5};
     struct lists lists;
@@ -59,14 +59,16 @@ static void lone_gain(uint8_t at)
 /* 5 names the arc: starting a gauge, too, which uses draws and gains for nothing else, reads it. */
 static void lone_unfit(uint8_t at)
 {
-    static const struct arc others = {0, 0, 0, 1, 0}, draws = {0, 0, CHARGEPLAN_DRAW_MOST + 1, 0, 0},
-                            gains = {0, 0, 0, CHARGEPLAN_GAIN_MOST + 1, 0};
+    static const struct arc others = {0, 0, 0, 1, 0, 0}, draws = {0, 0, CHARGEPLAN_DRAW_MOST + 1, 0, 0, 0},
+                            gains = {0, 0, 0, CHARGEPLAN_GAIN_MOST + 1, 0, 0}, acts = {0, 0, 0, 1, 0, CHARGEPLAN_ACTION_MOST + 1};
     struct lists lists;
     struct model m = with_lone(&lists, others, at, draws);
 
     all_refused("5: the draw of one arc", &m, 0, 5, CHARGEPLAN_UNFIT_ARC, at);
     m = with_lone(&lists, others, at, gains);
     all_refused("5: the gain of one arc", &m, 0, 5, CHARGEPLAN_UNFIT_ARC, at);
+    m = with_lone(&lists, others, at, acts);
+    all_refused("5: the action of one arc", &m, 0, 5, CHARGEPLAN_UNFIT_ARC, at);
 }
 
 static void at_every_place(void (*run)(uint8_t at))

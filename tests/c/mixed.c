@@ -156,11 +156,12 @@ void test_mixed_gauges(void)
 /* A model like example G's in n and the number of arcs, and in nothing else. */
 static struct model model_like_g(void)
 {
-    static const uint8_t sources[] = {1, 0, 0}, targets[] = {0, 0, 1}, colours[] = {8, 4, 2};
+    static const uint8_t sources[] = {1, 0, 0}, targets[] = {0, 0, 1}, colours[] = {8, 4, 2}, actions[] = {15, 1, 8};
     static const uint16_t draws[] = {0, 0, 1}, gains[] = {2, 4, 0};
     struct model m = model(2, 4, 3, sources, targets, draws, gains, colours);
 
     m.start = 1;
+    m.actions = actions;
     return m;
 }
 
@@ -202,6 +203,9 @@ static void test_parts(void)
     m = own;
     m.sources = like.sources;
     not_told("other sources", m, from_source);
+    m = own;
+    m.actions = like.actions;
+    not_told("other actions", m, as_own);
 }
 
 /* Another model with the same n, number of arcs and bound is not told apart: each step goes by the arcs that it is given. */

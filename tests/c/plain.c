@@ -10,7 +10,7 @@ static int unfit_lists(const struct model *m)
 {
     size_t arcs = m->sources_length;
 
-    if (m->targets_length != arcs || m->colours_length != arcs || arcs > 255)
+    if (m->targets_length != arcs || m->colours_length != arcs || m->actions_length != arcs || arcs > 255)
         return 1;
     return m->weights == NULL && (m->draws_length != arcs || m->gains_length != arcs);
 }
@@ -25,7 +25,7 @@ static int unfit_move(const struct model *m, size_t a)
 
 static int unfit_arc(const struct model *m, size_t a)
 {
-    return m->sources[a] >= m->n || m->targets[a] >= m->n || unfit_move(m, a) || m->colours[a] >> m->k != 0;
+    return m->sources[a] >= m->n || m->targets[a] >= m->n || unfit_move(m, a) || m->colours[a] >> m->k != 0 || m->actions[a] > 15;
 }
 
 struct verdict plain_fitness(const struct model *m, uint32_t c, uint32_t b)

@@ -1,6 +1,6 @@
 /*
- * Judging, the existence of a plan, gauge and walk, as plainly as document 01 and Asks 2 to 4 of document 02 have them and with no
- * code of the library: what the C tests compare with.
+ * Judging, the existence of a plan, gauge and walk, as plainly as document 01 and Asks 2 to 5 of document 02 have them and with no
+ * code of the library: what the C tests compare with. The join is in plain_join.h.
  */
 #ifndef PLAIN_H
 #define PLAIN_H
@@ -9,7 +9,7 @@
 #include <stdint.h>
 
 /*
- * A model as a call is lent it: the five lists may be of unequal length, and null where they have none. Where there are weights, as
+ * A model as a call is lent it: the six lists may be of unequal length, and null where they have none. Where there are weights, as
  * many as sources, the plain reading goes by them, as document 01 has it, and does not look at draws and gains. No call is lent them.
  */
 struct model {
@@ -24,7 +24,24 @@ struct model {
     size_t gains_length;
     const uint8_t *colours;
     size_t colours_length;
+    const uint8_t *actions;
+    size_t actions_length;
     const int16_t *weights;
+};
+
+/* An arc. */
+struct arc {
+    uint32_t source, target, draw, gain, colours, action;
+};
+
+/* The most arcs that a call which fills lists writes. */
+enum { FILLED_ARCS_MOST = 255 };
+
+/* What such a call answers: its number and detail, and zeros; or number 0 and the model's numbers. */
+struct reading {
+    uint32_t number;
+    uint64_t detail;
+    uint32_t n, start, k, m;
 };
 
 /* A number of document 01's table, or 22, with its detail. */

@@ -373,7 +373,7 @@ static struct reading fitness(const struct hoa *h, const struct dimacs *d, size_
         return answer(1, 0);
     if (h->start >= h->n)
         return answer(2, 0);
-    if (d->m > READ_ARCS_MOST || d->m > room)
+    if (d->m > FILLED_ARCS_MOST || d->m > room)
         return answer(3, 0);
     if (h->k > 4)
         return answer(4, 0);
@@ -395,6 +395,7 @@ static void write_arcs(const struct hoa *h, const struct dimacs *d, struct arc *
         arcs[i].draw = (uint32_t)(weight < 0 ? -weight : 0);
         arcs[i].gain = (uint32_t)(weight < 0 ? 0 : weight);
         arcs[i].colours = h->edges[i].colours;
+        arcs[i].action = 0;
     }
 }
 
@@ -422,7 +423,7 @@ static struct reading read_lines(struct hoa *h, struct parts hoa_lines, struct d
     return r;
 }
 
-struct reading plain_read(struct text hoa, struct text dimacs, size_t room, struct arc arcs[READ_ARCS_MOST])
+struct reading plain_read(struct text hoa, struct text dimacs, size_t room, struct arc arcs[FILLED_ARCS_MOST])
 {
     static const struct hoa no_hoa;
     static const struct dimacs no_dimacs;

@@ -29,10 +29,10 @@ void shuffle(uint8_t *numbers, size_t count)
     }
 }
 
-/* An arc between n modes without colours; of three, one draws, one gains, and one does both, up to these. */
+/* An arc between n modes without colours, with any action; of three, one draws, one gains, and one does both, up to these. */
 static struct arc random_move(uint32_t n, uint32_t draw_most, uint32_t gain_most)
 {
-    struct arc arc = {below(n), below(n), below(draw_most + 1), below(gain_most + 1), 0};
+    struct arc arc = {below(n), below(n), below(draw_most + 1), below(gain_most + 1), 0, below(CHARGEPLAN_ACTION_MOST + 1)};
     uint32_t kind = below(3);
 
     if (kind == 0)
@@ -69,8 +69,7 @@ struct model random_fit_model(struct lists *lists)
     return m;
 }
 
-/* A small model in these lists; one in six has something unfit. Lists of another length have elements enough. */
-static struct model random_model(struct lists *lists)
+struct model random_model(struct lists *lists)
 {
     struct model m = random_fit_model(lists);
     size_t other_length = SMALL_ARCS_MOST + 1 - m.sources_length;
@@ -88,6 +87,8 @@ static struct model random_model(struct lists *lists)
     case 8: lists->draws[at] = (uint16_t)(10001 + below(UINT16_MAX - 10000)); break;
     case 9: lists->gains[at] = (uint16_t)(10001 + below(UINT16_MAX - 10000)); break;
     case 10: lists->colours[at] = (uint8_t)(1u << m.k); break;
+    case 11: m.actions_length = other_length; break;
+    case 12: lists->actions[at] = (uint8_t)(16 + below(UINT8_MAX - 15)); break;
     default: break;
     }
     return m;
@@ -97,7 +98,8 @@ static int has_equal_lists(const struct model *m)
 {
     size_t arcs = m->sources_length;
 
-    return m->targets_length == arcs && m->draws_length == arcs && m->gains_length == arcs && m->colours_length == arcs;
+    return m->targets_length == arcs && m->draws_length == arcs && m->gains_length == arcs && m->colours_length == arcs
+        && m->actions_length == arcs;
 }
 
 /* A number below n or, in one of so many calls, up to n. */

@@ -17,7 +17,7 @@ static void read_exactly(const char *what, const char *hoa, const char *dimacs, 
     check(r.number == 0 && r.detail == 0 && r.n == expected.n && r.start == expected.start && r.k == expected.k && r.m == expected.m, what);
     for (a = 0; a < r.m && a < expected.m; a++)
         check(lists.sources[a] == arcs[a].source && lists.targets[a] == arcs[a].target && lists.draws[a] == arcs[a].draw
-                && lists.gains[a] == arcs[a].gain && lists.colours[a] == arcs[a].colours, what);
+                && lists.gains[a] == arcs[a].gain && lists.colours[a] == arcs[a].colours && lists.actions[a] == arcs[a].action, what);
 }
 
 /* Numbers and arcs by hand. */
@@ -25,9 +25,10 @@ void test_read_pairs(void)
 {
     static const struct reading knee = {0, 0, 4, 3, 2, 4}, least = {0, 0, 1, 0, 0, 0}, g = {0, 0, 2, 0, 1, 3}, all = {0, 0, 64, 63, 4, 1},
                                 rest = {0, 0, 3, 0, 2, 4};
-    static const struct arc knee_arcs[] = {{3, 1, 3, 0, 0}, {3, 2, 0, 9, 1}, {1, 3, 0, 0, 3}, {1, 3, 10000, 0, 0}},
-                            g_arcs[] = {{0, 0, 0, 1, 0}, {0, 1, 5, 0, 0}, {1, 1, 0, 0, 1}}, all_arcs[] = {{63, 63, 0, 10000, 15}},
-                            rest_arcs[] = {{0, 1, 9, 0, 1}, {0, 2, 1, 0, 0}, {2, 2, 0, 5, 0}, {2, 0, 0, 0, 3}};
+    static const struct arc knee_arcs[] = {{3, 1, 3, 0, 0, 0}, {3, 2, 0, 9, 1, 0}, {1, 3, 0, 0, 3, 0}, {1, 3, 10000, 0, 0, 0}},
+                            g_arcs[] = {{0, 0, 0, 1, 0, 0}, {0, 1, 5, 0, 0, 0}, {1, 1, 0, 0, 1, 0}},
+                            all_arcs[] = {{63, 63, 0, 10000, 15, 0}},
+                            rest_arcs[] = {{0, 1, 9, 0, 1, 0}, {0, 2, 1, 0, 0, 0}, {2, 2, 0, 5, 0, 0}, {2, 0, 0, 0, 3, 0}};
 
     read_exactly("every form", knee_hoa, knee_dimacs, knee, knee_arcs);
     read_exactly("the least texts", "HOA: v1\nStates: 1\nStart: 0\nAP: 0\nAcceptance: 0 t\n--BODY--\n--END--\n", "p sp 1 0\n", least, NULL);

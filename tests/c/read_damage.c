@@ -226,14 +226,14 @@ void test_read_rows(void)
 /* Reading a pair that is too long for the plain reading. */
 static void read_long(const char *what, const struct pair *p, uint32_t number, uint64_t detail)
 {
-    uint8_t bytes[3][4] = {{7, 7, 7, 7}, {7, 7, 7, 7}, {7, 7, 7, 7}}, before[3][4];
+    uint8_t bytes[4][4] = {{7, 7, 7, 7}, {7, 7, 7, 7}, {7, 7, 7, 7}, {7, 7, 7, 7}}, before[4][4];
     uint16_t words_lent[2][4] = {{7, 7, 7, 7}, {7, 7, 7, 7}}, words_before[2][4];
     struct chargeplan_reading r;
 
     memcpy(before, bytes, sizeof bytes);
     memcpy(words_before, words_lent, sizeof words_lent);
     r = chargeplan_read(p->hoa.bytes, p->hoa.length, p->dimacs.bytes, p->dimacs.length, bytes[0], 4, bytes[1], 4, words_lent[0], 4,
-        words_lent[1], 4, bytes[2], 4);
+        words_lent[1], 4, bytes[2], 4, bytes[3], 4);
     check(r.number == number && r.detail == detail && r.m == (number == CHARGEPLAN_YES), what);
     if (number != CHARGEPLAN_YES)
         check(same(bytes, before, sizeof bytes) && same(words_lent, words_before, sizeof words_lent), what);

@@ -239,7 +239,7 @@ static void test_rooms(void)
     static const size_t others[] = {4, 5, 255, 256, 1000};
     size_t list, i;
 
-    for (list = 0; list < 5; list++)
+    for (list = 0; list < MODEL_LISTS; list++)
         for (i = 0; i < sizeof others / sizeof others[0]; i++) {
             read_short(list, 4, others[i], CHARGEPLAN_YES);
             read_short(list, 3, others[i], CHARGEPLAN_ARC_LISTS);

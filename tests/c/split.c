@@ -12,8 +12,8 @@ static struct model split(const struct model *m, struct lists *to)
 
     r.start = m->start;
     for (a = 0; a < arcs; a++) {
-        struct arc drawn = {m->sources[a], m->n + a, m->draws[a], 0, 0};
-        struct arc gained = {m->n + a, m->targets[a], 0, m->gains[a], m->colours[a]};
+        struct arc drawn = {m->sources[a], m->n + a, m->draws[a], 0, 0, m->actions[a]};
+        struct arc gained = {m->n + a, m->targets[a], 0, m->gains[a], m->colours[a], 0};
 
         put(to, 2 * a, drawn);
         put(to, 2 * a + 1, gained);

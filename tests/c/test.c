@@ -97,6 +97,31 @@ static void test_random_lines(void)
     test_random_texts(random_models / 4);
 }
 
+static void test_random_models_with_other_actions(void)
+{
+    test_random_actions(random_models / 10);
+}
+
+static void test_random_joins_of_small_models(void)
+{
+    test_random_joins(random_models / 2);
+}
+
+static void test_random_joins_of_large_models(void)
+{
+    test_random_large_joins(random_models / 100);
+}
+
+static void test_random_plans_of_joined_models(void)
+{
+    test_random_joined_plans(random_models / 10);
+}
+
+static void test_random_joins_over_structs(void)
+{
+    test_random_pairs(random_models / 50);
+}
+
 static const struct {
     const char *name;
     void (*run)(void);
@@ -157,6 +182,21 @@ static const struct {
     {"reading, texts cut at every byte", test_read_cut_texts},
     {"reading, every short row in place of some words", test_read_rows},
     {"reading, long texts", test_read_texts_of_any_length},
+    {"actions, 5: those above 15", test_unfit_actions},
+    {"actions, document 01's examples", test_examples_with_actions},
+    {"actions that are a null pointer", test_no_actions},
+    {"join, pairs of arcs", test_join_pairs},
+    {"join, models without arcs or pairs", test_join_empty},
+    {"join, 1, 2 and 4: numbers", test_join_numbers},
+    {"join, 3: lists", test_join_unequal},
+    {"join, 5: arcs", test_join_unfit},
+    {"join, 5: one of 255 arcs, at every place", test_join_lone},
+    {"join, the order of the refusals", test_join_order},
+    {"join, 23: modes, colours, arcs, draws and gains", test_join_sizes},
+    {"join, 23: lists of any lengths", test_join_rooms},
+    {"join, 23 is looked at last", test_join_last},
+    {"join, one knee and two wearers", test_two_wearers},
+    {"join over structs, and the two arcs of a joined arc", test_join_functions},
     {"header", test_header},
     {"random models and plans", test_random_models},
     {"random models with many arcs", test_random_large_models},
@@ -174,6 +214,11 @@ static const struct {
     {"random damages of texts", test_random_damaged_texts},
     {"random blocks of texts", test_random_blocks_of_modes},
     {"random lines of texts", test_random_lines},
+    {"random models with other actions", test_random_models_with_other_actions},
+    {"random joins", test_random_joins_of_small_models},
+    {"random joins with many arcs", test_random_joins_of_large_models},
+    {"random joins, searched and judged", test_random_plans_of_joined_models},
+    {"random joins over structs, and their pairs", test_random_joins_over_structs},
 };
 
 int main(int argc, char **argv)

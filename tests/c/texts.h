@@ -2,7 +2,7 @@
 #ifndef TEXTS_H
 #define TEXTS_H
 
-#include "calls.h"
+#include "rooms.h"
 
 /* A text that is being made; { NULL, 0, 0 } has no bytes. */
 struct page {
@@ -42,15 +42,8 @@ struct style {
     int free;
 };
 
-/* Prints the texts of a model, whose arcs of one source stand together and have no draw or no gain. */
+/* Prints the texts of a model, whose arcs of one source stand together, have no draw or no gain, and action 0. */
 void print_model(struct pair *to, const struct model *m, struct style style);
-
-/* The lengths of five lists to be filled, in the order of the call's arguments. */
-struct rooms {
-    size_t of[5];
-};
-
-struct rooms equal_rooms(size_t room);
 
 /*
  * Reading, compared with the plain reading: the answer, and the lists of these lengths, in which only the places of arcs that were read
