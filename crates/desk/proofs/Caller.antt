@@ -33,9 +33,9 @@ use Rattle.reading.specs.ModelRead.{modelRead}
 use Rattle.reading.specs.Reading.{readVerdict, listsRead}
 use Rattle.reading.proofs.ListsRead.{read-model, read-rest, read-fitness}
 use Rattle.filling.specs.Filling.{roomIn, readingIf, writtenIf, firstPlaces, laterPlaces}
-use Rattle.join.specs.Joining.{Given, modelGiven, joinedGiven, joinVerdict, listsJoined}
+use Rattle.join.specs.Joining.{Given, modelGiven, joinedGiven, joinVerdict, Joinable, listsJoined}
 use Rattle.join.specs.Together.{SomeTogether}
-use Rattle.join.proofs.ListsJoined.{Joinable, join-yes, join-model, join-fitness, join-rest, join-plans}
+use Rattle.join.proofs.ListsJoined.{join-yes, join-model, join-fitness, join-rest, join-plans}
 use Rattle.desk.specs.declared.Read.{Read}
 use Rattle.desk.specs.Desk.{deskJudged, deskStarted, deskWalked, deskRead, deskJoined, DeskSearched, DeskStepped}
 use Rattle.desk.proofs.Sizes.{judge-fields, start-fields, step-fields, walk-fields, search-fields}

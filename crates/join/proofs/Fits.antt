@@ -3,7 +3,7 @@ use mathlib.Core.Path.{_≡_, refl, sym, subst}
 use mathlib.Core.Bool.{false, _||_}
 use mathlib.Core.List.{List, [], _∷_}
 use mathlib.Core.Logic.{_↔_}
-use Prim.Native.Nat.{ℕ, zero, suc, _+_, _*_, _≤_, _<_}
+use Prim.Native.Nat.{ℕ, zero, suc, _+_, _*_, _<_}
 use native.Mathlib.Omega.{arith}
 use lib.Dec.{ltb}
 use lib.ListN.{length, getD}
@@ -13,7 +13,7 @@ use Rattle.refusals.specs.declared.Verdict.the-variants.{Yes}
 use Rattle.refusals.proofs.Tests.{or-no, lt-no}
 use Rattle.refusals.proofs.Verdicts.{refuse-yes}
 use Rattle.model.specs.declared.Arc.{Arc}
-use Rattle.model.specs.Automaton.{Automaton, noArc, arcAt}
+use Rattle.model.specs.Automaton.{Automaton, noArc}
 use Rattle.model.specs.Fitness.{ArcFits, Fit}
 use Rattle.model.proofs.Bits.{colours-below}
 use Rattle.join.specs.Joined.{joinArc, joined}

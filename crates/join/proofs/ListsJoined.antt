@@ -1,35 +1,26 @@
 -- What a caller learns from the verdict of a join: where it is yes, what stands in the lists, that it is a fit model, and when that has a plan. Assumes
 -- nothing.
-use mathlib.Core.Path.{_≡_, refl, sym, ap, subst, _∙_}
+use mathlib.Core.Path.{_≡_, sym, ap, subst}
 use mathlib.Core.Logic.{_↔_}
 use Prim.Native.Nat.{ℕ}
-use lib.ListN.{length}
-use Rattle.refusals.specs.declared.Verdict.{Verdict}
 use Rattle.refusals.specs.declared.Verdict.the-variants.{Yes}
 use Rattle.refusals.specs.Refusals.{andThen}
 use Rattle.refusals.proofs.Verdicts.{and-then-yes}
 use Rattle.model.specs.Automaton.{Automaton}
 use Rattle.model.specs.Lists.{Lists, automatonOf}
-use Rattle.model.specs.Fitness.{EqualLists, Fit, fitness}
+use Rattle.model.specs.Fitness.{Fit, fitness}
 use Rattle.model.specs.Plans.{SomePlan}
 use Rattle.model.proofs.Fitness.{fitness-yes}
 use Rattle.filling.specs.declared.Reading.{Reading}
-use Rattle.filling.specs.Filling.{roomIn, readingIf, writtenIf, firstPlaces, laterPlaces}
+use Rattle.filling.specs.Filling.{roomIn, readingIf, firstPlaces, laterPlaces}
 use Rattle.filling.proofs.Filled.{filled-model, filled-rest, filled-fitness}
-use Rattle.join.specs.Joining.{Given, modelGiven, fitnessGiven, joinedGiven, sizeOf, SizeFits, joinVerdict, joinOf, listsJoined}
+use Rattle.join.specs.Joining.{Given, modelGiven, fitnessGiven, joinedGiven, sizeOf, joinVerdict, Joinable, joinOf, listsJoined}
 use Rattle.join.specs.Together.{SomeTogether}
 use Rattle.join.proofs.Fits.{size-yes, joined-fit}
 use Rattle.join.proofs.Together.{joins}
 
--- what a join that is not refused is given: two fit models in equal lists, of a size that fits
-pub record Joinable (x y : Given) (room : ℕ) : Type 0 where
-  pub knee-lists : EqualLists (x .arcs)
-  pub knee : Fit (modelGiven x)
-  pub habit-lists : EqualLists (y .arcs)
-  pub habit : Fit (modelGiven y)
-  pub size : SizeFits (joinedGiven x y) room
-
 module _ (x y : Given) where
+  -- the join is not refused exactly where it can be made
   pub join-yes : (room : ℕ) → (joinVerdict x y room ≡ Yes) ↔ Joinable x y room
   unfolding joinVerdict
   join-yes room =

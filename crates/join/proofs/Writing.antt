@@ -3,7 +3,6 @@ use mathlib.Core.Path.{_≡_, sym, ap, _∙_, subst}
 use mathlib.Core.Bool.{Bool, true, false}
 use mathlib.Core.List.{List, [], _∷_, _++_}
 use Prim.Native.Nat.{ℕ, suc, _+_, _≤_, _<_}
-use native.Mathlib.Nat.{zero-add}
 use native.Mathlib.Numerals.{add-one}
 use native.Mathlib.Omega.{arith}
 use lib.Dec.{eqb}
@@ -13,13 +12,12 @@ use Rattle.limits.specs.Ceilings.{arcsMost}
 use Rattle.model.specs.declared.Arc.{Arc}
 use Rattle.model.specs.declared.Model.{Model}
 use Rattle.model.specs.Lists.{Lists, held}
-use Rattle.model.specs.Fitness.{Holds}
 use Rattle.model.proofs.Bits.{colours-below}
 use Rattle.model.proofs.Held.{arcIn, holds-arc}
 use Rattle.filling.specs.Filling.{put, Written}
 use Rattle.filling.proofs.Writing.{Writing, writing-none, writing-rest, writing-put, writing-append, writing-done}
 use Rattle.join.specs.Joined.{joinArc, keep, joinRow}
-use Rattle.join.specs.Within.{joinedHeld, Narrow, AllNarrow, Below, RowFits, AllFit}
+use Rattle.join.specs.Within.{joinedHeld, Narrow, AllNarrow, RowFits, AllFit}
 use Rattle.join.proofs.Rows.{rowFrom, row-turn, row-end, rowsFrom, rowOf, rows-turn, rows-end}
 
 narrow-left : (u v : List Arc) → AllNarrow (u ++ v) → AllNarrow u

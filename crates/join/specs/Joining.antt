@@ -14,7 +14,7 @@ use Rattle.refusals.specs.Refusals.{refuse, andThen, answerOf}
 use Rattle.model.specs.declared.Arc.{Arc}
 use Rattle.model.specs.Automaton.{Automaton, arcAt}
 use Rattle.model.specs.Lists.{Lists, automatonOf}
-use Rattle.model.specs.Fitness.{fitness}
+use Rattle.model.specs.Fitness.{EqualLists, Fit, fitness}
 use Rattle.filling.specs.declared.Reading.{Reading}
 use Rattle.filling.specs.Filling.{roomIn, writtenIf, readingIf}
 use Rattle.join.specs.Joined.{joined}
@@ -73,6 +73,14 @@ joinedGiven x y = joined (modelGiven x) (modelGiven y)
 -- the knee's 1 to 5, the habit's, then 23
 unfoldable pub joinVerdict : Given → Given → ℕ → Verdict
 joinVerdict x y room = andThen (fitnessGiven x) (andThen (fitnessGiven y) (sizeOf (joinedGiven x y) room))
+
+-- What is left where none of them applies, as facts: two fit models in equal lists, of a size that fits. (Theorem join-yes.)
+pub record Joinable (x y : Given) (room : ℕ) : Type 0 where
+  pub knee-lists : EqualLists (x .arcs)
+  pub knee : Fit (modelGiven x)
+  pub habit-lists : EqualLists (y .arcs)
+  pub habit : Fit (modelGiven y)
+  pub size : SizeFits (joinedGiven x y) room
 
 -- what the join answers; "A refused join .. gives 0 for n, start mode, k and m."
 abbrev pub joinOf : Given → Given → Lists → Reading
