@@ -44,7 +44,7 @@
  * The action of every arc is 0.
  *
  * THE JOIN. The wearer's habit is a second model. Its arcs say by their actions what the wearer may do next; they may draw and gain
- * too, and meet colours, the duties of the wearer. The join of a knee and a habit is the model of both at once: a step is an arc of the
+ * too, and meet colours, the duties of the wearer. The joined model of a knee and a habit is both at once: a step is an arc of the
  * knee and an arc of the habit with the same action. Where the knee has n1 modes and k1 colours, and the habit n2 and k2, it has
  *   modes     n1 * n2: mode i of the knee with mode j of the habit is mode i * n2 + j, and the start modes are joined likewise
  *   colours   k1 + k2: the knee's keep their numbers, colour j of the habit is colour k1 + j

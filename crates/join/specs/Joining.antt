@@ -53,7 +53,7 @@ oversize n m k above room = ltb modesMost n || ltb arcsMost m || ltb coloursMost
 unfoldable pub sizeOf : Automaton → ℕ → Verdict
 sizeOf g room = refuse (oversize (g .modes) (length (g .arcs)) (g .colours) (someSumAbove (g .arcs)) room) JoinSize Yes
 
--- What 23 leaves, as facts. (Theorem size-no.) The sums of an arc are within an arc's ranges,
+-- What 23 leaves, as facts. (Theorem size-yes.) The sums of an arc are within an arc's ranges,
 pub record SumsFit (a : Arc) : Type 0 where
   pub draw : a .draw ≤ drawMost
   pub gain : a .gain ≤ gainMost
