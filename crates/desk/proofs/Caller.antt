@@ -10,7 +10,7 @@ use Rattle.refusals.specs.declared.Answer.{Answer}
 use Rattle.refusals.specs.declared.Refusal.{Refusal}
 use Rattle.refusals.specs.declared.Verdict.{Verdict}
 use Rattle.refusals.specs.declared.Verdict.the-variants.{Yes, Refused}
-use Rattle.refusals.specs.Refusals.{numbered, answerOf}
+use Rattle.refusals.specs.Refusals.{answer, numbered, answerOf}
 use Rattle.refusals.proofs.Numbers.{refusal-number, yes-number}
 use Rattle.model.specs.Automaton.{Automaton}
 use Rattle.model.specs.Lists.{Lists, automatonOf}
@@ -32,10 +32,11 @@ use Rattle.desk.specs.Packing.{numberIn, detailIn, firstIn, secondIn}
 use Rattle.reading.specs.ModelRead.{modelRead}
 use Rattle.reading.specs.Reading.{readVerdict, listsRead}
 use Rattle.reading.proofs.ListsRead.{read-model, read-rest, read-fitness}
-use Rattle.filling.specs.Filling.{roomIn, readingIf, writtenIf, firstPlaces, laterPlaces}
-use Rattle.join.specs.Joining.{Given, modelGiven, joinedGiven, joinVerdict, Joinable, listsJoined}
+use Rattle.filling.specs.Filling.{roomIn, firstPlaces, laterPlaces}
+use Rattle.filling.proofs.Filled.{filled-refused}
+use Rattle.join.specs.Joining.{Given, modelGiven, fitnessGiven, joinedGiven, SizeFits, joinVerdict, Joinable, listsJoined}
 use Rattle.join.specs.Together.{SomeTogether}
-use Rattle.join.proofs.ListsJoined.{join-yes, join-model, join-fitness, join-rest, join-plans}
+use Rattle.join.proofs.ListsJoined.{join-yes, join-knee, join-habit, join-size, join-model, join-fitness, join-rest, join-plans}
 use Rattle.desk.specs.declared.Read.{Read}
 use Rattle.desk.specs.Desk.{deskJudged, deskStarted, deskWalked, deskRead, deskJoined, DeskSearched, DeskStepped}
 use Rattle.desk.proofs.Sizes.{judge-fields, start-fields, step-fields, walk-fields, search-fields}
@@ -152,12 +153,6 @@ desk-walk-parts n s k l b c p q w j t low =
     let x = walkAnswer (walkOf n s k l b c p q w j t) in
     unpacked (x .answer) (x .steps) (cond (x .met) 1 0) (walk-fields n s k l b c p q w j t low)
 
--- a call that fills lists, whose number is not 0: four zeros, and the lists as they were
-filled-refused : (v : Verdict) (g : Automaton) (l : Lists) → (answerOf v .number ≡ 0 → ⊥) → let r = readingIf v g in
-    (r .modes ≡ 0) × (r .start ≡ 0) × (r .colours ≡ 0) × (r .count ≡ 0) × (writtenIf v (g .arcs) l ≡ l)
-filled-refused Yes g l refused = absurd (refused refl)
-filled-refused (Refused r) g l refused = (refl, refl, refl, refl, refl)
-
 module _ (hoa dimacs : List ℕ) (l : Lists) where
   -- reading: the number is 0 exactly where none of 19 to 21 and 1 to 5 applies
   pub desk-read-zero : (deskRead hoa dimacs l .number ≡ 0) ↔ (readVerdict hoa dimacs l ≡ Yes)
@@ -172,6 +167,10 @@ module _ (hoa dimacs : List ℕ) (l : Lists) where
   -- and the later places are as they were
   pub desk-read-rest : deskRead hoa dimacs l .number ≡ 0 → let m = deskRead hoa dimacs l .m in laterPlaces m (listsRead hoa dimacs l) ≡ laterPlaces m l
   desk-read-rest e = read-rest hoa dimacs l (desk-read-zero .0 e)
+
+  -- number and detail are those of the verdict
+  pub desk-read-answer : let r = deskRead hoa dimacs l in answer (r .number) (r .detail) ≡ answerOf (readVerdict hoa dimacs l)
+  desk-read-answer = refl
 
   -- "A refused reading leaves the lent arc lists untouched and gives 0 for n, start mode, k and m."
   pub desk-read-refused : (deskRead hoa dimacs l .number ≡ 0 → ⊥) → let r = deskRead hoa dimacs l in
@@ -209,6 +208,17 @@ module _ (x y : Given) (l : Lists) where
   -- "A refused join writes nothing and gives 0 for n, start mode, k and m."
   pub desk-join-refused : (r .number ≡ 0 → ⊥) → (r .n ≡ 0) × (r .start ≡ 0) × (r .k ≡ 0) × (r .m ≡ 0) × (listsJoined x y l ≡ l)
   desk-join-refused refused = filled-refused (joinVerdict x y (roomIn l)) (joinedGiven x y) l refused
+
+  -- "Either model unfit gives its own number from 1 to 5, the knee's first", with its detail; 23 is "looked at last"
+  pub desk-join-knee : (q : Refusal) → fitnessGiven x ≡ Refused q → answer (r .number) (r .detail) ≡ numbered q
+  desk-join-knee q e = ap {B = Answer} answerOf (join-knee x y (roomIn l) q e)
+
+  pub desk-join-habit : (q : Refusal) → fitnessGiven x ≡ Yes → fitnessGiven y ≡ Refused q → answer (r .number) (r .detail) ≡ numbered q
+  desk-join-habit q e f = ap {B = Answer} answerOf (join-habit x y (roomIn l) q e f)
+
+  pub desk-join-size : fitnessGiven x ≡ Yes → fitnessGiven y ≡ Yes → (SizeFits (joinedGiven x y) (roomIn l) → ⊥)
+      → answer (r .number) (r .detail) ≡ answer 23 0
+  desk-join-size e f misfit = ap {B = Answer} answerOf (join-size x y (roomIn l) e f .1 misfit)
 
   -- A search of the model that is left answers 10, where none of 1 to 9 applies, exactly where no plans of the two serve together.
   pub desk-join-ten : r .number ≡ 0 → {b c : ℕ} {work plan work′ plan′ : List ℕ} {word : ℕ}

@@ -6,7 +6,7 @@ use mathlib.Core.Logic.{_↔_}
 use Prim.Native.Nat.{ℕ, _+_, _≤_}
 use native.Mathlib.Omega.{arith}
 use lib.ListN.{length, getD, take, drop, length-map, List·getD-map}
-use lib.Seq.{sets, sets-eq, take-at, drop-at, ext-getD}
+use lib.Seq.{sets, sets-eq, take-at, drop-at, getD-drop, ext-getD}
 use Rattle.refusals.specs.declared.Answer.{Answer}
 use Rattle.refusals.specs.declared.Refusal.{Refusal}
 use Rattle.refusals.specs.declared.Verdict.{Verdict}
@@ -14,7 +14,7 @@ use Rattle.refusals.specs.declared.Verdict.the-variants.{Yes, Refused}
 use Rattle.refusals.specs.Refusals.{answerOf}
 use Rattle.model.specs.declared.Arc.{Arc}
 use Rattle.model.specs.Automaton.{Automaton, noArc}
-use Rattle.model.specs.Lists.{Lists, lists, arcsOf, automatonOf}
+use Rattle.model.specs.Lists.{Lists, lists, arcOf, arcsOf, automatonOf}
 use Rattle.model.specs.Fitness.{EqualLists, Fit, fitness}
 use Rattle.model.proofs.Fitness.{fitness-yes}
 use Rattle.model.proofs.Arcs.{arcs-length, arcs-here}
@@ -26,6 +26,18 @@ pub room-least : (l : Lists) (m : ℕ) → (m ≤ roomIn l)
     ↔ ((m ≤ length (l .sources)) × (m ≤ length (l .targets)) × (m ≤ length (l .draws)) × (m ≤ length (l .gains)) × (m ≤ length (l .colours))
     × (m ≤ length (l .actions)))
 room-least l m = (λ h. (omega arith, omega arith, omega arith, omega arith, omega arith, omega arith), λ (s, t, d, g, c, x). omega arith)
+
+-- arc i of the later places is the one at place m + i
+pub later-arc : (m : ℕ) (l : Lists) (i : ℕ) → arcOf (laterPlaces m l) i ≡ arcOf l (m + i)
+later-arc m l i =
+    rw (
+      getD-drop m (l .sources) i 0,
+      getD-drop m (l .targets) i 0,
+      getD-drop m (l .draws) i 0,
+      getD-drop m (l .gains) i 0,
+      getD-drop m (l .colours) i 0,
+      getD-drop m (l .actions) i 0,
+    ) refl
 
 -- an arc by its parts
 pub arc-by : {s t d g c x : ℕ} (a : Arc) → s ≡ a .source → t ≡ a .target → d ≡ a .draw → g ≡ a .gain → c ≡ a .colours → x ≡ a .action
@@ -142,9 +154,6 @@ module _ (v : Verdict) (g : Automaton) where
     pub refused-answer : refusedBy r ≡ readingIf v g
     refused-answer = rw no refl
 
-    pub refused-zero : let q = readingIf v g in (q .modes ≡ 0) × (q .start ≡ 0) × (q .colours ≡ 0) × (q .count ≡ 0)
-    refused-zero = rw no (refl, refl, refl, refl)
-
     pub refused-kept : (l : Lists) → l ≡ writtenIf v (g .arcs) l
     refused-kept l = rw no refl
 
@@ -152,3 +161,9 @@ module _ (v : Verdict) (g : Automaton) where
   pub accepted-model : v ≡ Yes → (l : Lists) → length (g .arcs) ≤ roomIn l → let r = readingIf v g in
       automatonOf (r .modes) (r .start) (r .colours) (firstPlaces (r .count) (writtenIf v (g .arcs) l)) ≡ g
   accepted-model e l room = rw e (filled-model g l room)
+
+-- the same by the number: where it is not 0, four zeros, and the lists as they were
+pub filled-refused : (v : Verdict) (g : Automaton) (l : Lists) → (answerOf v .number ≡ 0 → ⊥) → let r = readingIf v g in
+    (r .modes ≡ 0) × (r .start ≡ 0) × (r .colours ≡ 0) × (r .count ≡ 0) × (writtenIf v (g .arcs) l ≡ l)
+filled-refused Yes g l refused = absurd (refused refl)
+filled-refused (Refused r) g l refused = (refl, refl, refl, refl, refl)

@@ -1,6 +1,6 @@
 -- The first pass: tallies, the loop over a row and the loop over rows. Assumes nothing.
 use mathlib.Core.Path.{_≡_, refl, sym, ap, _∙_}
-use mathlib.Core.Bool.{Bool, true, false, _||_, or-false}
+use mathlib.Core.Bool.{Bool, true, false, _||_, or-false, or-assoc}
 use mathlib.Core.List.{List, [], _∷_, _++_}
 use Prim.Native.Nat.{ℕ, suc, _+_, _*_, _≤_, _<_}
 use native.Mathlib.Numerals.{add-one}
@@ -24,10 +24,6 @@ pub tallied-count : (t : Tally) (l : List Arc) → tallied t l .count ≡ t .cou
 unfolding tallied
 tallied-count t [] = omega arith
 tallied-count t (a ∷ l) = tallied-count (talliedArc t a) l ∙ (omega arith)
-
-or-assoc : (a b c : Bool) → ((a || b) || c) ≡ (a || (b || c))
-or-assoc true b c = refl
-or-assoc false b c = refl
 
 pub tallied-above : (t : Tally) (l : List Arc) → tallied t l .above ≡ (t .above || someSumAbove l)
 unfolding tallied

@@ -1,6 +1,6 @@
 -- The joined model of two fit models is fit where 23 does not apply. Assumes nothing.
 use mathlib.Core.Path.{_≡_, refl, sym, subst}
-use mathlib.Core.Bool.{false, _||_}
+use mathlib.Core.Bool.{Bool, true, false, _||_}
 use mathlib.Core.List.{List, [], _∷_}
 use mathlib.Core.Logic.{_↔_}
 use Prim.Native.Nat.{ℕ, zero, suc, _+_, _*_, _<_}
@@ -9,9 +9,10 @@ use lib.Dec.{ltb}
 use lib.ListN.{length, getD}
 use Rattle.limits.specs.Ceilings.{modesMost, arcsMost, coloursMost, drawMost, gainMost}
 use Rattle.refusals.specs.declared.Refusal.the-variants.{JoinSize}
-use Rattle.refusals.specs.declared.Verdict.the-variants.{Yes}
-use Rattle.refusals.proofs.Tests.{or-no, lt-no}
-use Rattle.refusals.proofs.Verdicts.{refuse-yes}
+use Rattle.refusals.specs.declared.Verdict.the-variants.{Yes, Refused}
+use Rattle.refusals.specs.Refusals.{refuse}
+use Rattle.refusals.proofs.Tests.{or-no, or5-no, lt-no}
+use Rattle.refusals.proofs.Verdicts.{clash, refuse-yes}
 use Rattle.model.specs.declared.Arc.{Arc}
 use Rattle.model.specs.Automaton.{Automaton, noArc}
 use Rattle.model.specs.Fitness.{ArcFits, Fit}
@@ -53,28 +54,38 @@ size-yes g room =
     let colours = ltb coloursMost (g .colours) in
     let above = someSumAbove (g .arcs) in
     let all = refuse-yes (modes || arcs || colours || above || ltb room m) JoinSize Yes in
-    let last = or-no (modes || arcs || colours || above) (ltb room m) in
-    let fourth = or-no (modes || arcs || colours) above in
-    let third = or-no (modes || arcs) colours in
-    let second = or-no modes arcs in (
+    let five = or5-no modes arcs colours above (ltb room m) in (
       λ e.
-          let five = last .0 (all .0 e .0) in
-          let four = fourth .0 (five .0) in
-          let three = third .0 (four .0) in
-          let two = second .0 (three .0) in
+          let (few-modes, few-arcs, few-colours, sums, fits) = five .0 (all .0 e .0) in
           record {
-            few-modes = lt-no modesMost (g .modes) .0 (two .0);
-            few-arcs = lt-no arcsMost m .0 (two .1);
-            few-colours = lt-no coloursMost (g .colours) .0 (three .1);
-            sums = sums-no (g .arcs) .0 (four .1);
-            room-for = lt-no room m .0 (five .1);
+            few-modes = lt-no modesMost (g .modes) .0 few-modes;
+            few-arcs = lt-no arcsMost m .0 few-arcs;
+            few-colours = lt-no coloursMost (g .colours) .0 few-colours;
+            sums = sums-no (g .arcs) .0 sums;
+            room-for = lt-no room m .0 fits;
           },
       λ s.
-          let two = second .1 (lt-no modesMost (g .modes) .1 (s .few-modes), lt-no arcsMost m .1 (s .few-arcs)) in
-          let three = third .1 (two, lt-no coloursMost (g .colours) .1 (s .few-colours)) in
-          let four = fourth .1 (three, sums-no (g .arcs) .1 (s .sums)) in
-          all .1 (last .1 (four, lt-no room m .1 (s .room-for)), refl),
+          let none = five .1 (
+            lt-no modesMost (g .modes) .1 (s .few-modes),
+            lt-no arcsMost m .1 (s .few-arcs),
+            lt-no coloursMost (g .colours) .1 (s .few-colours),
+            sums-no (g .arcs) .1 (s .sums),
+            lt-no room m .1 (s .room-for),
+          ) in
+          all .1 (none, refl),
     )
+
+-- and is answered exactly where it does not
+pub size-no : (g : Automaton) (room : ℕ) → (sizeOf g room ≡ Refused JoinSize) ↔ (SizeFits g room → ⊥)
+unfolding sizeOf
+size-no g room = (
+  λ e s. let yes = size-yes g room .1 s in clash (cc),
+  λ misfit. go (oversize (g .modes) (length (g .arcs)) (g .colours) (someSumAbove (g .arcs)) room) (λ e. misfit (size-yes g room .0 e)),
+)
+  where
+    go : (t : Bool) → (refuse t JoinSize Yes ≡ Yes → ⊥) → refuse t JoinSize Yes ≡ Refused JoinSize
+    go true other = refl
+    go false other = absurd (other refl)
 
 -- the joined arc of two fit arcs, where its sums are within their ranges
 arc-fits : (n₁ k₁ n₂ k₂ : ℕ) (x y : Arc) → ArcFits n₁ k₁ x → ArcFits n₂ k₂ y → SumsFit (joinArc n₂ k₁ x y)

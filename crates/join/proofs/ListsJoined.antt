@@ -1,9 +1,11 @@
 -- What a caller learns from the verdict of a join: where it is yes, what stands in the lists, that it is a fit model, and when that has a plan. Assumes
 -- nothing.
-use mathlib.Core.Path.{_≡_, sym, ap, subst}
+use mathlib.Core.Path.{_≡_, refl, sym, ap, subst}
 use mathlib.Core.Logic.{_↔_}
 use Prim.Native.Nat.{ℕ}
-use Rattle.refusals.specs.declared.Verdict.the-variants.{Yes}
+use Rattle.refusals.specs.declared.Refusal.{Refusal}
+use Rattle.refusals.specs.declared.Refusal.the-variants.{JoinSize}
+use Rattle.refusals.specs.declared.Verdict.the-variants.{Yes, Refused}
 use Rattle.refusals.specs.Refusals.{andThen}
 use Rattle.refusals.proofs.Verdicts.{and-then-yes}
 use Rattle.model.specs.Automaton.{Automaton}
@@ -14,9 +16,9 @@ use Rattle.model.proofs.Fitness.{fitness-yes}
 use Rattle.filling.specs.declared.Reading.{Reading}
 use Rattle.filling.specs.Filling.{roomIn, readingIf, firstPlaces, laterPlaces}
 use Rattle.filling.proofs.Filled.{filled-model, filled-rest, filled-fitness}
-use Rattle.join.specs.Joining.{Given, modelGiven, fitnessGiven, joinedGiven, sizeOf, joinVerdict, Joinable, joinOf, listsJoined}
+use Rattle.join.specs.Joining.{Given, modelGiven, fitnessGiven, joinedGiven, sizeOf, SizeFits, joinVerdict, Joinable, joinOf, listsJoined}
 use Rattle.join.specs.Together.{SomeTogether}
-use Rattle.join.proofs.Fits.{size-yes, joined-fit}
+use Rattle.join.proofs.Fits.{size-yes, size-no, joined-fit}
 use Rattle.join.proofs.Together.{joins}
 
 module _ (x y : Given) where
@@ -45,6 +47,22 @@ module _ (x y : Given) where
               second .1 (habit-yes .1 (j .habit-lists, j .habit), size-yes (joinedGiven x y) room .1 (j .size)),
             ),
       )
+
+  -- "Either model unfit gives its own number from 1 to 5, the knee's first";
+  module _ (room : ℕ) (r : Refusal) where
+    pub join-knee : fitnessGiven x ≡ Refused r → joinVerdict x y room ≡ Refused r
+    unfolding joinVerdict
+    join-knee e = rw e refl
+
+    pub join-habit : fitnessGiven x ≡ Yes → fitnessGiven y ≡ Refused r → joinVerdict x y room ≡ Refused r
+    unfolding joinVerdict
+    join-habit e f = rw (e, f) refl
+
+  -- 23 is "looked at last", and answered exactly where the size does not fit
+  pub join-size : (room : ℕ) → fitnessGiven x ≡ Yes → fitnessGiven y ≡ Yes
+      → (joinVerdict x y room ≡ Refused JoinSize) ↔ (SizeFits (joinedGiven x y) room → ⊥)
+  unfolding joinVerdict
+  join-size room e f = rw (e, f) (size-no (joinedGiven x y) room)
 
   -- the answer depends on what the lists take, not on what stands in them
   pub join-same : (l m : Lists) → roomIn l ≡ roomIn m → joinOf x y l ≡ joinOf x y m

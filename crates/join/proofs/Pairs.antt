@@ -14,7 +14,8 @@ use borrow.Author.Tests.{eqb-true, eq-eqb}
 use Rattle.model.specs.declared.Arc.{Arc}
 use Rattle.model.specs.Automaton.{Automaton, noArc, arcAt}
 use Rattle.join.specs.Joined.{joinArc, keep, joinRow, joinArcs, joined}
-use Rattle.join.proofs.Every.{Every, every-append, every-at, every-map}
+use Rattle.join.specs.Within.{Every}
+use Rattle.join.proofs.Every.{every-append, every-at, every-map}
 
 -- the numbers of a knee's arc and of a habit's arc
 pub record Pair : Type 0 where
@@ -24,6 +25,7 @@ pub record Pair : Type 0 where
 abbrev pair : ℕ → ℕ → Pair
 pair a c = record { knee = a; habit = c }
 
+-- what stands for a pair that is not there
 abbrev no-pair : Pair
 no-pair = pair 0 0
 
@@ -193,6 +195,7 @@ pairs-sorted (x ∷ xs) a ys =
     (λ p h. every-map (InPairs xs (suc a) ys) (Before p) (λ q k. inl (omega (arith, h .knee, k .knee))) rest (pairs-each xs (suc a) ys))
     (row (x .action) a ys 0) (row-each (x .action) a ys 0))
 
+-- the element of a mapped list at a place that it has, whatever stands for one that it has not
 getD-map-lt : {A B : Type 0} (f : A → B) (l : List A) (z : ℕ) (d : A) (e : B) → z < length l → getD (map f l) z e ≡ f (getD l z d)
 getD-map-lt f [] z d e h = absurd (omega arith)
 getD-map-lt f (x ∷ l) zero d e h = refl
@@ -243,6 +246,14 @@ module _ (g h : Automaton) where
             ap {B = Arc} (λ (l : List Arc). getD l z noArc) arcs-pairs
             ∙ getD-map-lt (joinPair (h .modes) (g .colours) (g .arcs) (h .arcs)) pairsOf z no-pair noArc below;
       }
+
+  -- "it keeps their action"
+  pub joined-action : (z : ℕ) → IsJoined z
+      → (arcAt (joined g h) z .action ≡ arcAt g (kneeArc z) .action) × (arcAt (joined g h) z .action ≡ arcAt h (habitArc z) .action)
+  joined-action z k =
+      let m = made-of z k in
+      let first = ap {B = ℕ} (λ (a : Arc). a .action) (m .arc) in
+      (first, first ∙ m .action)
 
   -- "For each pair of arcs with equal action .. there is one joined arc":
   pub pair-joined : (a c : ℕ) → a < length (g .arcs) → c < length (h .arcs) → arcAt g a .action ≡ arcAt h c .action

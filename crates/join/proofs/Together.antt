@@ -3,7 +3,7 @@ use mathlib.Core.Path.{_≡_, refl, sym, ap, _∙_, subst}
 use mathlib.Core.Bool.{Bool}
 use mathlib.Core.List.{List, [], _∷_, _++_, map, map-append}
 use mathlib.Core.Logic.{inl, inr, _↔_}
-use Prim.Native.Nat.{ℕ, zero, suc, _+_, _-_, _<_}
+use Prim.Native.Nat.{ℕ, zero, suc, _+_, _-_, _<_, min}
 use native.Mathlib.Omega.{arith}
 use native.Mathlib.Decide.{decLe}
 use lib.ListN.{length, length-map}
@@ -17,8 +17,9 @@ use Rattle.model.specs.Plans.{Plan, Leads, IsPlan, SomeArc, Accepted, Serves, S
 use Rattle.model.proofs.Bits.{colours-below}
 use Rattle.join.specs.Joined.{joinMode, joined}
 use Rattle.join.specs.Together.{SameActions, bothMoves, movesTogether, ServeTogether, SomeTogether}
+use Rattle.join.specs.Within.{Every}
 use Rattle.join.proofs.Colours.{low-bit, high-bit}
-use Rattle.join.proofs.Every.{Every, every-append}
+use Rattle.join.proofs.Every.{every-append}
 use Rattle.join.proofs.Modes.{mode-one}
 use Rattle.join.proofs.Pairs.{kneeArc, habitArc, IsJoined, made-of, pair-joined}
 
@@ -44,6 +45,12 @@ module _ (p q : ℕ → Bool) (f : ℕ → ℕ) (P : ℕ → Type 0) (same : (z 
   some-from : (w : List ℕ) → Every P w → SomeArc q (map f w) → SomeArc p w
   some-from (z ∷ w) h (inl m) = inl (same z (h .0) ∙ m)
   some-from (z ∷ w) h (inr m) = inr (some-from w (h .1) m)
+
+-- moves go together as long as both last
+pub together-length : (ms ns : List Move) → length (movesTogether ms ns) ≡ min (length ms) (length ns)
+together-length [] ns = omega arith
+together-length (m ∷ ms) [] = omega arith
+together-length (m ∷ ms) (n ∷ ns) = omega (arith, together-length ms ns)
 
 module _ (g h : Automaton) where
   abbrev J : Automaton

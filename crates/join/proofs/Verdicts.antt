@@ -1,7 +1,7 @@
 -- The verdicts, as the code comes to them: 23 after the first pass; the knee's 1 to 5, the habit's and 23. Assumes nothing.
 use mathlib.Core.Path.{_≡_, refl, sym, ap, _∙_}
 use mathlib.Core.Bool.{Bool, true, false, _||_}
-use Prim.Native.Nat.{ℕ, _+_, _*_, _^_}
+use Prim.Native.Nat.{ℕ, _+_, _*_}
 use native.Mathlib.Nat.{zero-add}
 use lib.Dec.{ltb}
 use lib.ListN.{length}
@@ -19,7 +19,7 @@ use Rattle.model.specs.Lists.{held}
 use Rattle.model.specs.Fitness.{fittedOf}
 use Rattle.model.proofs.Held.{told-verdict, told-holds, told-held}
 use Rattle.join.specs.declared.Tally.{Tally}
-use Rattle.join.specs.Joined.{joinMode, joinArc, joined}
+use Rattle.join.specs.Joined.{joinArc, joined}
 use Rattle.join.specs.Joining.{Given, modelGiven, fitnessGiven, joinedGiven, sumAbove, someSumAbove, oversize, sizeOf, joinVerdict}
 use Rattle.join.specs.Within.{joinedHeld, noTally, tallied, HoldsIf, joinedFitted, fittedVerdict}
 use Rattle.join.proofs.Counting.{tallied-count, tallied-above}
@@ -31,12 +31,6 @@ module _ (b : Bool) (x y : Arc) (none : b ≡ false) where
 
   pub gain-above : ltb drawMost (x .draw + y .draw) ≡ false → ltb gainMost (x .gain + y .gain) ≡ (b || sumAbove (joinArc 0 0 x y))
   gain-above h = rw (none, h) refl
-
--- the joined arc by its parts
-pub join-arc-is : (x y : Arc) (n k s t c : ℕ) → s ≡ joinMode n (x .source) (y .source) → t ≡ joinMode n (x .target) (y .target)
-    → c ≡ x .colours + 2 ^ k * y .colours
-    → record { source = s; target = t; draw = x .draw + y .draw; gain = x .gain + y .gain; colours = c; action = x .action } ≡ joinArc n k x y
-join-arc-is x y n k s t c e f g = rw (e, f, g) refl
 
 -- the last test of 23
 pub oversize-room : (n m k : ℕ) (above : Bool) (room : ℕ) → ltb modesMost n ≡ false → ltb arcsMost m ≡ false → ltb coloursMost k ≡ false

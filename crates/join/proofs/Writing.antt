@@ -1,7 +1,7 @@
 -- The second pass: the loop over a row and the loop over rows. Assumes nothing.
 use mathlib.Core.Path.{_≡_, sym, ap, _∙_, subst}
 use mathlib.Core.Bool.{Bool, true, false}
-use mathlib.Core.List.{List, [], _∷_, _++_}
+use mathlib.Core.List.{List, _∷_, _++_}
 use Prim.Native.Nat.{ℕ, suc, _+_, _≤_, _<_}
 use native.Mathlib.Numerals.{add-one}
 use native.Mathlib.Omega.{arith}
@@ -18,15 +18,8 @@ use Rattle.filling.specs.Filling.{put, Written}
 use Rattle.filling.proofs.Writing.{Writing, writing-none, writing-rest, writing-put, writing-append, writing-done}
 use Rattle.join.specs.Joined.{joinArc, keep, joinRow}
 use Rattle.join.specs.Within.{joinedHeld, Narrow, AllNarrow, RowFits, AllFit}
+use Rattle.join.proofs.Every.{every-left, every-right}
 use Rattle.join.proofs.Rows.{rowFrom, row-turn, row-end, rowsFrom, rowOf, rows-turn, rows-end}
-
-narrow-left : (u v : List Arc) → AllNarrow (u ++ v) → AllNarrow u
-narrow-left [] v h = tt
-narrow-left (a ∷ u) v h = (h .0, narrow-left u v (h .1))
-
-narrow-right : (u v : List Arc) → AllNarrow (u ++ v) → AllNarrow v
-narrow-right [] v h = h
-narrow-right (a ∷ u) v h = narrow-right u v (h .1)
 
 -- of the row of a knee's arc, to be written from place `from` on, the arcs before the habit's arc j are written
 pub record RowWriting (k : ℕ) (x : Arc) (h : Model) (from : ℕ) (old now : Lists) (i j : ℕ) : Type 0 where
@@ -118,7 +111,7 @@ module _ (g h : Model) (old : Lists) where
                   few = knee .fit .few-colours;
                   colours = colours-below (arcIn g i .colours) (g .colours) .1 (holds-arc g i knee lt .colours);
                 };
-            narrow = narrow-left (rowOf g h i) (rowsFrom g h (suc i)) both;
+            narrow = every-left Narrow (rowOf g h i) (rowsFrom g h (suc i)) both;
             few = omega (arith, state .fits .few, state .writing .place, long);
           }
 
@@ -127,7 +120,7 @@ module _ (g h : Model) (old : Lists) where
           rw (add-one i)
           record {
             fits = state .fits;
-            narrow = narrow-right (rowOf g h i) (rowsFrom g h (suc i)) both;
+            narrow = every-right Narrow (rowOf g h i) (rowsFrom g h (suc i)) both;
             writing =
                 writing-append (joinedHeld g h) 0 at old now (rowOf g h i) (rowsFrom g h (suc i))
                 (writing-rest (joinedHeld g h) 0 at old now _ _ row-next (state .writing)) end left w;

@@ -19,7 +19,7 @@ SameActions g h (a ∷ u) (c ∷ v) = (arcAt g a .action ≡ arcAt h c .action) 
 abbrev pub bothMoves : Move → Move → Move
 bothMoves m n = record { draw = m .draw + n .draw; gain = m .gain + n .gain }
 
--- step by step
+-- two lists of moves, step by step, as long as both last (law together-length)
 abbrev pub movesTogether : List Move → List Move → List Move
 movesTogether [] ns = []
 movesTogether (m ∷ ms) [] = []

@@ -19,6 +19,12 @@ use Rattle.join.specs.declared.Tally.{Tally}
 use Rattle.join.specs.Joined.{joinMode, joinRow, joined}
 use Rattle.join.specs.Joining.{sumAbove, sizeOf}
 
+-- every element of a list has a property
+module _ {A : Type 0} where
+  abbrev pub Every : (A → Type 0) → List A → Type 0
+  Every P [] = Unit {0}
+  Every P (a ∷ l) = P a × Every P l
+
 -- the joined arcs of two models as the code holds them
 abbrev pub joinedHeld : Model → Model → List Arc
 joinedHeld g h = joined (held g) (held h) .arcs
@@ -48,10 +54,9 @@ pub record Narrow (a : Arc) : Type 0 where
   pub colours : a .colours < 256
 
 abbrev pub AllNarrow : List Arc → Type 0
-AllNarrow [] = Unit {0}
-AllNarrow (a ∷ l) = Narrow a × AllNarrow l
+AllNarrow l = Every Narrow l
 
--- a knee's arc, whose colours are below k
+-- a knee's arc, whose colour byte has no bit at or above k, which is at most 4
 pub record Below (k : ℕ) (x : Arc) : Type 0 where
   pub few : k ≤ coloursMost
   pub colours : x .colours < 2 ^ k

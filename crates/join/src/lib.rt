@@ -29,7 +29,7 @@ pub struct Tally {
     pub above: bool,
 }
 
-// Whether a sum was above 10,000 before, or one of this pair is.
+// Whether a sum was above 10,000 before, or one of this pair is. Modes and colours do not matter to a sum: 0 stands for both.
 fn sum_above(before: bool, x: Arc, y: Arc) -> bool
     ensures { λ r. ⌜ r ≡ (before || sumAbove (joinArc 0 0 x y)) ⌝ }
 {
@@ -44,7 +44,7 @@ fn sum_above(before: bool, x: Arc, y: Arc) -> bool
     gain > (Limits::GAIN as u32)
 }
 
-// The tally with a pair of arcs: one more where their actions are equal.
+// The tally with a pair of arcs: one more where their actions are equal. There are at most 255 × 255 pairs.
 fn counted(x: Arc, y: Arc, tally: Tally) -> Tally
     requires { ⌜ tally .count ≤ 65025 ⌝ }
     ensures { λ r. ⌜ r ≡ talliedIf (eqb (x .action) (y .action)) tally (joinArc 0 0 x y) ⌝ }
@@ -57,7 +57,7 @@ fn counted(x: Arc, y: Arc, tally: Tally) -> Tally
     Tally { count, above }
 }
 
-// The tally with a knee's arc joined with each of the habit's.
+// The tally with a knee's arc joined with each of the habit's. Before the last row there are at most 254 × 255 pairs.
 fn count_row(x: Arc, habit: Model, tally: Tally) -> Tally
     requires { ⌜ Holds habit × (tally .count ≤ 64770) ⌝ }
     ensures { λ r. ⌜ ((k : ℕ) → r ≡ tallied tally (joinRow (habit .modes) k x (held habit .arcs))) ⌝ }

@@ -1,7 +1,7 @@
 -- What the verdicts mean: fitness is yes exactly for six equal lists and a fit model, levels exactly for c ≤ b ≤ 8,191; and the model that
 -- the code holds is the model of the lists. Assumes nothing.
 use mathlib.Core.Path.{_≡_, refl, sym, ap, _∙_, subst}
-use mathlib.Core.Bool.{Bool, true, false, not, _||_}
+use mathlib.Core.Bool.{Bool, false, not, _||_}
 use mathlib.Core.List.{List}
 use mathlib.Core.Logic.{_↔_}
 use Prim.Native.Nat.{ℕ, _+_, _-_, _^_, _≤_, _<_}
@@ -17,31 +17,13 @@ use Rattle.refusals.specs.declared.Refusal.the-variants.{UnfitArc, ModeCount, S
 use Rattle.refusals.specs.declared.Verdict.{Verdict}
 use Rattle.refusals.specs.declared.Verdict.the-variants.{Yes, Refused}
 use Rattle.model.specs.Automaton.{Automaton, noArc}
-use Rattle.refusals.proofs.Verdicts.{clash, refuse-yes, and-then-yes}
+use Rattle.refusals.proofs.Verdicts.{refuse-yes, and-then-yes}
 use Rattle.refusals.proofs.Scan.{FirstOf, Scan, scan-yes, scan-first}
-use Rattle.refusals.proofs.Tests.{or-no, lt-no, le-no, differ-no}
+use Rattle.refusals.proofs.Tests.{or-no, or6-no, lt-no, le-no, differ-no}
 use Rattle.model.specs.Lists.{Lists, arcsOf, automatonOf, modelOf, blankModel, held}
 use Rattle.model.specs.Fitness.{unfitLists, header, headerOf, arcsFitness, unfitArc, arcsVerdict, fitness, fittedIf, fittedArcs, fittedOf, levelsOf, EqualLists, Header, ArcFits, Fit, Holds}
 use Rattle.model.proofs.Bits.{colours-below}
 use Rattle.model.proofs.Arcs.{arcs-length, arcs-take}
-
--- none of four, none of six
-or4-no : (a b c d : Bool) → ((a || b || c || d) ≡ false) ↔ ((a ≡ false) × (b ≡ false) × (c ≡ false) × (d ≡ false))
-or4-no false false false d = (λ e. (refl, refl, refl, e), λ e. e .3)
-or4-no true b c d = (λ e. clash (cc), λ e. clash (cc))
-or4-no false true c d = (λ e. clash (cc), λ e. clash (cc))
-or4-no false false true d = (λ e. clash (cc), λ e. clash (cc))
-
-or6-no : (a b c d e f : Bool) → ((a || b || c || d || e || f) ≡ false)
-    ↔ ((a ≡ false) × (b ≡ false) × (c ≡ false) × (d ≡ false) × (e ≡ false) × (f ≡ false))
-or6-no a b c d e f = (
-  λ q.
-      let r = or-no (a || b || c || d || e) f .0 q in
-      let s = or-no (a || b || c || d) e .0 (r .0) in
-      let t = or4-no a b c d .0 (s .0) in
-      (t .0, t .1, t .2, t .3, s .1, r .1),
-  λ t. or-no (a || b || c || d || e) f .1 (or-no (a || b || c || d) e .1 (or4-no a b c d .1 (t .0, t .1, t .2, t .3), t .4), t .5),
-)
 
 -- an arc that is not unfit
 pub unfit-no : (n k : ℕ) (a : Arc) → (unfitArc n (2 ^ k) a ≡ false) ↔ ArcFits n k a

@@ -1,8 +1,8 @@
 -- The numbers of the table: no two refusals share one, 0 is that of the yes alone, and each fits a byte. Assumes nothing.
 use mathlib.Core.Path.{_≡_, refl, sym, ap, _∙_}
-use mathlib.Core.Bool.{cond}
+use mathlib.Core.Bool.{Bool, false, cond, _||_}
 use mathlib.Core.Logic.{_↔_}
-use Prim.Native.Nat.{_^_, _<_}
+use Prim.Native.Nat.{ℕ, _^_, _<_}
 use native.Mathlib.Omega.{arith}
 use lib.Dec.{eqb}
 use Rattle.refusals.specs.declared.Answer.{Answer}
@@ -11,6 +11,7 @@ use Rattle.refusals.specs.declared.Refusal.the-variants.{ModeCount, Star
 use Rattle.refusals.specs.declared.Verdict.{Verdict}
 use Rattle.refusals.specs.declared.Verdict.the-variants.{Yes, Refused}
 use Rattle.refusals.specs.Refusals.{numbered, answerOf}
+use Rattle.refusals.proofs.Verdicts.{clash}
 
 -- the numbers of refusals are not 0, and fit a byte
 pub refusal-number : (r : Refusal) → (0 < numbered r .number) × (numbered r .number < 2 ^ 8)
@@ -63,7 +64,8 @@ refusalOf x =
     (cond (eqb (x .number) 20) (DimacsLine (x .detail))
     (cond (eqb (x .number) 21) TextsDisagree
     (cond (eqb (x .number) 22) MixedGauge
-    JoinSize)))))))))))))))))))))
+    (cond (eqb (x .number) 23) JoinSize
+    ModeCount))))))))))))))))))))))
 
 refusal-back : (r : Refusal) → refusalOf (numbered r) ≡ r
 refusal-back ModeCount = refl
@@ -89,6 +91,35 @@ refusal-back (DimacsLine d) = refl
 refusal-back TextsDisagree = refl
 refusal-back MixedGauge = refl
 refusal-back JoinSize = refl
+
+-- "with one detail (0 where none is named)": the numbers that name one are 5, 12, 13, 15, 17, 19 and 20
+abbrev namesDetail : ℕ → Bool
+namesDetail n = eqb n 5 || eqb n 12 || eqb n 13 || eqb n 15 || eqb n 17 || eqb n 19 || eqb n 20
+
+pub detail-none : (r : Refusal) → namesDetail (numbered r .number) ≡ false → numbered r .detail ≡ 0
+detail-none ModeCount e = refl
+detail-none StartMode e = refl
+detail-none ArcLists e = refl
+detail-none ColourCount e = refl
+detail-none (UnfitArc d) e = clash (cc)
+detail-none Levels e = refl
+detail-none Product e = refl
+detail-none WorkingSpace e = refl
+detail-none PlanBuffer e = refl
+detail-none NoPlan e = refl
+detail-none PlanLength e = refl
+detail-none (ArcNumber d) e = clash (cc)
+detail-none (OtherMode d) e = clash (cc)
+detail-none OpenCycle e = refl
+detail-none (ImpossibleStep d) e = clash (cc)
+detail-none FallingCycle e = refl
+detail-none (MissingColour d) e = clash (cc)
+detail-none NoSuchColour e = refl
+detail-none (HoaLine d) e = clash (cc)
+detail-none (DimacsLine d) e = clash (cc)
+detail-none TextsDisagree e = refl
+detail-none MixedGauge e = refl
+detail-none JoinSize e = refl
 
 -- a number and a detail are those of one refusal alone
 pub refusal-one : (q r : Refusal) → numbered q ≡ numbered r → q ≡ r

@@ -12,6 +12,26 @@ pub or-no : (s t : Bool) → ((s || t) ≡ false) ↔ ((s ≡ false) × (t ≡ f
 or-no true t = (λ e. clash (cc), λ e. clash (cc))
 or-no false t = (λ e. (refl, e), λ e. e .1)
 
+-- none of four, none of five, none of six
+pub or4-no : (a b c d : Bool) → ((a || b || c || d) ≡ false) ↔ ((a ≡ false) × (b ≡ false) × (c ≡ false) × (d ≡ false))
+or4-no false false false d = (λ e. (refl, refl, refl, e), λ e. e .3)
+or4-no true b c d = (λ e. clash (cc), λ e. clash (cc))
+or4-no false true c d = (λ e. clash (cc), λ e. clash (cc))
+or4-no false false true d = (λ e. clash (cc), λ e. clash (cc))
+
+pub or5-no : (a b c d e : Bool) → ((a || b || c || d || e) ≡ false) ↔ ((a ≡ false) × (b ≡ false) × (c ≡ false) × (d ≡ false) × (e ≡ false))
+or5-no a b c d e = (
+  λ q. let r = or-no (a || b || c || d) e .0 q in let t = or4-no a b c d .0 (r .0) in (t .0, t .1, t .2, t .3, r .1),
+  λ t. or-no (a || b || c || d) e .1 (or4-no a b c d .1 (t .0, t .1, t .2, t .3), t .4),
+)
+
+pub or6-no : (a b c d e f : Bool) → ((a || b || c || d || e || f) ≡ false)
+    ↔ ((a ≡ false) × (b ≡ false) × (c ≡ false) × (d ≡ false) × (e ≡ false) × (f ≡ false))
+or6-no a b c d e f = (
+  λ q. let r = or-no (a || b || c || d || e) f .0 q in let t = or5-no a b c d e .0 (r .0) in (t .0, t .1, t .2, t .3, t .4, r .1),
+  λ t. or-no (a || b || c || d || e) f .1 (or5-no a b c d e .1 (t .0, t .1, t .2, t .3, t .4), t .5),
+)
+
 -- not below, not at most, not different
 pub lt-no : (m n : ℕ) → (ltb m n ≡ false) ↔ (n ≤ m)
 lt-no m n = (ltb-false m n, le-ltb m n)

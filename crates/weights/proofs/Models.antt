@@ -12,7 +12,7 @@ use lib.IntN.{ℤ, pos, negsuc}
 use lib.ListN.{length, length-map, getD, take, length-take, List·getD-map, List·getD-eq-default}
 use lib.Seq.{getD-take}
 use lib.Signed.{ltZ}
-use Rattle.limits.specs.Ceilings.{arcsMost, drawMost, gainMost}
+use Rattle.limits.specs.Ceilings.{drawMost, gainMost}
 use Rattle.walks.specs.declared.Step.{Step}
 use Rattle.walks.specs.declared.Step.the-variants.{To, Impossible}
 use Rattle.walks.specs.BoundedStep.{Move, stepped}

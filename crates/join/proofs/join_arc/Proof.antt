@@ -1,6 +1,8 @@
 -- `join::join_arc` meets its contract. Assumes nothing.
 use borrow.Author.Needs.{needs}
-use Rattle.join.proofs.Verdicts.{join-arc-is}
+use mathlib.Core.Path.{refl}
+use Rattle.filling.proofs.Filled.{arc-by}
+use Rattle.join.specs.Joined.{joinArc}
 use Rattle.join.proofs.join_arc.Statement.{statement}
 use Rattle.join.proofs.join_arc.Tie as tie
 
@@ -25,7 +27,8 @@ returns c =
     let target = colours .before in
     let source = target .before in
     let a = source .before .args in
-    join-arc-is (a .x) (a .y) (a .n) (a .k) _ _ _ (source .join-mode .ensures) (target .join-mode2 .ensures) (colours .join-colours .ensures)
+    arc-by (joinArc (a .n) (a .k) (a .x) (a .y)) (source .join-mode .ensures) (target .join-mode2 .ensures) refl refl
+    (colours .join-colours .ensures) refl
 
 pub join-arc-spec : {M : Type 1} → statement M
 join-arc-spec =

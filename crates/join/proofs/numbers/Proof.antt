@@ -27,7 +27,9 @@ cast-start : tie.Need-cast-start
 cast-start c = search needs
 
 add-start : tie.Need-add-start
-add-start c = let a = c .before .before .before .before .before .args in omega (arith, product-most (a .knee .start) (a .habit .modes) (omega arith) (omega arith))
+add-start c =
+    let a = c .before .before .before .before .before .args in
+    omega (arith, product-most (a .knee .start) (a .habit .modes) (omega arith) (omega arith))
 
 cast-colours : tie.Need-cast-colours
 cast-colours c = search needs

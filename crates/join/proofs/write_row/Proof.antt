@@ -67,7 +67,8 @@ head-of e = e .before .before .before .before .before
 taken : (e : tie.Else1 Inv-loop μ-loop) → head-of e .loop .j < start (head-of e) .args .t2 .count
 taken e = e .before .before .before .before .loop-test .taken
 
-narrow : (e : tie.Else1 Inv-loop μ-loop) → Narrow (joinArc (start (head-of e) .args .t2 .modes) (start (head-of e) .args .k) (start (head-of e) .args .x) (arcIn (start (head-of e) .args .t2) (head-of e .loop .j)))
+narrow : (e : tie.Else1 Inv-loop μ-loop) → let a = start (head-of e) .args in
+    Narrow (joinArc (a .t2 .modes) (a .k) (a .x) (arcIn (a .t2) (head-of e .loop .j)))
 narrow e =
     let head = head-of e in
     let a = start head .args in
