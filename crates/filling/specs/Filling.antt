@@ -1,15 +1,15 @@
 -- Lists lent to be filled. Document 01: "a call that fills arc lists writes one place per arc, from place 0"; document 02, Asks 1 and 5: reading and the
 -- join fill them.
-use Prim.Native.Nat.{ℕ, _+_, min}
+use Prim.Native.Nat.{ℕ, _+_, _<_, min}
 use mathlib.Core.Path.{_≡_}
 use mathlib.Core.List.{List, map}
-use lib.ListN.{length, set, take, drop}
+use lib.ListN.{length, getD, set, take, drop}
 use lib.Seq.{sets}
 use Rattle.refusals.specs.declared.Refusal.{Refusal}
 use Rattle.refusals.specs.declared.Verdict.{Verdict}
 use Rattle.refusals.specs.declared.Verdict.the-variants.{Yes, Refused}
 use Rattle.model.specs.declared.Arc.{Arc}
-use Rattle.model.specs.Automaton.{Automaton}
+use Rattle.model.specs.Automaton.{Automaton, noArc}
 use Rattle.model.specs.Lists.{Lists, lists}
 use Rattle.filling.specs.declared.Reading.{Reading}
 
@@ -19,6 +19,18 @@ roomOf sources targets draws gains colours actions = min (min sources targets) (
 
 abbrev pub roomIn : Lists → ℕ
 roomIn l = roomOf (length (l .sources)) (length (l .targets)) (length (l .draws)) (length (l .gains)) (length (l .colours)) (length (l .actions))
+
+-- an arc within the widths of the lists, bytes and 16 bits
+pub record Narrow (a : Arc) : Type 0 where
+  pub source : a .source < 256
+  pub target : a .target < 256
+  pub draw : a .draw < 65536
+  pub gain : a .gain < 65536
+  pub colours : a .colours < 256
+
+-- every one of some arcs is (law fit-narrow: those of a fit model are)
+abbrev pub AllNarrow : List Arc → Type 0
+AllNarrow arcs = (a : ℕ) → a < length arcs → Narrow (getD arcs a noArc)
 
 -- an arc written at place i of each; a list without that place stays as it is
 abbrev pub put : Lists → ℕ → Arc → Lists

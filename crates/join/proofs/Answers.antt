@@ -1,47 +1,26 @@
 -- From the verdict to what the join answers and leaves in the lists. Assumes nothing.
 use mathlib.Core.Path.{_≡_, refl, _∙_}
-use mathlib.Core.List.{List, [], _∷_}
-use Prim.Native.Nat.{ℕ, suc, _+_, _*_, _≤_, _<_}
+use mathlib.Core.List.{List}
+use Prim.Native.Nat.{ℕ, _≤_}
 use native.Mathlib.Nat.{zero-add}
 use native.Mathlib.Omega.{arith}
-use lib.ListN.{length, getD}
-use lib.Pow.{pow-mono}
-use Rattle.limits.specs.Ceilings.{modesMost, coloursMost}
+use lib.ListN.{length}
 use Rattle.refusals.specs.declared.Verdict.{Verdict}
 use Rattle.refusals.specs.declared.Verdict.the-variants.{Yes}
 use Rattle.refusals.specs.Refusals.{andThen, answerOf}
 use Rattle.refusals.proofs.Verdicts.{and-then-yes}
 use Rattle.model.specs.declared.Arc.{Arc}
 use Rattle.model.specs.declared.Fitted.{Fitted}
-use Rattle.model.specs.Automaton.{noArc}
 use Rattle.model.specs.Lists.{Lists, held}
-use Rattle.model.specs.Fitness.{ArcFits, fittedOf}
-use Rattle.model.proofs.Bits.{colours-below}
+use Rattle.model.specs.Fitness.{fittedOf}
 use Rattle.filling.specs.declared.Reading.{Reading}
 use Rattle.filling.specs.Filling.{roomIn, Written, readingIf, writtenIf}
 use Rattle.filling.proofs.Filled.{answer-if}
+use Rattle.filling.proofs.Widths.{fit-narrow}
 use Rattle.join.specs.Joining.{Given, joinedGiven, sizeOf, SizeFits, joinVerdict, joinOf, joinAnswer, listsJoined}
-use Rattle.join.specs.Within.{Narrow, AllNarrow, AllFit, HoldsIf, joinedFitted, fittedVerdict, numbersOf}
+use Rattle.join.specs.Within.{AllFit, HoldsIf, joinedFitted, fittedVerdict, numbersOf}
 use Rattle.join.proofs.Fits.{size-yes, joined-fit}
 use Rattle.join.proofs.Verdicts.{verdict-told}
-
--- fit arcs are within the widths of the lists
-narrow : (n k : ℕ) (a : Arc) → n ≤ modesMost → k ≤ coloursMost → ArcFits n k a → Narrow a
-narrow n k a few-modes few-colours f =
-    record {
-      source = omega (arith, f .source);
-      target = omega (arith, f .target);
-      draw = omega (arith, f .draw-most);
-      gain = omega (arith, f .gain-most);
-      colours = omega (arith, colours-below (a .colours) k .1 (f .colours), pow-mono few-colours);
-    }
-
-all-narrow : (n k : ℕ) (l : List Arc) → n ≤ modesMost → k ≤ coloursMost → ((a : ℕ) → a < length l → ArcFits n k (getD l a noArc)) → AllNarrow l
-all-narrow n k [] few-modes few-colours f = tt
-all-narrow n k (x ∷ l) few-modes few-colours f = (
-  narrow n k x few-modes few-colours (f 0 (omega arith)),
-  all-narrow n k l few-modes few-colours (λ a i. f (suc a) (omega arith)),
-)
 
 -- two models with the verdicts on them, and lists that are lent
 module _ (knee habit : Fitted) (holds : HoldsIf knee × HoldsIf habit) (lent : Lists) where
@@ -71,7 +50,7 @@ module _ (knee habit : Fitted) (holds : HoldsIf knee × HoldsIf habit) (lent : L
         record {
           knee = first;
           habit = second;
-          narrow = all-narrow (g .modes * h .modes) (g .colours + h .colours) arcs (fit .few-modes) (fit .few-colours) (fit .arcs-fit);
+          narrow = fit-narrow (joinedFitted knee habit) fit;
           few = fit .few-arcs;
         }
 

@@ -1,23 +1,18 @@
--- Laws of `Every`: every element of a list has a property. Assumes nothing.
+-- Every element of a list has a property. Assumes nothing.
 use mathlib.Core.List.{List, [], _∷_, _++_}
 use Prim.Native.Nat.{ℕ, zero, suc, _<_}
 use native.Mathlib.Omega.{arith}
 use lib.ListN.{length, getD}
-use Rattle.join.specs.Within.{Every}
 
 module _ {A : Type 0} where
+  abbrev pub Every : (A → Type 0) → List A → Type 0
+  Every P [] = Unit {0}
+  Every P (a ∷ l) = P a × Every P l
+
   module _ (P : A → Type 0) where
     pub every-append : (u v : List A) → Every P u → Every P v → Every P (u ++ v)
     every-append [] v h k = k
     every-append (a ∷ u) v h k = (h .0, every-append u v (h .1) k)
-
-    pub every-left : (u v : List A) → Every P (u ++ v) → Every P u
-    every-left [] v h = tt
-    every-left (a ∷ u) v h = (h .0, every-left u v (h .1))
-
-    pub every-right : (u v : List A) → Every P (u ++ v) → Every P v
-    every-right [] v h = h
-    every-right (a ∷ u) v h = every-right u v (h .1)
 
     pub every-at : (l : List A) (d : A) (z : ℕ) → Every P l → z < length l → P (getD l z d)
     every-at [] d z h k = absurd (omega arith)

@@ -15,7 +15,7 @@ use Rattle.model.specs.Plans.{SomePlan}
 use Rattle.model.proofs.Fitness.{fitness-yes}
 use Rattle.filling.specs.declared.Reading.{Reading}
 use Rattle.filling.specs.Filling.{roomIn, readingIf, firstPlaces, laterPlaces}
-use Rattle.filling.proofs.Filled.{filled-model, filled-rest, filled-fitness}
+use Rattle.filling.proofs.Filled.{accepted-model, filled-rest, filled-fitness}
 use Rattle.join.specs.Joining.{Given, modelGiven, fitnessGiven, joinedGiven, sizeOf, SizeFits, joinVerdict, Joinable, joinOf, listsJoined}
 use Rattle.join.specs.Together.{SomeTogether}
 use Rattle.join.proofs.Fits.{size-yes, size-no, joined-fit}
@@ -81,7 +81,7 @@ module _ (x y : Given) where
 
     -- n, the start mode and k as answered, and the first m places of the lists, are the joined model,
     pub join-model : let r = joinOf x y l in automatonOf (r .modes) (r .start) (r .colours) (firstPlaces (r .count) (listsJoined x y l)) ≡ J
-    join-model = rw yes (filled-model J l (joinable .size .room-for))
+    join-model = accepted-model (joinVerdict x y (roomIn l)) J yes l (joinable .size .room-for)
 
     -- which no call refuses by 1 to 5;
     pub join-fitness : let r = joinOf x y l in fitness (r .modes) (r .start) (r .colours) (firstPlaces (r .count) (listsJoined x y l)) ≡ Yes

@@ -14,8 +14,7 @@ use borrow.Author.Tests.{eqb-true, eq-eqb}
 use Rattle.model.specs.declared.Arc.{Arc}
 use Rattle.model.specs.Automaton.{Automaton, noArc, arcAt}
 use Rattle.join.specs.Joined.{joinArc, keep, joinRow, joinArcs, joined}
-use Rattle.join.specs.Within.{Every}
-use Rattle.join.proofs.Every.{every-append, every-at, every-map}
+use Rattle.join.proofs.Every.{Every, every-append, every-at, every-map}
 
 -- the numbers of a knee's arc and of a habit's arc
 pub record Pair : Type 0 where

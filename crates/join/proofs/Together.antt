@@ -17,9 +17,8 @@ use Rattle.model.specs.Plans.{Plan, Leads, IsPlan, SomeArc, Accepted, Serves, S
 use Rattle.model.proofs.Bits.{colours-below}
 use Rattle.join.specs.Joined.{joinMode, joined}
 use Rattle.join.specs.Together.{SameActions, bothMoves, movesTogether, ServeTogether, SomeTogether}
-use Rattle.join.specs.Within.{Every}
 use Rattle.join.proofs.Colours.{low-bit, high-bit}
-use Rattle.join.proofs.Every.{every-append}
+use Rattle.join.proofs.Every.{Every, every-append}
 use Rattle.join.proofs.Modes.{mode-one}
 use Rattle.join.proofs.Pairs.{kneeArc, habitArc, IsJoined, made-of, pair-joined}
 

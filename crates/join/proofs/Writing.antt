@@ -14,11 +14,11 @@ use Rattle.model.specs.declared.Model.{Model}
 use Rattle.model.specs.Lists.{Lists, held}
 use Rattle.model.proofs.Bits.{colours-below}
 use Rattle.model.proofs.Held.{arcIn, holds-arc}
-use Rattle.filling.specs.Filling.{put, Written}
+use Rattle.filling.specs.Filling.{Narrow, AllNarrow, put, Written}
+use Rattle.filling.proofs.Widths.{narrow-first, narrow-others, narrow-left, narrow-right}
 use Rattle.filling.proofs.Writing.{Writing, writing-none, writing-rest, writing-put, writing-append, writing-done}
 use Rattle.join.specs.Joined.{joinArc, keep, joinRow}
-use Rattle.join.specs.Within.{joinedHeld, Narrow, AllNarrow, RowFits, AllFit}
-use Rattle.join.proofs.Every.{every-left, every-right}
+use Rattle.join.specs.Within.{joinedHeld, RowFits, AllFit}
 use Rattle.join.proofs.Rows.{rowFrom, row-turn, row-end, rowsFrom, rowOf, rows-turn, rows-end}
 
 -- of the row of a knee's arc, to be written from place `from` on, the arcs before the habit's arc j are written
@@ -61,7 +61,7 @@ module _ (k : ℕ) (x : Arc) (h : Model) (from : ℕ) (old : Lists) where
       next = rest-is lt true (eq-eqb (x .action) (arcIn h j .action) eq)
 
       pub row-writing-narrow : Narrow arc
-      row-writing-narrow = subst AllNarrow next (state .narrow) .0
+      row-writing-narrow = narrow-first arc (rowFrom k x h (suc j)) (subst AllNarrow next (state .narrow))
 
       -- there is a place for it
       pub row-writing-place : i < arcsMost
@@ -72,7 +72,7 @@ module _ (k : ℕ) (x : Arc) (h : Model) (from : ℕ) (old : Lists) where
           rw (add-one i, add-one j)
           record {
             fits = state .fits;
-            narrow = subst AllNarrow next (state .narrow) .1;
+            narrow = narrow-others arc (rowFrom k x h (suc j)) (subst AllNarrow next (state .narrow));
             writing =
                 subst (λ (l : Lists). Writing row (rowFrom k x h (suc j)) from (suc i) old l) (sym e)
                 (writing-put row from i old now arc (rowFrom k x h (suc j)) (writing-rest row from i old now _ _ next (state .writing)));
@@ -111,7 +111,7 @@ module _ (g h : Model) (old : Lists) where
                   few = knee .fit .few-colours;
                   colours = colours-below (arcIn g i .colours) (g .colours) .1 (holds-arc g i knee lt .colours);
                 };
-            narrow = every-left Narrow (rowOf g h i) (rowsFrom g h (suc i)) both;
+            narrow = narrow-left (rowOf g h i) (rowsFrom g h (suc i)) both;
             few = omega (arith, state .fits .few, state .writing .place, long);
           }
 
@@ -120,7 +120,7 @@ module _ (g h : Model) (old : Lists) where
           rw (add-one i)
           record {
             fits = state .fits;
-            narrow = every-right Narrow (rowOf g h i) (rowsFrom g h (suc i)) both;
+            narrow = narrow-right (rowOf g h i) (rowsFrom g h (suc i)) both;
             writing =
                 writing-append (joinedHeld g h) 0 at old now (rowOf g h i) (rowsFrom g h (suc i))
                 (writing-rest (joinedHeld g h) 0 at old now _ _ row-next (state .writing)) end left w;

@@ -15,15 +15,10 @@ use Rattle.model.specs.Automaton.{Automaton}
 use Rattle.model.specs.Lists.{held}
 use Rattle.model.specs.Fitness.{Holds}
 use Rattle.filling.specs.declared.Reading.{Reading}
+use Rattle.filling.specs.Filling.{AllNarrow}
 use Rattle.join.specs.declared.Tally.{Tally}
 use Rattle.join.specs.Joined.{joinMode, joinRow, joined}
 use Rattle.join.specs.Joining.{sumAbove, sizeOf}
-
--- every element of a list has a property
-module _ {A : Type 0} where
-  abbrev pub Every : (A → Type 0) → List A → Type 0
-  Every P [] = Unit {0}
-  Every P (a ∷ l) = P a × Every P l
 
 -- the joined arcs of two models as the code holds them
 abbrev pub joinedHeld : Model → Model → List Arc
@@ -45,18 +40,7 @@ unfoldable pub tallied : Tally → List Arc → Tally
 tallied t [] = t
 tallied t (a ∷ l) = tallied (talliedArc t a) l
 
--- The second pass: an arc within the widths of the lists
-pub record Narrow (a : Arc) : Type 0 where
-  pub source : a .source < 256
-  pub target : a .target < 256
-  pub draw : a .draw < 65536
-  pub gain : a .gain < 65536
-  pub colours : a .colours < 256
-
-abbrev pub AllNarrow : List Arc → Type 0
-AllNarrow l = Every Narrow l
-
--- a knee's arc, whose colour byte has no bit at or above k, which is at most 4
+-- The second pass: a knee's arc, whose colour byte has no bit at or above k, which is at most 4
 pub record Below (k : ℕ) (x : Arc) : Type 0 where
   pub few : k ≤ coloursMost
   pub colours : x .colours < 2 ^ k

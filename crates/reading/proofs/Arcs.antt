@@ -3,17 +3,16 @@
 use mathlib.Core.Path.{_≡_, refl, ap, _∙_}
 use mathlib.Core.Bool.{true, false, _||_, and-false, or-false}
 use mathlib.Core.List.{List, [], _∷_, map}
-use Prim.Native.Nat.{ℕ, suc, _^_, _≤_, _<_}
+use Prim.Native.Nat.{ℕ, suc, _^_, _≤_}
 use native.Mathlib.Omega.{arith}
 use lib.Dec.{ltb}
-use lib.ListN.{length, getD}
+use lib.ListN.{length}
 use borrow.Author.Tests.{lt-leb, ne-eqb}
 use Rattle.limits.specs.Ceilings.{coloursMost, drawMost, gainMost}
 use Rattle.refusals.proofs.Verdicts.{clash}
 use Rattle.walks.specs.Weights.{drawOf, gainOf}
-use Rattle.model.specs.declared.Arc.{Arc}
-use Rattle.model.specs.Automaton.{bit, noArc}
-use Rattle.model.specs.Fitness.{ArcFits, unfitArc, arcsVerdict}
+use Rattle.model.specs.Automaton.{bit}
+use Rattle.model.specs.Fitness.{unfitArc, arcsVerdict}
 use Rattle.model.proofs.Bits.{colours-below}
 use Rattle.fields.proofs.Numbers.{both}
 use Rattle.hoa.specs.Text.{Edge, contains, colourByte}
@@ -22,7 +21,7 @@ use Rattle.hoa.proofs.Colours.{colour-bit}
 use Rattle.dimacs.specs.Text.{TextArc, textArcOn}
 use Rattle.reading.specs.Agreement.{sameEnds, allSame}
 use Rattle.reading.specs.ModelRead.{arcRead, arcsRead}
-use Rattle.reading.specs.Within.{outOfRange, weightsVerdict, NarrowArc, Narrow}
+use Rattle.reading.specs.Within.{outOfRange, weightsVerdict}
 
 -- texts that agree have as many edges as `a` lines
 pub same-length : (es : List Edge) (ts : List TextArc) → allSame es ts ≡ true → length es ≡ length ts
@@ -55,12 +54,12 @@ module _ (n k : ℕ) (e : Edge) (a : TextArc) (fits : EdgeFits n k e) where
   pub weight-five : unfitArc n (2 ^ k) (arcRead e a) ≡ (ltb drawMost (drawOf (a .weight)) || ltb gainMost (gainOf (a .weight)))
   unfolding unfitArc
   weight-five =
-      let heavy = ltb drawMost (drawOf (a .weight)) || ltb gainMost (gainOf (a .weight)) in
+      let above = ltb drawMost (drawOf (a .weight)) || ltb gainMost (gainOf (a .weight)) in
       rw (
         lt-leb n (e .source) (fits .source),
         lt-leb n (e .target) (fits .target),
         lt-leb (2 ^ k) (colourByte (e .colours)) (colours-below (colourByte (e .colours)) k .1 no-colour),
-      ) (or-false (heavy || false) ∙ or-false heavy)
+      ) (or-false (above || false) ∙ or-false above)
 
 -- 5 of the arcs that are read is that of the `a` lines
 pub weights-five : (n k : ℕ) (es : List Edge) (ls : List (List ℕ)) (i : ℕ) → length es ≡ length ls → EdgesFit n k es
@@ -71,17 +70,3 @@ weights-five n k [] (l ∷ ls) i e f = absurd (omega arith)
 weights-five n k (x ∷ es) [] i e f = absurd (omega arith)
 weights-five n k (x ∷ es) (l ∷ ls) i e f =
     rw (weight-five n k x (textArcOn l) (f .0), weights-five n k es ls (suc i) (omega arith) (f .1)) refl
-
--- arcs that 5 lets through are narrow
-pub narrow : (n k : ℕ) (arcs : List Arc) → n ≤ 64 → ((a : ℕ) → a < length arcs → ArcFits n k (getD arcs a noArc)) → Narrow arcs
-narrow n k [] few f = tt
-narrow n k (x ∷ l) few f =
-    let g : ArcFits n k x = f 0 (omega arith) in
-    let low : NarrowArc x =
-    record {
-      source = omega (arith, g .source);
-      target = omega (arith, g .target);
-      draw = omega (arith, g .draw-most);
-      gain = omega (arith, g .gain-most);
-    } in
-    (low, narrow n k l few (λ a h. f (suc a) (omega arith)))

@@ -9,10 +9,10 @@ use Rattle.fields.specs.Fields.{linesOf}
 use Rattle.hoa.specs.Text.{edgesFrom, edgesOf}
 use Rattle.dimacs.specs.Text.{textArcOn, textArcsOf, arcLines, countOf}
 use Rattle.filling.specs.Filling.{roomIn, writtenFrom}
+use Rattle.filling.proofs.Widths.{fit-narrow}
 use Rattle.reading.specs.ModelRead.{arcsRead, modelRead}
 use Rattle.reading.specs.Reading.{readVerdict, readOf, listsRead}
 use Rattle.reading.specs.Within.{readBy, Fillable}
-use Rattle.reading.proofs.Arcs.{narrow}
 use Rattle.reading.proofs.Verdicts.{edges-count, arcs-count, readable-yes}
 
 module _ (hoa dimacs : List ℕ) (l : Lists) (yes : readVerdict hoa dimacs l ≡ Yes) where
@@ -31,7 +31,7 @@ module _ (hoa dimacs : List ℕ) (l : Lists) (yes : readVerdict hoa dimacs l ≡
         let filled : Fillable (edgesOf h) (textArcsOf d) =
         record {
           equal = edges-count h d same ∙ sym (length-map (arcLines d) textArcOn);
-          narrow = narrow (g .modes) (g .colours) (g .arcs) (fit .few-modes) (fit .arcs-fit);
+          narrow = fit-narrow g fit;
         } in
         rw (at-body, at-lines) filled
 

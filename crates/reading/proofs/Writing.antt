@@ -13,11 +13,12 @@ use Rattle.fields.proofs.Pieces.{split-at, end-bounds}
 use Rattle.fields.proofs.Places.{split-end}
 use Rattle.hoa.specs.Text.{Edge, edgesFrom}
 use Rattle.dimacs.specs.Text.{TextArc, textArcOn}
-use Rattle.filling.specs.Filling.{put, writtenFrom}
+use Rattle.filling.specs.Filling.{Narrow, AllNarrow, put, writtenFrom}
+use Rattle.filling.proofs.Widths.{narrow-first, narrow-others}
 use Rattle.filling.proofs.Writing.{Writing, writing-none, writing-rest, writing-put, writing-done}
 use Rattle.reading.specs.declared.Next.{Next}
 use Rattle.reading.specs.ModelRead.{arcRead, arcsRead}
-use Rattle.reading.specs.Within.{edgeOn, IsNext, NarrowArc, Narrow, Fillable}
+use Rattle.reading.specs.Within.{edgeOn, IsNext, Fillable}
 
 -- the edge that was found, the `a` line of places d to e, and their arc
 abbrev pub edgeFound : List ℕ → Next → Edge
@@ -44,7 +45,7 @@ pub record WritingTexts (body lines : List ℕ) (old now : Lists) (h d s i : ℕ
   pub in-body : h ≤ length body
   pub count : i ≤ d
   pub equal : length (edgesLeft body h s) ≡ length (linesLeft lines d)
-  pub narrow : Narrow (arcsLeft body lines h d s)
+  pub narrow : AllNarrow (arcsLeft body lines h d s)
   pub writing : Writing (arcsLeft body lines 0 0 0) (arcsLeft body lines h d s) 0 i old now
 
 -- a turn: edge r and the `a` line that ends at place e come next
@@ -77,12 +78,12 @@ module _ {body lines : List ℕ} {old now : Lists} {h d s i : ℕ} {r : Next} {e
   unfolding arcsRead
   first-arc = rw (first-edge, first-line) refl
 
-  narrow-here : Narrow (arcFound body r lines d e ∷ arcsLeft body lines (r .to) e (r .source))
-  narrow-here = subst Narrow first-arc (t .writing .narrow)
+  narrow-here : AllNarrow (arcFound body r lines d e ∷ arcsLeft body lines (r .to) e (r .source))
+  narrow-here = subst AllNarrow first-arc (t .writing .narrow)
 
   -- the arc that was found is narrow,
-  pub found-narrow : NarrowArc (arcFound body r lines d e)
-  found-narrow = narrow-here .0
+  pub found-narrow : Narrow (arcFound body r lines d e)
+  found-narrow = narrow-first (arcFound body r lines d e) (arcsLeft body lines (r .to) e (r .source)) narrow-here
 
   -- and once it is written, the next is looked for
   pub write-next : (a : Arc) (next : Lists) → a ≡ arcFound body r lines d e → next ≡ put now i a
@@ -97,7 +98,7 @@ module _ {body lines : List ℕ} {old now : Lists} {h d s i : ℕ} {r : Next} {e
         in-body = t .next .within;
         count = omega (arith, w .count, turn-ends .0);
         equal = omega (arith, edges, ap {B = ℕ} length first-line);
-        narrow = narrow-here .1;
+        narrow = narrow-others (arcFound body r lines d e) rest narrow-here;
         writing = rw (same, found) (writing-put all 0 i old now (arcFound body r lines d e) rest before);
       }
 

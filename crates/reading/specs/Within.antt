@@ -11,13 +11,13 @@ use Rattle.refusals.specs.declared.Verdict.{Verdict}
 use Rattle.refusals.specs.declared.Verdict.the-variants.{Yes}
 use Rattle.refusals.specs.Refusals.{refuse}
 use Rattle.walks.specs.Weights.{drawOf, gainOf}
-use Rattle.model.specs.declared.Arc.{Arc}
 use Rattle.fields.specs.Fields.{linesOf}
 use Rattle.hoa.specs.Lines.{targetOf}
 use Rattle.hoa.specs.Text.{Edge, coloursSaid, edgesFrom, modesOf, startOf, coloursOf}
 use Rattle.dimacs.specs.Lines.{weightOn}
 use Rattle.dimacs.specs.Text.{TextArc}
 use Rattle.filling.specs.declared.Reading.{Reading}
+use Rattle.filling.specs.Filling.{AllNarrow}
 use Rattle.reading.specs.declared.Next.{Next}
 use Rattle.reading.specs.ModelRead.{arcsRead}
 
@@ -46,18 +46,7 @@ weightsVerdict (l ∷ ls) i = refuse (outOfRange l) (UnfitArc i) (weightsVerdict
 abbrev pub readBy : List (List ℕ) → ℕ → Reading
 readBy h m = record { verdict = Yes; modes = modesOf h; start = startOf h; colours = coloursOf h; count = m }
 
--- an arc's numbers are within the widths of the lists
-pub record NarrowArc (a : Arc) : Type 0 where
-  pub source : a .source ≤ 255
-  pub target : a .target ≤ 255
-  pub draw : a .draw ≤ 65535
-  pub gain : a .gain ≤ 65535
-
-abbrev pub Narrow : List Arc → Type 0
-Narrow [] = Unit
-Narrow (a ∷ l) = NarrowArc a × Narrow l
-
 -- as many edges as `a` lines, whose arcs are narrow
 pub record Fillable (es : List Edge) (ts : List TextArc) : Type 0 where
   pub equal : length es ≡ length ts
-  pub narrow : Narrow (arcsRead es ts)
+  pub narrow : AllNarrow (arcsRead es ts)

@@ -13,11 +13,11 @@ ghost use Rattle.model.specs.Fitness.{header};
 ghost use Rattle.fields.specs.Fields.{linesOf};
 ghost use Rattle.hoa.specs.Text.{edgesFrom, edgesOf, modesOf, startOf, coloursOf};
 ghost use Rattle.dimacs.specs.Text.{textArcOn, IsProblemOf};
-ghost use Rattle.filling.specs.Filling.{writtenFrom};
+ghost use Rattle.filling.specs.Filling.{Narrow, writtenFrom};
 ghost use Rattle.reading.specs.Agreement.{sameEnds, allSame};
 ghost use Rattle.reading.specs.ModelRead.{arcRead, arcsRead};
 ghost use Rattle.reading.specs.Reading.{noRoom, readable, readOf, readAnswer, listsRead};
-ghost use Rattle.reading.specs.Within.{edgeOn, IsNext, outOfRange, weightsVerdict, NarrowArc, Fillable, readBy};
+ghost use Rattle.reading.specs.Within.{edgeOn, IsNext, outOfRange, weightsVerdict, Fillable, readBy};
 use dimacs::Problem;
 use fields::Bytes;
 use filling::Reading;
@@ -216,7 +216,7 @@ fn short(x: u32) -> u16
 
 // The arc of an edge and its `a` line. In files every action is 0.
 fn arc_of(source: u32, edge: &[u8], line: &[u8]) -> Arc
-    requires { ⌜ NarrowArc (arcRead (edgeOn source (now edge)) (textArcOn (now line))) ⌝ }
+    requires { ⌜ Narrow (arcRead (edgeOn source (now edge)) (textArcOn (now line))) ⌝ }
     ensures { λ r. ⌜ r ≡ arcRead (edgeOn source (now (edge .entry))) (textArcOn (now (line .entry))) ⌝ }
 {
     let from = byte(source);

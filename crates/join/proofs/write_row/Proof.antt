@@ -5,10 +5,9 @@ use borrow.Author.Needs.{needs}
 use Rattle.limits.specs.Ceilings.{arcsMost}
 use Rattle.model.specs.Lists.{Lists, lists}
 use Rattle.model.proofs.Held.{arcIn}
-use Rattle.filling.specs.Filling.{put}
+use Rattle.filling.specs.Filling.{Narrow, put}
 use Rattle.filling.proofs.Writing.{SameLengths, writing-lengths}
 use Rattle.join.specs.Joined.{joinArc}
-use Rattle.join.specs.Within.{Narrow}
 use Rattle.join.proofs.Writing.{RowWriting, row-writing-none, row-writing-skip, row-writing-narrow, row-writing-place, row-writing-put, row-writing-done}
 use Rattle.join.proofs.write_row.Statement.{statement}
 use Rattle.join.proofs.write_row.Tie as tie

@@ -1,5 +1,6 @@
 -- `reading::arc_of` meets its contract: part by part. Assumes nothing.
 use mathlib.Core.Path.{refl, ap, _∙_}
+use native.Mathlib.Omega.{arith}
 use borrow.Author.Needs.{needs}
 use Rattle.dimacs.specs.declared.Parts.{Parts}
 use Rattle.dimacs.specs.Text.{textArcOn}
@@ -22,10 +23,10 @@ parts-on-requires : tie.Need-parts-on-requires
 parts-on-requires c κs = search needs
 
 short-requires : tie.Need-short-requires
-short-requires c κs = let a = c .before .before .before .before .before .before in rw (c .parts-on .ensures) (a .pre .draw)
+short-requires c κs = let a = c .before .before .before .before .before .before in let low = a .pre .draw in rw (c .parts-on .ensures) (omega (arith, low))
 
 short-requires-2 : tie.Need-short-requires-2
-short-requires-2 c κs = let p = c .before in rw (p .parts-on .ensures) (p .before .before .before .before .before .before .pre .gain)
+short-requires-2 c κs = let p = c .before in let low = p .before .before .before .before .before .before .pre .gain in rw (p .parts-on .ensures) (omega (arith, low))
 
 colour-byte-requires : tie.Need-colour-byte-requires
 colour-byte-requires c κs = search needs
