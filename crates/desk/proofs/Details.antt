@@ -28,7 +28,7 @@ use Rattle.model.proofs.Arcs.{arcs-length}
 use Rattle.model.proofs.Fitness.{arcs-scan, header-yes, fitness-yes}
 use Rattle.judge.specs.Shape.{planOf, lengthOf, numbers, numbersThenChain, modeAfter, closing, shape}
 use Rattle.judge.specs.Charges.{ranOn, ran, afterRan, secondRound, rounds, charges}
-use Rattle.judge.specs.Colours.{someArc, coloursOf}
+use Rattle.judge.specs.Colours.{someArc, barredFrom, coloursOf, acceptedOf}
 use Rattle.judge.specs.Judged.{servesOf, judgedPlan, judgedLevels, judged}
 use Rattle.judge.proofs.Firsts.{numbers-scan, chain-scan, missing-scan}
 use Rattle.judge.proofs.Shapes.{length-yes, shape-yes}
@@ -148,15 +148,21 @@ module _ {d : ℕ} where
         ran-within (p .cycle) (length (p .prefix) + length (p .cycle)) x (omega arith) λ y.
         refuse-within (ltb x e && ltb y x) FallingCycle (omega arith) yes-within
 
+  -- 24, of a list whose first arc has the position i
+  barred-within : (g : Automaton) (x : ℕ) (w : List ℕ) (i : ℕ) → i + length w ≤ d → Within d (barredFrom g x w i)
+  unfolding barredFrom
+  barred-within g x [] i h = yes-within
+  barred-within g x (a ∷ w) i h = refuse-within (hasBarred g x a) (BarredColour i) (omega arith) (barred-within g x w (suc i) (omega arith))
+
   -- 17
-  colours-within : (g : Automaton) (w : List ℕ) → g .colours ≤ d → Within d (coloursOf g w)
+  colours-within : (g : Automaton) (x : ℕ) (w : List ℕ) → g .colours ≤ d → Within d (coloursOf g x w)
   unfolding coloursOf
-  colours-within g w h = rw sub-zero at (scan-within (missing-scan (λ j. someArc (meets g j) w) (g .colours)) λ k i. omega arith)
+  colours-within g x w h = rw sub-zero at (scan-within (missing-scan (λ j. bit x j || someArc (meets g j) w) (g .colours)) λ k i. omega arith)
 
 -- judging: the largest are those of 15, a step of run-in, first and second round
-pub judged-within : (n s k : ℕ) (l : Lists) (b c p q : ℕ) (w : List ℕ) → Within (2 * planMost) (judged n s k l b c p q w)
-unfolding judged judgedLevels judgedPlan servesOf
-judged-within n s k l b c p q w =
+pub judged-within : (n s k : ℕ) (l : Lists) (x b c p q : ℕ) (w : List ℕ) → Within (2 * planMost) (judged n s k l x b c p q w)
+unfolding judged judgedLevels judgedPlan servesOf acceptedOf
+judged-within n s k l x b c p q w =
     let g = automatonOf n s k l in
     let m = planOf p w in
     then-within (fitness n s k l) (fitness-within n s k l (omega arith)) λ fit.
@@ -164,7 +170,9 @@ judged-within n s k l b c p q w =
     then-within (shape g p q w) (shape-within g p q w (omega arith)) λ e.
     let h = shape-yes g p q w .0 e .0 in
     then-within (charges g b c m) (charges-within g b c m (omega (arith, h .short, length-take p w, length-drop p w))) λ _.
-    colours-within g (m .cycle) (omega (arith, fitness-yes n s k l .0 fit .1 .few-colours))
+    then-within (barredFrom g x (m .cycle) (length (m .prefix)))
+    (barred-within g x (m .cycle) (length (m .prefix)) (omega (arith, h .short, length-take p w, length-drop p w))) λ _.
+    colours-within g x (m .cycle) (omega (arith, fitness-yes n s k l .0 fit .1 .few-colours))
 
 -- the walk: what judging refuses, and 18
 pub walked-within : (n s k : ℕ) (l : Lists) (b c p q : ℕ) (w : List ℕ) (j t : ℕ) (r : Refusal)

@@ -1,6 +1,7 @@
 -- The C entries. Document 01, "What can be called": "The fitting desk's own program, written in C, calls judging and search, with numbers and
 -- byte or word buffers." Since document 02, Ask 2, it also calls the gauge, whose spill "fitters wish to see", and the
--- walk; since Ask 1, reading; since Ask 5, the join.
+-- walk; since Ask 1, reading; since Ask 5, the join. Judging, search and walk take a byte of barred colours
+-- since Ask 6.
 use Prim.Native.Nat.{ℕ}
 use mathlib.Core.Path.{_≡_}
 use mathlib.Core.List.{List}
@@ -20,14 +21,14 @@ use Rattle.desk.specs.declared.Read.{Read}
 use Rattle.desk.specs.Packing.{verdictWord, searchWord, walkWord}
 
 -- what judging answers, in one word
-abbrev pub deskJudged : ℕ → ℕ → ℕ → Lists → ℕ → ℕ → ℕ → ℕ → List ℕ → ℕ
-deskJudged n s k l b c p q w = verdictWord (judged n s k l b c p q w)
+abbrev pub deskJudged : ℕ → ℕ → ℕ → Lists → ℕ → ℕ → ℕ → ℕ → ℕ → List ℕ → ℕ
+deskJudged n s k l x b c p q w = verdictWord (judged n s k l x b c p q w)
 
 -- What search answers: the word is that of an answer of which all holds that search promises, demand 3 with it. Which plan it is, its p and q
 -- with it, is free, as in `SearchOf`.
-pub record DeskSearched (n s k : ℕ) (l : Lists) (b c : ℕ) (work plan work′ plan′ : List ℕ) (r : ℕ) : Type 0 where
+pub record DeskSearched (n s k : ℕ) (l : Lists) (x b c : ℕ) (work plan work′ plan′ : List ℕ) (r : ℕ) : Type 0 where
   pub searched : Searched
-  pub claim : SearchOf n s k l b c work plan work′ plan′ searched
+  pub claim : SearchOf n s k l x b c work plan work′ plan′ searched
   pub word : r ≡ searchWord searched
 
 -- what starting a gauge answers: its verdict in one word, and the gauge; "a refusal hands back .. 0 in every field"
@@ -40,8 +41,8 @@ pub record DeskStepped (n s k : ℕ) (l : Lists) (b a : ℕ) (x y : Gauge) (r : 
   pub moved-on : y ≡ steppedOf n s k l b a x .gauge
 
 -- what the walk answers, in one word
-abbrev pub deskWalked : ℕ → ℕ → ℕ → Lists → ℕ → ℕ → ℕ → ℕ → List ℕ → ℕ → ℕ → ℕ
-deskWalked n s k l b c p q w j t = walkWord (walkOf n s k l b c p q w j t)
+abbrev pub deskWalked : ℕ → ℕ → ℕ → Lists → ℕ → ℕ → ℕ → ℕ → ℕ → List ℕ → ℕ → ℕ → ℕ
+deskWalked n s k l x b c p q w j t = walkWord (walkOf n s k l x b c p q w j t)
 
 -- what reading and the join answer: number and detail, and the numbers of the model written, "0 for n, start mode, k and m" where they are refused
 abbrev pub readWith : Answer → Reading → Read

@@ -77,7 +77,7 @@ fn tell(reading: Reading) -> Read
     }
 }
 
-// Judging: number 0 for yes, or the first of 1 to 6 and 11 to 17 that applies. For all numbers, lists and plans.
+// Judging: number 0 for yes, or the first of 1 to 6, 11 to 16, 24 and 17 that applies. For all numbers, lists and plans.
 #[no_mangle]
 pub extern "C" fn chargeplan_judge(
     n: u32,
@@ -91,11 +91,12 @@ pub extern "C" fn chargeplan_judge(
     actions: &[u8],
     c: u32,
     b: u32,
+    barred: u8,
     p: u32,
     q: u32,
     plan: &[u8],
 ) -> u64
-    ensures { λ r. ⌜ r ≡ deskJudged n start k (lists (now (sources .entry)) (now (targets .entry)) (now (draws .entry)) (now (gains .entry)) (now (colours .entry)) (now (actions .entry))) b c p q (now (plan .entry)) ⌝ }
+    ensures { λ r. ⌜ r ≡ deskJudged n start k (lists (now (sources .entry)) (now (targets .entry)) (now (draws .entry)) (now (gains .entry)) (now (colours .entry)) (now (actions .entry))) barred b c p q (now (plan .entry)) ⌝ }
 {
     let verdict = judge(
         n,
@@ -109,6 +110,7 @@ pub extern "C" fn chargeplan_judge(
         actions,
         c,
         b,
+        barred,
         p,
         q,
         plan,
@@ -131,10 +133,11 @@ pub extern "C" fn chargeplan_search(
     actions: &[u8],
     c: u32,
     b: u32,
+    barred: u8,
     work: &mut [u16],
     plan: &mut [u8],
 ) -> u64
-    ensures { λ r. ⌜ DeskSearched n start k (lists (now (sources .entry)) (now (targets .entry)) (now (draws .entry)) (now (gains .entry)) (now (colours .entry)) (now (actions .entry))) b c (now (work .entry)) (now (plan .entry)) (now (work .exit)) (now (plan .exit)) r ⌝ }
+    ensures { λ r. ⌜ DeskSearched n start k (lists (now (sources .entry)) (now (targets .entry)) (now (draws .entry)) (now (gains .entry)) (now (colours .entry)) (now (actions .entry))) barred b c (now (work .entry)) (now (plan .entry)) (now (work .exit)) (now (plan .exit)) r ⌝ }
 {
     let searched = search(
         n,
@@ -148,6 +151,7 @@ pub extern "C" fn chargeplan_search(
         actions,
         c,
         b,
+        barred,
         work,
         plan,
     );
@@ -229,8 +233,8 @@ pub extern "C" fn chargeplan_gauge_step(
     pack_alone(answer)
 }
 
-// The walk: number 0 with the steps made and whether colour j was met, or the first of 1 to 6 and 11 to 18 that applies. For all numbers,
-// lists and plans.
+// The walk: number 0 with the steps made and whether colour j was met, or the first of 1 to 6, 11 to 16, 24, 17 and 18 that applies. For all
+// numbers, lists and plans.
 #[no_mangle]
 pub extern "C" fn chargeplan_walk(
     n: u32,
@@ -244,13 +248,14 @@ pub extern "C" fn chargeplan_walk(
     actions: &[u8],
     c: u32,
     b: u32,
+    barred: u8,
     p: u32,
     q: u32,
     plan: &[u8],
     j: u32,
     allowance: u16,
 ) -> u64
-    ensures { λ r. ⌜ r ≡ deskWalked n start k (lists (now (sources .entry)) (now (targets .entry)) (now (draws .entry)) (now (gains .entry)) (now (colours .entry)) (now (actions .entry))) b c p q (now (plan .entry)) j allowance ⌝ }
+    ensures { λ r. ⌜ r ≡ deskWalked n start k (lists (now (sources .entry)) (now (targets .entry)) (now (draws .entry)) (now (gains .entry)) (now (colours .entry)) (now (actions .entry))) barred b c p q (now (plan .entry)) j allowance ⌝ }
 {
     let walked = walk(
         n,
@@ -264,6 +269,7 @@ pub extern "C" fn chargeplan_walk(
         actions,
         c,
         b,
+        barred,
         p,
         q,
         plan,

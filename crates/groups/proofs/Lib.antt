@@ -8,3 +8,4 @@ pub mod Making
 pub mod Placing
 pub mod Rows
 pub mod Grouping
+pub mod Squeezing

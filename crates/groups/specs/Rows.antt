@@ -1,13 +1,17 @@
 -- The arcs of a model as rows of words, one after the other, by the numbers that they are given. Document 02, Ask 7: "Plans still carry the
--- given arc numbers."
-use Prim.Native.Nat.{ℕ, zero, suc, _+_, _*_}
+-- given arc numbers." A row says which required colours the arc meets, and whether it has a barred one (Ask 6).
+use Prim.Native.Nat.{ℕ, zero, suc, _+_, _*_, _/_, _%_}
 use mathlib.Core.Path.{_≡_}
+use mathlib.Core.Bool.{Bool, not}
 use mathlib.Core.List.{List, [], _∷_, _++_}
+use lib.Bits.{bitAnd}
+use lib.Dec.{eqb}
 use lib.ListN.{getD}
 use Rattle.limits.specs.Ceilings.{arcsMost}
 use Rattle.model.specs.declared.Arc.{Arc}
 use Rattle.model.specs.declared.Model.{Model}
 use Rattle.model.specs.Automaton.{noArc}
+use Rattle.model.specs.Required.{digit, compressed}
 use Rattle.groups.specs.Filled.{filledTo}
 
 -- the words of a row
@@ -18,26 +22,35 @@ rowWords = 5
 abbrev pub wordsMost : ℕ
 wordsMost = rowWords * arcsMost
 
+-- whether a colour byte y has a barred colour. It has no bit at or above k where the arc is one of a fit model, so that those of x do not matter
+-- (theorem common-mask).
+abbrev pub barredIn : ℕ → ℕ → Bool
+barredIn x y = not (eqb (bitAnd y x) 0)
+
+-- the required colours of the byte y, close together, from bit 1 on, and in bit 0 whether it has a barred one
+abbrev pub colourWord : ℕ → ℕ → ℕ
+colourWord x y = 2 * compressed x y + digit (barredIn x y)
+
 -- source, target, draw, gain, colours
-abbrev pub rowOf : Arc → List ℕ
-rowOf a = a .source ∷ a .target ∷ a .draw ∷ a .gain ∷ a .colours ∷ []
+abbrev pub rowOf : ℕ → Arc → List ℕ
+rowOf x a = a .source ∷ a .target ∷ a .draw ∷ a .gain ∷ colourWord x (a .colours) ∷ []
 
 -- the rows of m arcs
-abbrev pub rowsUpTo : (ℕ → Arc) → ℕ → List ℕ
-rowsUpTo arc zero = []
-rowsUpTo arc (suc m) = rowsUpTo arc m ++ rowOf (arc m)
+abbrev pub rowsUpTo : ℕ → (ℕ → Arc) → ℕ → List ℕ
+rowsUpTo x arc zero = []
+rowsUpTo x arc (suc m) = rowsUpTo x arc m ++ rowOf x (arc m)
 
 -- the rows, and 0 up to the end
-abbrev pub rowsAnd : (ℕ → Arc) → ℕ → List ℕ
-rowsAnd arc m = filledTo wordsMost (rowsUpTo arc m)
+abbrev pub rowsAnd : ℕ → (ℕ → Arc) → ℕ → List ℕ
+rowsAnd x arc m = filledTo wordsMost (rowsUpTo x arc m)
 
 -- arc a, as the code holds it
 abbrev pub arcIn : Model → ℕ → Arc
 arcIn g a = getD (g .arcs) a noArc
 
 -- the rows of a model
-abbrev pub rowsOf : Model → List ℕ
-rowsOf g = rowsAnd (arcIn g) (g .count)
+abbrev pub rowsOf : Model → ℕ → List ℕ
+rowsOf g x = rowsAnd x (arcIn g) (g .count)
 
 -- what is read of the row of arc a
 abbrev pub sourceAt : List ℕ → ℕ → ℕ
@@ -52,13 +65,23 @@ drawAt w a = getD w (rowWords * a + 2) 0
 abbrev pub gainAt : List ℕ → ℕ → ℕ
 gainAt w a = getD w (rowWords * a + 3) 0
 
-abbrev pub coloursAt : List ℕ → ℕ → ℕ
-coloursAt w a = getD w (rowWords * a + 4) 0
+-- the word of its colours
+abbrev pub colourWordAt : List ℕ → ℕ → ℕ
+colourWordAt w a = getD w (rowWords * a + 4) 0
 
--- what is read of row a is the arc x
-pub record ReadsArc (w : List ℕ) (a : ℕ) (x : Arc) : Type 0 where
-  pub source : sourceAt w a ≡ x .source
-  pub target : targetAt w a ≡ x .target
-  pub draw : drawAt w a ≡ x .draw
-  pub gain : gainAt w a ≡ x .gain
-  pub colours : coloursAt w a ≡ x .colours
+-- the required ones, close together
+abbrev pub coloursAt : List ℕ → ℕ → ℕ
+coloursAt w a = colourWordAt w a / 2
+
+-- whether it has a barred one
+abbrev pub barredAt : List ℕ → ℕ → Bool
+barredAt w a = eqb (colourWordAt w a % 2) 1
+
+-- what is read of row a is the arc y
+pub record ReadsArc (x : ℕ) (w : List ℕ) (a : ℕ) (y : Arc) : Type 0 where
+  pub source : sourceAt w a ≡ y .source
+  pub target : targetAt w a ≡ y .target
+  pub draw : drawAt w a ≡ y .draw
+  pub gain : gainAt w a ≡ y .gain
+  pub colours : coloursAt w a ≡ compressed x (y .colours)
+  pub barred : barredAt w a ≡ barredIn x (y .colours)

@@ -63,3 +63,9 @@ module _ (g : Model) (w : List ℕ) (arcs : ArcNumbers g w) where
   arcs-coloured holds i h =
       let fits = holds .fit .arcs-fit (getD w i 0) (omega (arith, arcs .below i h, holds .count)) in
       colours-below (arcAt (held g) (getD w i 0) .colours) (g .colours) .1 (fits .colours)
+
+-- 24 and 17 of a plan, by its bytes
+pub accepted-parts : (g : Automaton) (x p : ℕ) (w : List ℕ) → p ≤ length w
+    → andThen (barredFrom g x (drop p w) p) (coloursOf g x (drop p w)) ≡ acceptedOf g x (planOf p w)
+unfolding acceptedOf
+accepted-parts g x p w h = ap {B = Verdict} (λ (i : ℕ). andThen (barredFrom g x (drop p w) i) (coloursOf g x (drop p w))) (sym (length-take-le p w h))

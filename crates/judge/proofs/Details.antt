@@ -1,5 +1,5 @@
 -- When refusals 15 and 16 are answered: 15 with the first step that is not possible, counted over run-in, first and second round in one list;
--- 16 where both rounds end lower. And that earlier rows come first: 13 after 12, and 17 after 15 and 16. Assumes nothing.
+-- 16 where both rounds end lower. And that earlier rows come first: 13 after 12, 24 after 15 and 16, and 17 after 24. Assumes nothing.
 use mathlib.Core.Path.{_≡_, refl, _∙_}
 use mathlib.Core.Bool.{Bool, _&&_}
 use mathlib.Core.List.{List, [], _∷_, _++_}
@@ -49,9 +49,26 @@ last (Through x) t i =
     (λ e. absurd (refuse-not (t x) FallingCycle (ImpossibleStep i) Yes (λ q. clash (cc)) (λ q. clash (cc)) e), λ e. clash (cc))
 last (Stops k) t i = (λ e. cc, λ e. cc)
 
--- 17 is not answered where what follows the list does not answer it
-after-not : (r : Ran) (f : ℕ → Verdict) (d : ℕ) → ((x : ℕ) → f x ≡ Refused (MissingColour d) → ⊥) → afterRan r f ≡ Refused (MissingColour d) → ⊥
-after-not r f d q e = let (x, _, h) = after-ran r f (Refused (MissingColour d)) (λ i e. clash (cc)) .0 e in q x h
+-- a refusal of the colours, 24 or 17
+pub data OfColours : Refusal → Type 0 where
+  barred : {d : ℕ} → OfColours (BarredColour d)
+  missing : {d : ℕ} → OfColours (MissingColour d)
+
+-- it is neither 15 nor 16
+not-step : {r : Refusal} → OfColours r → (i : ℕ) → Refused (ImpossibleStep i) ≡ Refused r → ⊥
+not-step barred i e = clash (cc)
+not-step missing i e = clash (cc)
+
+not-fall : {r : Refusal} → OfColours r → Refused FallingCycle ≡ Refused r → ⊥
+not-fall barred e = clash (cc)
+not-fall missing e = clash (cc)
+
+yes-not : {r : Refusal} → Yes ≡ Refused r → ⊥
+yes-not e = clash (cc)
+
+-- it is not answered where what follows the list does not answer it
+after-not : (s : Ran) (f : ℕ → Verdict) {r : Refusal} → OfColours r → ((x : ℕ) → f x ≡ Refused r → ⊥) → afterRan s f ≡ Refused r → ⊥
+after-not s f {r} k q e = let (x, _, h) = after-ran s f (Refused r) (λ i e. not-step k i e) .0 e in q x h
 
 -- 16 is answered by what follows a list that is walked through
 after-falls : (r : Ran) (f : ℕ → Verdict) → (afterRan r f ≡ Refused FallingCycle) ↔ ((x : ℕ) × (r ≡ Through x) × (f x ≡ Refused FallingCycle))
@@ -137,26 +154,45 @@ module _ (g : Automaton) (b : ℕ) where
             rw (ran-walked g b u 0 c e .1 r, ran-walked g b w n e x .1 r₁, ran-walked g b w (n + length w) x y .1 r₂) (both-lower e x y .1 (h, i)),
       )
 
-  -- 15 and 16 come before 17: where one of them applies, it is the verdict
-  pub serves-order : (c : ℕ) (p : Plan) (r : Refusal) → charges g b c p ≡ Refused r → servesOf g b c p ≡ Refused r
+  -- 15 and 16 come before 24 and 17: where one of them applies, it is the verdict
+  pub serves-order : (x c : ℕ) (p : Plan) (r : Refusal) → charges g b c p ≡ Refused r → servesOf g x b c p ≡ Refused r
   unfolding servesOf
-  serves-order c p r e = rw e refl
+  serves-order x c p r e = rw e refl
 
-  -- 15 and 16 do not answer 17
-  charges-not : (c : ℕ) (p : Plan) (d : ℕ) → charges g b c p ≡ Refused (MissingColour d) → ⊥
+  -- 15 and 16 do not answer 24 or 17
+  charges-not : (c : ℕ) (p : Plan) {r : Refusal} → OfColours r → charges g b c p ≡ Refused r → ⊥
   unfolding charges rounds secondRound
-  charges-not c p d =
+  charges-not c p {r} k =
       let w = p .cycle in
       let n = length (p .prefix) in
-      after-not (ran g b (p .prefix) 0 c) _ d λ e.
-      after-not (ran g b w n e) _ d λ x.
-      after-not (ran g b w (n + length w) x) _ d λ y.
-      refuse-not (ltb x e && ltb y x) FallingCycle (MissingColour d) Yes (λ q. clash (cc)) (λ q. clash (cc))
+      after-not (ran g b (p .prefix) 0 c) _ k λ e.
+      after-not (ran g b w n e) _ k λ x.
+      after-not (ran g b w (n + length w) x) _ k λ y.
+      refuse-not (ltb x e && ltb y x) FallingCycle r Yes (not-fall k) yes-not
 
-  -- 17 is answered only where neither 15 nor 16 applies
-  pub serves-colour : (c : ℕ) (p : Plan) (d : ℕ) → servesOf g b c p ≡ Refused (MissingColour d) → charges g b c p ≡ Yes
+  -- 24 and 17 are answered only where neither 15 nor 16 applies
+  pub serves-colour : (x c : ℕ) (p : Plan) {r : Refusal} → OfColours r → servesOf g x b c p ≡ Refused r → charges g b c p ≡ Yes
   unfolding servesOf
-  serves-colour c p d = and-then-second (charges g b c p) (coloursOf g (p .cycle)) (MissingColour d) (charges-not c p d)
+  serves-colour x c p {r} k = and-then-second (charges g b c p) (acceptedOf g x p) r (charges-not c p k)
+
+-- 24 comes before 17 ..
+pub accepted-order : (g : Automaton) (x : ℕ) (p : Plan) (r : Refusal) → barredFrom g x (p .cycle) (length (p .prefix)) ≡ Refused r → acceptedOf g x p ≡ Refused r
+unfolding acceptedOf
+accepted-order g x p r e = rw e refl
+
+-- 24 does not answer 17
+barred-not : (g : Automaton) (x : ℕ) (w : List ℕ) (i d : ℕ) → barredFrom g x w i ≡ Refused (MissingColour d) → ⊥
+unfolding barredFrom
+barred-not g x [] i d = λ e. clash (cc)
+barred-not g x (a ∷ w) i d = refuse-not (hasBarred g x a) (BarredColour i) (MissingColour d) _ (λ q. clash (cc)) (barred-not g x w (suc i) d)
+
+-- .. which is answered only where 24 does not apply
+pub accepted-colour : (g : Automaton) (x : ℕ) (p : Plan) (d : ℕ) → acceptedOf g x p ≡ Refused (MissingColour d)
+    → barredFrom g x (p .cycle) (length (p .prefix)) ≡ Yes
+unfolding acceptedOf
+accepted-colour g x p d =
+    and-then-second (barredFrom g x (p .cycle) (length (p .prefix))) (coloursOf g x (p .cycle)) (MissingColour d)
+    (barred-not g x (p .cycle) (length (p .prefix)) d)
 
 -- 12 does not answer 13
 numbers-not : (m : ℕ) (w : List ℕ) (i d : ℕ) → numbers m w i ≡ Refused (OtherMode d) → ⊥

@@ -1,20 +1,20 @@
--- The details of refusals 12, 13 and 17: each is the first place where its condition holds. Assumes nothing.
+-- The details of refusals 12, 13, 24 and 17: each is the first place where its condition holds. Assumes nothing.
 use mathlib.Core.Path.{_≡_, refl}
-use mathlib.Core.Bool.{Bool, not}
+use mathlib.Core.Bool.{Bool, not, _||_}
 use mathlib.Core.List.{List, [], _∷_}
 use mathlib.Core.Logic.{_↔_}
-use Prim.Native.Nat.{ℕ, zero, suc, _-_, _<_}
-use native.Mathlib.Nat.{sub-self, sub-zero}
+use Prim.Native.Nat.{ℕ, zero, suc, _+_, _-_, _<_}
+use native.Mathlib.Nat.{sub-self, sub-zero, add-zero, add-suc}
 use native.Mathlib.Omega.{arith}
 use lib.Dec.{leb, eqb}
 use lib.ListN.{length, getD, take, drop}
 use lib.Seq.{drop-cons, drop-length}
-use Rattle.refusals.specs.declared.Refusal.the-variants.{ArcNumber, OtherMode, MissingColour}
+use Rattle.refusals.specs.declared.Refusal.the-variants.{ArcNumber, OtherMode, MissingColour, BarredColour}
 use Rattle.refusals.specs.declared.Verdict.the-variants.{Refused}
 use Rattle.refusals.proofs.Scan.{FirstOf, Scan, scan-first}
-use Rattle.model.specs.Automaton.{Automaton, arcAt, meets}
+use Rattle.model.specs.Automaton.{Automaton, arcAt, bit, meets, hasBarred}
 use Rattle.judge.specs.Shape.{numbers, chain, modeAfter}
-use Rattle.judge.specs.Colours.{someArc, missingFrom, coloursOf}
+use Rattle.judge.specs.Colours.{someArc, missingFrom, barredFrom, coloursOf}
 
 -- 12 is a scan of the positions
 pub numbers-scan : (m : ℕ) (w : List ℕ) → Scan (λ j. leb m (getD w j 0)) ArcNumber (length w) (λ k. numbers m (drop k w) k)
@@ -55,8 +55,25 @@ missing-scan has f =
 pub missing-first : (has : ℕ → Bool) (f d : ℕ) → (missingFrom has f 0 ≡ Refused (MissingColour d)) ↔ FirstOf (λ j. not (has j)) f d
 missing-first has f = rw (sub-zero f) at (scan-first (λ j. not (has j)) MissingColour f (λ k. missingFrom has (f - k) k) (missing-scan has f))
 
--- 17 is answered with the lowest-numbered colour that stands on no arc of the cycle
-pub colour-first : (g : Automaton) (w : List ℕ) (d : ℕ) → (coloursOf g w ≡ Refused (MissingColour d))
-    ↔ FirstOf (λ j. not (someArc (meets g j) w)) (g .colours) d
+-- 17 is answered with the lowest-numbered colour that is not barred and stands on no arc of the cycle
+pub colour-first : (g : Automaton) (x : ℕ) (w : List ℕ) (d : ℕ) → (coloursOf g x w ≡ Refused (MissingColour d))
+    ↔ FirstOf (λ j. not (bit x j || someArc (meets g j) w)) (g .colours) d
 unfolding coloursOf
-colour-first g w = missing-first (λ j. someArc (meets g j) w) (g .colours)
+colour-first g x w = missing-first (λ j. bit x j || someArc (meets g j) w) (g .colours)
+
+-- 24 is a scan of the positions, counted from i
+barred-scan : (g : Automaton) (x : ℕ) (w : List ℕ) (i : ℕ)
+    → Scan (λ j. hasBarred g x (getD w j 0)) (λ j. BarredColour (i + j)) (length w) (λ k. barredFrom g x (drop k w) (i + k))
+unfolding barredFrom
+barred-scan g x w i =
+    record {
+      turn = λ k h. rw (drop-cons w k 0 h, add-suc i k) refl;
+      ends = rw (drop-length w) refl;
+      tells = λ m n e. let z : i + m ≡ i + n = cc in omega arith;
+    }
+
+-- 24 is answered with the first position, counted from i, whose arc has a barred colour
+pub barred-first : (g : Automaton) (x : ℕ) (w : List ℕ) (i d : ℕ) → (barredFrom g x w i ≡ Refused (BarredColour (i + d)))
+    ↔ FirstOf (λ j. hasBarred g x (getD w j 0)) (length w) d
+barred-first g x w i =
+    rw (add-zero i) at (scan-first (λ j. hasBarred g x (getD w j 0)) (λ j. BarredColour (i + j)) (length w) (λ k. barredFrom g x (drop k w) (i + k)) (barred-scan g x w i))

@@ -44,21 +44,21 @@ module _ (g : Automaton) (b c : ℕ) where
       )
 
 -- judging says yes exactly for what is right
-pub judged-yes : (n s k : ℕ) (l : Lists) (b c p q : ℕ) (w : List ℕ) → (judged n s k l b c p q w ≡ Yes) ↔ Right n s k l b c p q w
+pub judged-yes : (n s k : ℕ) (l : Lists) (x b c p q : ℕ) (w : List ℕ) → (judged n s k l x b c p q w ≡ Yes) ↔ Right n s k l x b c p q w
 unfolding judged judgedLevels
-judged-yes n s k l b c p q w =
+judged-yes n s k l x b c p q w =
     let g = automatonOf n s k l in
-    let outer = and-then-yes (fitness n s k l) (judgedLevels g b c p q w) in
-    let inner = and-then-yes (levelsOf b c) (judgedPlan g b c p q w) in (
+    let outer = and-then-yes (fitness n s k l) (judgedLevels g x b c p q w) in
+    let inner = and-then-yes (levelsOf b c) (judgedPlan g x b c p q w) in (
       λ e.
           let (equal, fit) = fitness-yes n s k l .0 (outer .0 e .0) in
           let (bound, credit) = levels-yes b c .0 (inner .0 (outer .0 e .1) .0) in
-          let (lengths, serves) = plan-yes g b c p q w credit .0 (inner .0 (outer .0 e .1) .1) in
+          let (lengths, serves) = plan-yes g x b c p q w credit .0 (inner .0 (outer .0 e .1) .1) in
           record { equal = equal; fit = fit; bound = bound; credit = credit; lengths = lengths; serves = serves },
       λ r.
           outer .1 (
             fitness-yes n s k l .1 (r .equal, r .fit),
-            inner .1 (levels-yes b c .1 (r .bound, r .credit), plan-yes g b c p q w (r .credit) .1 (r .lengths, r .serves)),
+            inner .1 (levels-yes b c .1 (r .bound, r .credit), plan-yes g x b c p q w (r .credit) .1 (r .lengths, r .serves)),
           ),
     )
 

@@ -90,29 +90,30 @@ trail-wide (suc f) e x h l =
     (λ (z : 0 < x % 2). let o : x % 2 ≡ 1 = omega arith in simp o)
     (eq-zero-or-pos (x % 2)))
 
--- 17, by the mask x of the required colours not yet met, in a word of 32 bits
-module _ (g : Automaton) (w : List ℕ) (few : g .colours ≤ 32) (below : metBy g w 0 < 2 ^ (g .colours)) (x : ℕ) (lacks : x ≡ 2 ^ (g .colours) - 1 - metBy g w 0) where
-  by-mask : missingBy (g .colours) 0 x (coloursOf g w)
+-- 17, by the mask y of the required colours not yet met, in a word of 32 bits; the barred colours x are in the mask m from the beginning
+module _ (g : Automaton) (x m : ℕ) (w : List ℕ) (few : g .colours ≤ 32) (passed : m ≡ x % 2 ^ (g .colours)) (below : metBy g w m < 2 ^ (g .colours)) (y : ℕ) (lacks : y ≡ 2 ^ (g .colours) - 1 - metBy g w m) where
+  by-mask : missingBy (g .colours) 0 y (coloursOf g x w)
   unfolding coloursOf
   by-mask =
-      rw lacks (missing-from (λ j. someArc (meets g j) w) (g .colours) 0 (metBy g w 0) below λ j q.
-      met-bit g w 0 j ∙ rw (div-eq-of-lt (pow-pos j), zero-add j) refl)
+      rw lacks (missing-from (λ j. bit x j || someArc (meets g j) w) (g .colours) 0 (metBy g w m) below λ j q.
+      met-bit g w m j ∙ rw (zero-add j)
+      (ap {B = Bool} (λ (t : Bool). t || someArc (meets g j) w) (ap {B = Bool} (λ (z : ℕ). bit z j) passed ∙ mod-bit (g .colours) x j q)))
 
   -- it is empty: 17 does not apply
-  pub none-missing : x ≡ 0 → coloursOf g w ≡ Yes
+  pub none-missing : y ≡ 0 → coloursOf g x w ≡ Yes
   none-missing z = go by-mask
     where
-      go : missingBy (g .colours) 0 x (coloursOf g w) → coloursOf g w ≡ Yes
-      go (inl (y, e)) = e
-      go (inr (y, e)) = absurd (omega arith)
+      go : missingBy (g .colours) 0 y (coloursOf g x w) → coloursOf g x w ≡ Yes
+      go (inl (h, e)) = e
+      go (inr (h, e)) = absurd (omega arith)
 
   -- it is not: its trailing zeros are the colour
-  pub some-missing : x ≢ 0 → coloursOf g w ≡ Refused (MissingColour (trailingZeros 32 x))
+  pub some-missing : y ≢ 0 → coloursOf g x w ≡ Refused (MissingColour (trailingZeros 32 y))
   some-missing z = go by-mask
     where
-      wide : 0 < x → trailingZeros 32 x ≡ trailingZeros (g .colours) x
-      wide h = rw (add-sub-of-le few) at (trail-wide (g .colours) (32 - g .colours) x h (omega (arith, pow-pos (g .colours))))
+      wide : 0 < y → trailingZeros 32 y ≡ trailingZeros (g .colours) y
+      wide h = rw (add-sub-of-le few) at (trail-wide (g .colours) (32 - g .colours) y h (omega (arith, pow-pos (g .colours))))
 
-      go : missingBy (g .colours) 0 x (coloursOf g w) → coloursOf g w ≡ Refused (MissingColour (trailingZeros 32 x))
-      go (inl (y, e)) = absurd (z y)
-      go (inr (y, e)) = rw (wide y) (rw (zero-add (trailingZeros (g .colours) x)) at e)
+      go : missingBy (g .colours) 0 y (coloursOf g x w) → coloursOf g x w ≡ Refused (MissingColour (trailingZeros 32 y))
+      go (inl (h, e)) = absurd (z h)
+      go (inr (h, e)) = rw (wide h) (rw (zero-add (trailingZeros (g .colours) y)) at e)

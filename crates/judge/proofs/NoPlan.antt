@@ -1,5 +1,5 @@
 -- When no plan of any length is feasible and accepted: a certificate, tested arc by arc, of modes that no walk leaves and a colour that no
--- walk there meets. Assumes nothing.
+-- walk there meets. Of the byte 0 of barred colours. Assumes nothing.
 use mathlib.Core.Path.{_≡_, refl}
 use mathlib.Core.Bool.{Bool, true, false, true≢false, not, _&&_, _||_, and-eq-true-iff}
 use mathlib.Core.List.{List, [], _∷_}
@@ -16,6 +16,7 @@ use Rattle.walks.proofs.Walks.{walked-to}
 use Rattle.walks.proofs.Charges.{walked-bound}
 use Rattle.model.specs.Automaton.{Automaton, arcAt, meets, movesOf, moveOf}
 use Rattle.model.specs.Plans.{Plan, Leads, SomeArc, Accepted, SomePlan}
+use Rattle.model.proofs.Bits.{bit-zero}
 use Rattle.model.proofs.Plans.{feasible-rounds}
 
 -- an arc has colour j; where the model has no colour j, every arc counts as having it
@@ -55,12 +56,12 @@ some-first [] h = absurd (omega arith)
 some-first (a ∷ w) h = inl refl
 
 -- the cycle of an accepted plan has an arc with colour j
-sought-met : (g : Automaton) (p : Plan) (j : ℕ) → 0 < length (p .cycle) → Accepted g p → SomeArc (sought g j) (p .cycle)
+sought-met : (g : Automaton) (p : Plan) (j : ℕ) → 0 < length (p .cycle) → Accepted g 0 p → SomeArc (sought g j) (p .cycle)
 sought-met g p j h m = go (leb (g .colours) j) refl
   where
     go : (t : Bool) → leb (g .colours) j ≡ t → SomeArc (λ a. t || meets g j a) (p .cycle)
     go true e = some-first (p .cycle) h
-    go false e = m j (leb-false (g .colours) j e)
+    go false e = m .required j (leb-false (g .colours) j e) (bit-zero j)
 
 module _ (g : Automaton) (b : ℕ) (inside : ℕ → Bool) (j : ℕ) (all : (a : ℕ) → a < length (g .arcs) → harmless g b inside j a ≡ true) where
   -- an arc that is walked from inside leads to a mode inside, and does not have colour j
@@ -81,7 +82,7 @@ module _ (g : Automaton) (b : ℕ) (inside : ℕ → Bool) (j : ℕ) (all : (a :
 
 -- No plan of any length is feasible and accepted, where the certificate passes its test. inside: modes that are not left; j: a colour that
 -- is not met there, or any number from k on where no arc can be used at all.
-pub no-plan : (g : Automaton) (b c : ℕ) (inside : ℕ → Bool) (j : ℕ) → refutes g b c inside j ≡ true → SomePlan g b c → ⊥
+pub no-plan : (g : Automaton) (b c : ℕ) (inside : ℕ → Bool) (j : ℕ) → refutes g b c inside j ≡ true → SomePlan g 0 b c → ⊥
 no-plan g b c inside j r (p, s) =
     let (r₁, r₂) = and-eq-true-iff (leb c b && inside (g .start)) (each (harmless g b inside j) (length (g .arcs))) .0 r in
     let (low, start) = and-eq-true-iff (leb c b) (inside (g .start)) .0 r₁ in

@@ -81,3 +81,34 @@ module _ (g : Model) (w : List ℕ) (i m : ℕ) where
       rw (drop-cons w i 0 h, add-one i) refl
       in
       first ∙ ap {B = ℕ} (λ (x : Arc). metBy (held g) (drop (i + 1) w) (bitOr m (x .colours))) (held-arc g (getD w i 0) below)
+
+-- 24 at position i
+module _ (g : Model) (x : ℕ) (w : List ℕ) (i : ℕ) where
+  -- past the last position it does not apply
+  pub barred-end : length w ≤ i → barredFrom (held g) x (drop i w) i ≡ Yes
+  unfolding barredFrom
+  barred-end h = rw (drop-of-length-le w {i = i} h) refl
+
+  module _ (holds : Holds g) (arcs : ArcNumbers g w) (h : i < length w) where
+    -- by the mask of the arc there and the rest
+    barred-at : barredFrom (held g) x (drop i w) i
+        ≡ refuse (not (eqb (bitAnd (arcIn g (getD w i 0) .colours) x) 0)) (BarredColour i) (barredFrom (held g) x (drop (i + 1) w) (i + 1))
+    unfolding barredFrom
+    barred-at =
+        let a = getD w i 0 in
+        let test : hasBarred (held g) x a ≡ not (eqb (bitAnd (arcIn g a .colours) x) 0) =
+        common-mask x (arcAt (held g) a .colours) (g .colours) (arcs-coloured g w arcs holds i h)
+        ∙ ap {B = Bool} (λ (y : Arc). not (eqb (bitAnd (y .colours) x) 0)) (held-arc g a (arcs .below i h))
+        in
+        let first : barredFrom (held g) x (drop i w) i ≡ refuse (hasBarred (held g) x a) (BarredColour i) (barredFrom (held g) x (drop (i + 1) w) (i + 1)) =
+        rw (drop-cons w i 0 h, add-one i) refl
+        in
+        first ∙ ap {B = Verdict} (λ (t : Bool). refuse t (BarredColour i) (barredFrom (held g) x (drop (i + 1) w) (i + 1))) test
+
+    -- an arc with a barred colour is the verdict
+    pub barred-stop : bitAnd (arcIn g (getD w i 0) .colours) x ≢ 0 → barredFrom (held g) x (drop i w) i ≡ Refused (BarredColour i)
+    barred-stop q = barred-at ∙ rw (ne-eqb (bitAnd (arcIn g (getD w i 0) .colours) x) 0 q) refl
+
+    -- after another the scan goes on
+    pub barred-on : bitAnd (arcIn g (getD w i 0) .colours) x ≡ 0 → barredFrom (held g) x (drop i w) i ≡ barredFrom (held g) x (drop (i + 1) w) (i + 1)
+    barred-on q = barred-at ∙ rw (eq-eqb (bitAnd (arcIn g (getD w i 0) .colours) x) 0 q) refl

@@ -38,11 +38,11 @@ modelIn x = automatonOf (x .modes) 0 (x .colours) (x .arcs)
 abbrev pub Admitted : Example → Type 0
 Admitted x = andThen (fitness (x .modes) 0 (x .colours) (x .arcs)) (levelsOf (x .bound) (x .credit)) ≡ Yes
 
--- the claim, made of a row
+-- the claim, made of a row; no colour is barred
 abbrev pub Says : Example → Claim → Type 0
-Says x Found = Admitted x × SomePlan (modelIn x) (x .bound) (x .credit)
-Says x None = Admitted x × (SomePlan (modelIn x) (x .bound) (x .credit) → ⊥)
-Says x (Judged p q w r) = judgedAnswer (x .modes) 0 (x .colours) (x .arcs) (x .bound) (x .credit) p q w ≡ r
+Says x Found = Admitted x × SomePlan (modelIn x) 0 (x .bound) (x .credit)
+Says x None = Admitted x × (SomePlan (modelIn x) 0 (x .bound) (x .credit) → ⊥)
+Says x (Judged p q w r) = judgedAnswer (x .modes) 0 (x .colours) (x .arcs) 0 (x .bound) (x .credit) p q w ≡ r
 
 -- what a row says is so
 abbrev pub Stands : Example → Type 0

@@ -1,6 +1,6 @@
-// Judging: whether a plan of any origin is feasible and accepted for a model. Refusals 1 to 6 and 11 to 17, top to bottom.
+// Judging: whether a plan of any origin is feasible and accepted for a model. Refusals 1 to 6, 11 to 16, 24 and 17, top to bottom.
 ghost use mathlib.Core.Path.{_≡_};
-ghost use Prim.Native.Nat.{_+_, _*_, _^_, _≤_, _<_};
+ghost use Prim.Native.Nat.{_+_, _*_, _%_, _^_, _≤_, _<_};
 ghost use lib.ListN.{length, drop};
 ghost use Rattle.limits.specs.Ceilings.{planMost};
 ghost use Rattle.refusals.specs.Refusals.{andThen, answerOf};
@@ -8,7 +8,7 @@ ghost use Rattle.model.specs.Lists.{lists, held};
 ghost use Rattle.model.specs.Fitness.{Holds};
 ghost use Rattle.judge.specs.Shape.{planOf, lengthOf, numbers, path, shape};
 ghost use Rattle.judge.specs.Charges.{ran, secondRound, rounds, charges};
-ghost use Rattle.judge.specs.Colours.{metBy, coloursOf};
+ghost use Rattle.judge.specs.Colours.{metBy, barredFrom, coloursOf, acceptedOf};
 ghost use Rattle.judge.specs.Judged.{servesOf, judgedPlan, judgedLevels, judgedModel, judged, judgedAnswer, ArcNumbers};
 use limits::Limits;
 use model::Model;
@@ -197,15 +197,35 @@ fn check_charges(model: Model, plan: &[u8], p: usize, credit: u16, bound: u16) -
     }
 }
 
-// The colours that the arcs meet, as a mask. It stops where all that are required are met.
-fn met_colours(model: Model, arcs: &[u8], required: u32) -> u32
-    requires { ⌜ Holds model × ArcNumbers model (now arcs) × (required + 1 ≡ 2 ^ (model .colours)) ⌝ }
-    ensures { λ r. ⌜ r ≡ metBy (held model) (now (arcs .entry)) 0 ⌝ }
+// Refusal 24: the first arc from position p on that has a barred colour. No arc of a fit model has a colour at or above k, so that the bits of
+// the byte there do not matter. Where nothing is barred no arc is looked at.
+fn check_barred(model: Model, plan: &[u8], p: usize, barred: u8) -> Verdict
+    requires { ⌜ Holds model × ArcNumbers model (now plan) × (p ≤ length (now plan)) × (length (now plan) ≤ planMost) ⌝ }
+    ensures { λ r. ⌜ r ≡ barredFrom (held model) barred (drop p (now (plan .entry))) p ⌝ }
 {
-    let mut met = 0u32;
+    if barred == 0 {
+        return Verdict::Yes;
+    }
+    let mut i = p;
+    while i < plan.len() {
+        let arc = model.arcs[plan[i] as usize];
+        if arc.colours & barred != 0 {
+            return Verdict::Refused(Refusal::BarredColour(i as u32));
+        }
+        i += 1;
+    }
+    Verdict::Yes
+}
+
+// The colours of a mask and those that the arcs meet, as a mask. It stops where all of the model's are in it.
+fn met_colours(model: Model, arcs: &[u8], passed: u32, all: u32) -> u32
+    requires { ⌜ Holds model × ArcNumbers model (now arcs) × (all + 1 ≡ 2 ^ (model .colours)) ⌝ }
+    ensures { λ r. ⌜ r ≡ metBy (held model) (now (arcs .entry)) passed ⌝ }
+{
+    let mut met = passed;
     let mut i = 0;
     while i < arcs.len() {
-        if met == required {
+        if met == all {
             return met;
         }
         let arc = model.arcs[arcs[i] as usize];
@@ -215,53 +235,73 @@ fn met_colours(model: Model, arcs: &[u8], required: u32) -> u32
     met
 }
 
-// Refusal 17: the lowest bit of the mask of required colours not yet met. No other colour is met by an arc of a fit model, so that the
-// mask is a difference.
-fn check_colours(model: Model, cycle: &[u8]) -> Verdict
+// Refusal 17: the lowest bit of the mask of required colours not yet met. The barred colours are passed over: they are in the mask from the
+// beginning. No other colour is met by an arc of a fit model, so that what is missing is a difference.
+fn check_colours(model: Model, cycle: &[u8], barred: u8) -> Verdict
     requires { ⌜ Holds model × ArcNumbers model (now cycle) ⌝ }
-    ensures { λ r. ⌜ r ≡ coloursOf (held model) (now (cycle .entry)) ⌝ }
+    ensures { λ r. ⌜ r ≡ coloursOf (held model) barred (now (cycle .entry)) ⌝ }
 {
     let k = model.colours;
-    let required = (1u32 << (k as u32)) - 1;
-    let missing = required - met_colours(model, cycle, required);
+    let all = (1u32 << (k as u32)) - 1;
+    let missing = all - met_colours(model, cycle, (barred as u32) & all, all);
     if missing == 0 {
         return Verdict::Yes;
     }
     Verdict::Refused(Refusal::MissingColour(u32::trailing_zeros(missing)))
 }
 
-// Refusals 15 to 17, of a plan that has its shape: whether it is feasible and accepted.
-fn check_serves(model: Model, plan: &[u8], p: usize, credit: u16, bound: u16) -> Verdict
+// Refusals 24 and 17: whether a plan that has its shape is accepted.
+fn check_accepted(model: Model, plan: &[u8], p: usize, barred: u8) -> Verdict
     requires { ⌜ Holds model × ArcNumbers model (now plan) × (p ≤ length (now plan)) × (length (now plan) ≤ planMost) ⌝ }
-    ensures { λ r. ⌜ r ≡ servesOf (held model) bound credit (planOf p (now (plan .entry))) ⌝ }
+    ensures { λ r. ⌜ r ≡ acceptedOf (held model) barred (planOf p (now (plan .entry))) ⌝ }
+{
+    let clean = check_barred(model, plan, p, barred);
+    match clean {
+        Verdict::Yes => check_colours(model, &plan[p..], barred),
+        Verdict::Refused(refusal) => Verdict::Refused(refusal),
+    }
+}
+
+// Refusals 15, 16, 24 and 17, of a plan that has its shape: whether it is feasible and accepted.
+fn check_serves(model: Model, plan: &[u8], p: usize, credit: u16, bound: u16, barred: u8) -> Verdict
+    requires { ⌜ Holds model × ArcNumbers model (now plan) × (p ≤ length (now plan)) × (length (now plan) ≤ planMost) ⌝ }
+    ensures { λ r. ⌜ r ≡ servesOf (held model) barred bound credit (planOf p (now (plan .entry))) ⌝ }
 {
     let charges = check_charges(model, plan, p, credit, bound);
     match charges {
-        Verdict::Yes => check_colours(model, &plan[p..]),
+        Verdict::Yes => check_accepted(model, plan, p, barred),
         Verdict::Refused(refusal) => Verdict::Refused(refusal),
     }
 }
 
-// Refusals 11 to 17.
-fn judge_plan(model: Model, plan: &[u8], p: u32, q: u32, credit: u16, bound: u16) -> Verdict
+// Refusals 11 to 16, 24 and 17.
+fn judge_plan(
+    model: Model,
+    plan: &[u8],
+    p: u32,
+    q: u32,
+    credit: u16,
+    bound: u16,
+    barred: u8,
+) -> Verdict
     requires { ⌜ Holds model ⌝ }
-    ensures { λ r. ⌜ r ≡ judgedPlan (held model) bound credit p q (now (plan .entry)) ⌝ }
+    ensures { λ r. ⌜ r ≡ judgedPlan (held model) barred bound credit p q (now (plan .entry)) ⌝ }
 {
     let shape = check_shape(model, plan, p, q);
     match shape {
-        Verdict::Yes => check_serves(model, plan, p as usize, credit, bound),
+        Verdict::Yes => check_serves(model, plan, p as usize, credit, bound, barred),
         Verdict::Refused(refusal) => Verdict::Refused(refusal),
     }
 }
 
-// Refusals 6 and 11 to 17.
-fn judge_levels(model: Model, plan: &[u8], p: u32, q: u32, c: u32, b: u32) -> Verdict
+// Refusals 6, 11 to 16, 24 and 17.
+fn judge_levels(model: Model, plan: &[u8], p: u32, q: u32, c: u32, b: u32, barred: u8) -> Verdict
     requires { ⌜ Holds model ⌝ }
-    ensures { λ r. ⌜ r ≡ judgedLevels (held model) b c p q (now (plan .entry)) ⌝ }
+    ensures { λ r. ⌜ r ≡ judgedLevels (held model) barred b c p q (now (plan .entry)) ⌝ }
 {
     let levels = check_levels(c, b);
     match levels {
-        Verdict::Yes => judge_plan(model, plan, p, q, c as u16, b as u16),
+        Verdict::Yes => judge_plan(model, plan, p, q, c as u16, b as u16, barred),
         Verdict::Refused(refusal) => Verdict::Refused(refusal),
     }
 }
@@ -279,11 +319,12 @@ pub fn judge_model(
     actions: &[u8],
     c: u32,
     b: u32,
+    barred: u8,
     p: u32,
     q: u32,
     plan: &[u8],
 ) -> JudgedModel
-    ensures { λ r. ⌜ r ≡ judgedModel n start k (lists (now (sources .entry)) (now (targets .entry)) (now (draws .entry)) (now (gains .entry)) (now (colours .entry)) (now (actions .entry))) b c p q (now (plan .entry)) ⌝ }
+    ensures { λ r. ⌜ r ≡ judgedModel n start k (lists (now (sources .entry)) (now (targets .entry)) (now (draws .entry)) (now (gains .entry)) (now (colours .entry)) (now (actions .entry))) barred b c p q (now (plan .entry)) ⌝ }
 {
     let fitted = check_model(
         n,
@@ -300,7 +341,7 @@ pub fn judge_model(
     let model = fitted.model;
     match verdict {
         Verdict::Yes => JudgedModel {
-            verdict: judge_levels(model, plan, p, q, c, b),
+            verdict: judge_levels(model, plan, p, q, c, b, barred),
             model,
         },
         Verdict::Refused(refusal) => JudgedModel {
@@ -310,7 +351,7 @@ pub fn judge_model(
     }
 }
 
-// Judging: yes, or the first of 1 to 6 and 11 to 17 that applies. For all numbers, lists and plans.
+// Judging, with a byte of barred colours: yes, or the first of 1 to 6, 11 to 16, 24 and 17 that applies. For all numbers, lists and plans.
 pub fn judge(
     n: u32,
     start: u32,
@@ -323,12 +364,13 @@ pub fn judge(
     actions: &[u8],
     c: u32,
     b: u32,
+    barred: u8,
     p: u32,
     q: u32,
     plan: &[u8],
 ) -> Verdict
-    ensures verdict { λ r. ⌜ r ≡ judged n start k (lists (now (sources .entry)) (now (targets .entry)) (now (draws .entry)) (now (gains .entry)) (now (colours .entry)) (now (actions .entry))) b c p q (now (plan .entry)) ⌝ }
-    ensures answer { λ r. ⌜ answerOf r ≡ judgedAnswer n start k (lists (now (sources .entry)) (now (targets .entry)) (now (draws .entry)) (now (gains .entry)) (now (colours .entry)) (now (actions .entry))) b c p q (now (plan .entry)) ⌝ }
+    ensures verdict { λ r. ⌜ r ≡ judged n start k (lists (now (sources .entry)) (now (targets .entry)) (now (draws .entry)) (now (gains .entry)) (now (colours .entry)) (now (actions .entry))) barred b c p q (now (plan .entry)) ⌝ }
+    ensures answer { λ r. ⌜ answerOf r ≡ judgedAnswer n start k (lists (now (sources .entry)) (now (targets .entry)) (now (draws .entry)) (now (gains .entry)) (now (colours .entry)) (now (actions .entry))) barred b c p q (now (plan .entry)) ⌝ }
 {
     let judged = judge_model(
         n,
@@ -342,6 +384,7 @@ pub fn judge(
         actions,
         c,
         b,
+        barred,
         p,
         q,
         plan,

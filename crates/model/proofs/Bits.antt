@@ -1,11 +1,11 @@
 -- Colour bytes: powers of two as the code makes them, and what it means that a byte has no bit at or above k. Assumes nothing.
 use mathlib.Core.Path.{_≡_, refl, sym, ap, _∙_}
-use mathlib.Core.Bool.{Bool, false, _||_}
+use mathlib.Core.Bool.{Bool, false, _&&_, _||_}
 use mathlib.Core.Logic.{_↔_}
-use Prim.Native.Nat.{ℕ, zero, suc, _+_, _*_, _/_, _%_, _^_, _≤_, _<_, max}
+use Prim.Native.Nat.{ℕ, zero, suc, _+_, _*_, _/_, _%_, _^_, _≤_, _<_, min, max}
 use native.Mathlib.Nat.{one-mul, add-zero, add-suc, two-pow-succ, pow-suc, pow-succ', div-one, div-eq-of-lt, mul-mod-left, div-div-eq-div-mul, div-lt-iff-lt-mul}
 use native.Mathlib.Omega.{arith}
-use lib.Bits.{bitOr, or-step, or-shr}
+use lib.Bits.{bitAnd, bitOr, and-step, and-shr, or-step, or-shr}
 use lib.Dec.{eqb, eqb·zero-suc, eqb·suc-zero, eqb·suc-suc, lit<}
 use lib.Pow.{pow-pos, pow-mono, shl-exact}
 use borrow.Author.Tests.{eqb-false}
@@ -42,6 +42,10 @@ colours-below x k = (to, from)
     from : ((j : ℕ) → k ≤ j → bit x j ≡ false) → x < 2 ^ k
     from f = cleared x k x (omega (arith, below-pow x, pow-mono {i = x} {j = k + x} (omega arith))) f
 
+-- the byte 0 has no bit
+pub bit-zero : (j : ℕ) → bit 0 j ≡ false
+bit-zero j = colours-below 0 0 .0 (omega arith) j (omega arith)
+
 -- bit j of the half of a number is its bit j + 1
 pub half-bit : (y j : ℕ) → bit (y / 2) j ≡ bit y (suc j)
 half-bit y j = ap {B = Bool} (λ (x : ℕ). eqb (x % 2) 1) (div-div-eq-div-mul y 2 (2 ^ j) ∙ ap {B = ℕ} (λ (x : ℕ). y / x) (sym (pow-succ' 2 j)))
@@ -73,6 +77,23 @@ or-bit a b j =
     let digit : bitOr (a / 2 ^ j) (b / 2 ^ j) % 2 ≡ max (a / 2 ^ j % 2) (b / 2 ^ j % 2) = omega (arith, or-step (a / 2 ^ j) (b / 2 ^ j)) in
     ap {B = Bool} (λ (x : ℕ). eqb (x % 2) 1) (or-shr a b j) ∙ ap {B = Bool} (λ (x : ℕ). eqb x 1) digit
     ∙ max-digit (a / 2 ^ j % 2) (b / 2 ^ j % 2) (omega arith) (omega arith)
+
+-- the lesser of two digits is 1 where both are
+min-digit : (x y : ℕ) → x < 2 → y < 2 → eqb (min x y) 1 ≡ (eqb x 1 && eqb y 1)
+min-digit zero zero hx hy = refl
+min-digit zero (suc zero) hx hy = refl
+min-digit (suc zero) zero hx hy = refl
+min-digit (suc zero) (suc zero) hx hy = refl
+min-digit (suc (suc x)) y hx hy = absurd (omega arith)
+min-digit zero (suc (suc y)) hx hy = absurd (omega arith)
+min-digit (suc zero) (suc (suc y)) hx hy = absurd (omega arith)
+
+-- a bit of `and` is a bit of both
+pub and-bit : (a b j : ℕ) → bit (bitAnd a b) j ≡ (bit a j && bit b j)
+and-bit a b j =
+    let digit : bitAnd (a / 2 ^ j) (b / 2 ^ j) % 2 ≡ min (a / 2 ^ j % 2) (b / 2 ^ j % 2) = omega (arith, and-step (a / 2 ^ j) (b / 2 ^ j)) in
+    ap {B = Bool} (λ (x : ℕ). eqb (x % 2) 1) (and-shr a b j) ∙ ap {B = Bool} (λ (x : ℕ). eqb x 1) digit
+    ∙ min-digit (a / 2 ^ j % 2) (b / 2 ^ j % 2) (omega arith) (omega arith)
 
 -- the bits of a number are its binary digits, from the lowest on: so any set of colours has a byte
 pub bit-digits : (x d : ℕ) → d < 2 → (bit (x * 2 + d) 0 ≡ eqb d 1) × ((j : ℕ) → bit (x * 2 + d) (suc j) ≡ bit x j)

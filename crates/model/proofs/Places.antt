@@ -1,7 +1,7 @@
 -- Plans by the places of their arcs, in document 01's words: where arcs lead, what a plan is, which colours it meets, and how its arcs are walked.
 -- Each law pins every part of the definition that it is about. Assumes nothing.
 use mathlib.Core.Path.{_≡_, refl, sym, ap, _∙_, subst}
-use mathlib.Core.Bool.{true}
+use mathlib.Core.Bool.{true, false, true≢false}
 use mathlib.Core.List.{List, [], _∷_, _++_}
 use mathlib.Core.Logic.{_↔_}
 use Prim.Native.Nat.{ℕ, zero, suc, _+_, _-_, _≤_, _<_, min}
@@ -10,6 +10,7 @@ use lib.ListN.{length, getD, List·getD-append}
 use Rattle.walks.specs.BoundedStep.{after, lost}
 use Rattle.walks.specs.Walk.{Ends}
 use Rattle.walks.proofs.Walks.{stepped-possible, stepped-to, walked-cons}
+use Rattle.refusals.proofs.Tests.{is-no}
 use Rattle.model.specs.Automaton.{Automaton, arcAt, bit, meets, moveOf, movesOf}
 use Rattle.model.specs.Plans.{Plan, Leads, IsPlan, walkedArcs, Accepted}
 use Rattle.model.proofs.Leads.{leads-append}
@@ -75,10 +76,22 @@ module _ (g : Automaton) where
           record { mode = m; leads-in = first; leads-cycle = subst (λ x. Leads g m (p .cycle) x) same round; some-arc = some },
     )
 
-    -- "each of the k colours stands on some arc of the round", as a bit of its colour byte
-    pub accepted-places : Accepted g p
-        ↔ ((j : ℕ) → j < g .colours → (i : ℕ) × (i < length (p .cycle)) × (bit (arcAt g (getD (p .cycle) i 0) .colours) j ≡ true))
-    accepted-places = (λ f j h. some-at (meets g j) (p .cycle) .0 (f j h), λ f j h. some-at (meets g j) (p .cycle) .1 (f j h))
+    -- "each of the k colours stands on some arc of the round", as a bit of its colour byte, unless it is barred, and then it stands on none
+    pub accepted-places : (x : ℕ) → Accepted g x p
+        ↔ ((j : ℕ) → j < g .colours
+        → (bit x j ≡ false → (i : ℕ) × (i < length (p .cycle)) × (bit (arcAt g (getD (p .cycle) i 0) .colours) j ≡ true))
+        × (bit x j ≡ true → (i : ℕ) → i < length (p .cycle) → bit (arcAt g (getD (p .cycle) i 0) .colours) j ≡ false))
+    accepted-places x = (
+      λ f j h. (
+        λ e. some-at (meets g j) (p .cycle) .0 (f .required j h e),
+        λ e i q. is-no (meets g j (getD (p .cycle) i 0)) (λ m. f .barred j h e (some-at (meets g j) (p .cycle) .1 (i, q, m))),
+      ),
+      λ f.
+          record {
+            required = λ j h e. some-at (meets g j) (p .cycle) .1 (f j h .0 e);
+            barred = λ j h e m. let (i, q, t) = some-at (meets g j) (p .cycle) .0 m in true≢false (sym t ∙ f j h .1 e i q);
+          },
+    )
 
   -- a walk of arcs, by its first: it "is possible where the charge is at least the draw, and then takes e to the smaller of e − draw + gain and b"
   pub walked-arc : (b a : ℕ) (w : List ℕ) (e x : ℕ) → (walkedArcs g b (a ∷ w) e ≡ Ends x)

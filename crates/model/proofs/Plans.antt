@@ -1,6 +1,7 @@
 -- What the definitions of feasible and accepted come to: document 001's feasibility and acceptance of the infinite run; and two rounds decide the
 -- first. Assumes nothing.
 use mathlib.Core.Path.{_≡_, refl, sym, ap, _∙_, subst}
+use mathlib.Core.Bool.{true, false, false≢true}
 use mathlib.Core.List.{List, _++_, map-append, append-assoc}
 use mathlib.Core.Logic.{_↔_}
 use Prim.Native.Nat.{ℕ, zero, suc, _+_, _≤_, _<_}
@@ -14,10 +15,11 @@ use Rattle.walks.proofs.Accumulated.{possible-accumulated}
 use Rattle.walks.proofs.Walks.{walked-append, map-times, times-add}
 use Rattle.walks.proofs.Charges.{walked-bound}
 use Rattle.walks.proofs.Rounds.{rounds-hold}
-use Rattle.model.specs.Automaton.{Automaton, arcAt, meets, moveOf, movesOf}
+use Rattle.model.specs.Automaton.{Automaton, arcAt, bit, meets, moveOf, movesOf}
 use Rattle.model.specs.Plans.{Plan, Leads, IsPlan, walkedArcs, Feasible, Meets, Accepted, Serves, SomePlan}
 use Rattle.model.proofs.Leads.{leads-append, leads-cut, leads-times}
 use Rattle.model.proofs.SomeArc.{some-right, some-times}
+use Rattle.model.proofs.Bits.{bit-zero}
 
 module _ (g : Automaton) (b c : ℕ) (p : Plan) where
   -- the walk of a plan with its cycle r times over is the walk of the prefix, and then that of the cycle repeated
@@ -63,17 +65,17 @@ walked-part g b u v e h =
     go Blocked p = absurd p
 
 -- the first i steps of a plan that serves, its cycle repeated: they lead on, and their walk ends at some charge
-pub serves-walked : (g : Automaton) (b c : ℕ) (p : Plan) → Serves g b c p → (r i : ℕ)
-    → (m : ℕ) × (x : ℕ) × Leads g (g .start) (take i (p .prefix ++ times r (p .cycle))) m
-    × (walkedArcs g b (take i (p .prefix ++ times r (p .cycle))) c ≡ Ends x)
-serves-walked g b c p serves r i =
+pub serves-walked : (g : Automaton) (x b c : ℕ) (p : Plan) → Serves g x b c p → (r i : ℕ)
+    → (m : ℕ) × (y : ℕ) × Leads g (g .start) (take i (p .prefix ++ times r (p .cycle))) m
+    × (walkedArcs g b (take i (p .prefix ++ times r (p .cycle))) c ≡ Ends y)
+serves-walked g x b c p serves r i =
     let w = p .prefix ++ times r (p .cycle) in
     let s = g .start in
     let t = serves .plan .mode in
     let round = leads-times g (p .cycle) t (serves .plan .leads-cycle) r in
     let (m, leads, _) = leads-cut g i w s t .0 (leads-append g (p .prefix) (times r (p .cycle)) s t .1 (t, serves .plan .leads-in, round)) in
-    let (x, ends) = walked-part g b (take i w) (drop i w) c (rw (take-append-drop i w) (serves .feasible r)) in
-    (m, x, leads, ends)
+    let (y, ends) = walked-part g b (take i w) (drop i w) c (rw (take-append-drop i w) (serves .feasible r)) in
+    (m, y, leads, ends)
 
 -- the list repeated r times has at least r arcs, where it has one
 pub times-length : (w : List ℕ) → 0 < length w → (r : ℕ) → r ≤ length (times r w)
@@ -87,11 +89,19 @@ times-last r w =
     let next : suc r ≡ r + 1 = omega arith in
     ap {B = List ℕ} (λ (x : ℕ). times x w) next ∙ more ∙ ap {B = List ℕ} (λ l. times r w ++ l) once
 
--- Accepted is document 001's acceptance: "all colors in M are seen infinitely often along" the run. After any n steps of the run, every
--- colour is met again.
-pub accepted-buchi : (g : Automaton) (p : Plan) → 0 < length (p .cycle) → Accepted g p
-    ↔ ((j : ℕ) → j < g .colours → (n : ℕ) → (r : ℕ) × Meets g j (drop n (p .prefix ++ times r (p .cycle))))
-accepted-buchi g p h = (λ a j q n. (suc n, again j n (a j q)), λ f j q. once j (f j q (length (p .prefix))))
+-- Accepted is document 001's acceptance: "all colors in M are seen infinitely often along" the run, and document 000's Fin condition: after any n
+-- steps of the run every required colour is met again, and after some n steps no barred colour is.
+pub accepted-buchi : (g : Automaton) (x : ℕ) (p : Plan) → 0 < length (p .cycle) → Accepted g x p
+    ↔ (((j : ℕ) → j < g .colours → bit x j ≡ false → (n : ℕ) → (r : ℕ) × Meets g j (drop n (p .prefix ++ times r (p .cycle))))
+    × ((j : ℕ) → j < g .colours → bit x j ≡ true → (n : ℕ) × ((r : ℕ) → Meets g j (drop n (p .prefix ++ times r (p .cycle))) → ⊥)))
+accepted-buchi g x p h = (
+  λ a. (λ j q e n. (suc n, again j n (a .required j q e)), λ j q e. (length (p .prefix), λ r m. a .barred j q e (once j (r, m)))),
+  λ f.
+      record {
+        required = λ j q e. once j (f .0 j q e (length (p .prefix)));
+        barred = λ j q e m. let (n, never) = f .1 j q e in never (suc n) (again j n m);
+      },
+)
   where
     again : (j n : ℕ) → Meets g j (p .cycle) → Meets g j (drop n (p .prefix ++ times (suc n) (p .cycle)))
     again j n m =
@@ -106,12 +116,32 @@ accepted-buchi g p h = (λ a j q n. (suc n, again j n (a j q)), λ f j q. once j
     once j (r, m) = some-times (meets g j) r (p .cycle) (rw (drop-append-seam (p .prefix) (times r (p .cycle))) at m)
 
 -- "With k = 0 every plan is accepted."
-pub accepted-none : (g : Automaton) (p : Plan) → g .colours ≡ 0 → Accepted g p
-accepted-none g p e j h = absurd (omega arith)
+pub accepted-none : (g : Automaton) (x : ℕ) (p : Plan) → g .colours ≡ 0 → Accepted g x p
+accepted-none g x p e = record { required = λ j h. absurd (omega arith); barred = λ j h. absurd (omega arith) }
+
+-- where no colour of the model is barred, accepted is that each of the k colours stands on some arc of the round
+pub accepted-all : (g : Automaton) (x : ℕ) (p : Plan) → ((j : ℕ) → j < g .colours → bit x j ≡ false)
+    → Accepted g x p ↔ ((j : ℕ) → j < g .colours → Meets g j (p .cycle))
+accepted-all g x p none = (
+  λ a j h. a .required j h (none j h),
+  λ f. record { required = λ j h e. f j h; barred = λ j h e m. false≢true (sym (none j h) ∙ e) },
+)
+
+-- and so it is for the byte 0
+pub accepted-zero : (g : Automaton) (p : Plan) → Accepted g 0 p ↔ ((j : ℕ) → j < g .colours → Meets g j (p .cycle))
+accepted-zero g p = accepted-all g 0 p (λ j h. bit-zero j)
+
+-- "its bits at or above k are ignored"
+pub accepted-ignored : (g : Automaton) (x y : ℕ) (p : Plan) → ((j : ℕ) → j < g .colours → bit x j ≡ bit y j) → Accepted g x p → Accepted g y p
+accepted-ignored g x y p same a =
+    record { required = λ j h e. a .required j h (same j h ∙ e); barred = λ j h e. a .barred j h (same j h ∙ e) }
+
+pub serves-ignored : (g : Automaton) (x y b c : ℕ) (p : Plan) → ((j : ℕ) → j < g .colours → bit x j ≡ bit y j) → Serves g x b c p → Serves g y b c p
+serves-ignored g x y b c p same s = record { plan = s .plan; feasible = s .feasible; accepted = accepted-ignored g x y p same (s .accepted) }
 
 -- that SomePlan fails means that "no plan of any length is feasible and accepted" (document 01, demand 3); this pins each field of Serves
-pub no-plan-exists : (g : Automaton) (b c : ℕ) → (SomePlan g b c → ⊥) ↔ ((p : Plan) → IsPlan g p → Feasible g b c p → Accepted g p → ⊥)
-no-plan-exists g b c = (
+pub no-plan-exists : (g : Automaton) (x b c : ℕ) → (SomePlan g x b c → ⊥) ↔ ((p : Plan) → IsPlan g p → Feasible g b c p → Accepted g x p → ⊥)
+no-plan-exists g x b c = (
   λ none p plan feasible accepted. none (p, record { plan = plan; feasible = feasible; accepted = accepted }),
   λ none (p, serves). none p (serves .plan) (serves .feasible) (serves .accepted),
 )

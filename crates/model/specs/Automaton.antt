@@ -1,7 +1,7 @@
 -- The model. Document 01, "The model and the charge": "A model has n modes, 0 to n−1, a start mode, k colours (duties), and m arcs, numbered
 -- from 0 in the order given." Document 001, Definition 2.1: a weighted, transition-based, generalised Büchi automaton.
-use Prim.Native.Nat.{ℕ, _/_, _%_, _^_}
-use mathlib.Core.Bool.{Bool}
+use Prim.Native.Nat.{ℕ, zero, suc, _/_, _%_, _^_}
+use mathlib.Core.Bool.{Bool, false, _&&_, _||_}
 use mathlib.Core.List.{List, map}
 use lib.Dec.{eqb}
 use lib.ListN.{getD}
@@ -30,6 +30,16 @@ bit x j = eqb (x / 2 ^ j % 2) 1
 -- "a colour byte whose bit j (j below k) says that the arc meets colour j"
 abbrev pub meets : Automaton → ℕ → ℕ → Bool
 meets g j a = bit (arcAt g a .colours) j
+
+-- two bytes have a bit in common, below k
+abbrev pub common : ℕ → ℕ → ℕ → Bool
+common x y zero = false
+common x y (suc k) = bit x k && bit y k || common x y k
+
+-- arc a has a barred colour. Document 02, Ask 6: "A byte names these barred colours; its bits at or above k are ignored." In all definitions
+-- this byte is x.
+abbrev pub hasBarred : Automaton → ℕ → ℕ → Bool
+hasBarred g x a = common x (arcAt g a .colours) (g .colours)
 
 -- what an arc draws and gains
 abbrev pub moveOf : Arc → Move

@@ -2,12 +2,12 @@
 -- ceiling."
 use Prim.Native.Nat.{ℕ, _<_}
 use mathlib.Core.Path.{_≡_}
-use mathlib.Core.Bool.{Bool, true}
+use mathlib.Core.Bool.{Bool, true, false}
 use mathlib.Core.List.{List, [], _∷_, _++_}
 use mathlib.Core.Logic.{_⊎_}
 use lib.ListN.{length}
 use Rattle.walks.specs.Walk.{End, walked, IsPossible, times}
-use Rattle.model.specs.Automaton.{Automaton, arcAt, meets, movesOf}
+use Rattle.model.specs.Automaton.{Automaton, arcAt, bit, meets, movesOf}
 
 -- arc numbers. prefix: document 01's run-in, of length p; cycle: its round, of length q. Document 001 calls the two a lasso.
 pub record Plan : Type 0 where
@@ -43,15 +43,19 @@ SomeArc test (a ∷ w) = (test a ≡ true) ⊎ SomeArc test w
 abbrev pub Meets : Automaton → ℕ → List ℕ → Type 0
 Meets g j w = SomeArc (meets g j) w
 
--- "Accepted: each of the k colours stands on some arc of the round. With k = 0 every plan is accepted."
-abbrev pub Accepted : Automaton → Plan → Type 0
-Accepted g p = (j : ℕ) → j < g .colours → Meets g j (p .cycle)
+-- "Accepted: each of the k colours stands on some arc of the round. With k = 0 every plan is accepted." Document 02, Ask 6: x is the byte of
+-- barred colours; these "are no longer required in the round" and "may appear in the run-in and never in the round"; "its bits at or above k
+-- are ignored".
+pub record Accepted (g : Automaton) (x : ℕ) (p : Plan) : Type 0 where
+  pub required : (j : ℕ) → j < g .colours → bit x j ≡ false → Meets g j (p .cycle)
+  pub barred : (j : ℕ) → j < g .colours → bit x j ≡ true → Meets g j (p .cycle) → ⊥
 
--- a plan of the model that is feasible and accepted, under the bound b from credit c; in all definitions the bound stands first
-pub record Serves (g : Automaton) (b c : ℕ) (p : Plan) : Type 0 where
+-- a plan of the model that is feasible and accepted, with the barred colours x, under the bound b from credit c; in all definitions the bound
+-- stands first
+pub record Serves (g : Automaton) (x b c : ℕ) (p : Plan) : Type 0 where
   pub plan : IsPlan g p
   pub feasible : Feasible g b c p
-  pub accepted : Accepted g p
+  pub accepted : Accepted g x p
 
-abbrev pub SomePlan : Automaton → ℕ → ℕ → Type 0
-SomePlan g b c = (p : Plan) × Serves g b c p
+abbrev pub SomePlan : Automaton → ℕ → ℕ → ℕ → Type 0
+SomePlan g x b c = (p : Plan) × Serves g x b c p

@@ -4,7 +4,7 @@ use mathlib.Core.Path.{_≡_, refl}
 use mathlib.Core.List.{List, _++_}
 use Prim.Native.Nat.{ℕ, zero, suc, pred, _+_, _*_, _≤_, _<_}
 use native.Mathlib.Omega.{arith}
-use native.Mathlib.Nat.{one-mul}
+use native.Mathlib.Nat.{mul-le-mul-right, one-mul}
 use native.Mathlib.Numerals.{add-one}
 use native.Mathlib.Decide.{decLe}
 use lib.ListN.{length, take, drop, length-append, length-take, length-drop, take-append-drop}
@@ -12,7 +12,9 @@ use Rattle.walks.specs.Moves.{charge, Possible}
 use Rattle.walks.proofs.Charges.{charge-append, possible-append, charge-bound}
 use Rattle.model.specs.Automaton.{Automaton}
 use Rattle.model.specs.Fitness.{Fit}
+use Rattle.model.specs.Required.{required}
 use Rattle.model.specs.Plans.{Plan, Serves, SomePlan}
+use Rattle.model.proofs.Required.{required-le}
 use Rattle.nets.specs.Graph.{moves, Leads}
 use Rattle.nets.specs.Net.{Net, Usable, Lasts, Fits, AcceptedLasso}
 use Rattle.nets.specs.Table.{level, Reached, KeptCycle}
@@ -155,13 +157,15 @@ lasso-short g b c fits hc p =
     record { lasso = record { mode = s; charged = e; reached = r′; kept = k′ }; prefix-short = rw one-mul at m; cycle-short = n }
 
 -- where any plan exists, one exists with a run-in of at most n(b+1) and a round of at most (k+1)n(b+1) arcs
-pub plan-short : (g : Automaton) (b c : ℕ) → Fit g → c ≤ b → SomePlan g b c
-    → (p : Plan) × Serves g b c p × (length (p .prefix) ≤ g .modes * (b + 1)) × (length (p .cycle) ≤ (g .colours + 1) * g .modes * (b + 1))
-plan-short g b c f hc p =
-    let h = lasso-short (whole g) b c (whole-fits g f) hc (whole-lasso g b c .0 p) in
-    let l = h .lasso in (
+pub plan-short : (g : Automaton) (x b c : ℕ) → Fit g → c ≤ b → SomePlan g x b c
+    → (p : Plan) × Serves g x b c p × (length (p .prefix) ≤ g .modes * (b + 1)) × (length (p .cycle) ≤ (g .colours + 1) * g .modes * (b + 1))
+plan-short g x b c f hc p =
+    let h = lasso-short (whole g x) b c (whole-fits g x f) hc (whole-lasso g x b c (f .few-colours) .0 p) in
+    let l = h .lasso in
+    let levels : suc (required x (g .colours)) ≤ suc (g .colours) = omega (arith, required-le x (g .colours)) in
+    let more = mul-le-mul-right (suc b) (mul-le-mul-right (g .modes) levels) in (
       record { prefix = l .reached .arcs; cycle = l .kept .arcs },
-      reached-serves g b c (l .mode) (l .charged) (l .reached) (l .kept),
+      reached-serves g x b c (f .few-colours) (l .mode) (l .charged) (l .reached) (l .kept),
       simp add-one (omega (arith, h .prefix-short)),
-      simp add-one (h .cycle-short),
+      simp add-one (omega (arith, h .cycle-short, more)),
     )

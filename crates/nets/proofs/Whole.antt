@@ -1,18 +1,24 @@
 -- The net of a whole model stands for the model: its accepted feasible lassos are the feasible and accepted plans, with the same prefix and
 -- cycle. So the criterion and the decision hold of plans, in the words of document 01. Assumes nothing.
-use mathlib.Core.Path.{_≡_, refl}
-use mathlib.Core.List.{List, _++_}
-use mathlib.Core.Logic.{_↔_}
+use mathlib.Core.Path.{_≡_, refl, sym, ap, subst, _∙_}
+use mathlib.Core.Bool.{Bool, true, false, true≢false, not}
+use mathlib.Core.List.{List, [], _∷_, _++_}
+use mathlib.Core.Logic.{_↔_, _⊎_, inl, inr}
 use Prim.Native.Nat.{ℕ, _≤_, _<_}
 use native.Mathlib.Omega.{arith}
 use lib.ListN.{length}
+use borrow.Author.Tests.{not-true}
+use Rattle.limits.specs.Ceilings.{coloursMost}
 use Rattle.walks.specs.Walk.{times}
-use Rattle.model.specs.Automaton.{Automaton}
+use Rattle.model.specs.Automaton.{Automaton, arcAt, bit, meets, hasBarred}
+use Rattle.model.specs.Required.{required}
 use Rattle.model.specs.Fitness.{Fit}
 use Rattle.model.specs.Plans
-use Rattle.model.specs.Plans.{Plan, Serves, SomePlan}
+use Rattle.model.specs.Plans.{Plan, SomeArc, Serves, SomePlan}
+use Rattle.model.proofs.Barred.{common-none}
+use Rattle.model.proofs.Required.{compressed-bit, required-below, required-at}
 use Rattle.nets.specs.Graph.{Leads}
-use Rattle.nets.specs.Net.{Usable, Lasts, Fits, AcceptedLasso}
+use Rattle.nets.specs.Net.{Usable, Lasts, Fits, MeetsAll, AcceptedLasso}
 use Rattle.nets.specs.Table.{Reached, Peaks, Tours, KeptCycle, PeakCycle, PeakClosed}
 use Rattle.nets.specs.Whole.{graphOf, whole, lassoPlan}
 use Rattle.nets.proofs.Leads.{leads-weaken}
@@ -21,86 +27,139 @@ use Rattle.nets.proofs.Decides.{decides}
 use Rattle.nets.proofs.GraphOf.{leads-graph, possible-graph}
 
 -- a model that is fit gives a net that fits
-pub whole-fits : (g : Automaton) → Fit g → Fits (whole g)
-whole-fits g f =
+pub whole-fits : (g : Automaton) (x : ℕ) → Fit g → Fits (whole g x)
+whole-fits g x f =
     record { starts = f .starts; sources = λ a k. f .arcs-fit a (k .0) .source; targets = λ a k. f .arcs-fit a (k .0) .target }
 
-module _ (g : Automaton) where
+-- arcs that pass one test pass another that is the same
+some-same : (f h : ℕ → Bool) → ((a : ℕ) → f a ≡ h a) → (w : List ℕ) → SomeArc f w → SomeArc h w
+some-same f h e (a ∷ w) (inl p) = inl (sym (e a) ∙ p)
+some-same f h e (a ∷ w) (inr p) = inr (some-same f h e w p)
+
+-- what is not so is false
+not-so : (t : Bool) → (t ≡ true → ⊥) → t ≡ false
+not-so true h = absurd (h refl)
+not-so false h = refl
+
+module _ (g : Automaton) (x : ℕ) where
   -- a prefix may use every arc that is there ..
-  pub whole-usable-arc : (a : ℕ) → Usable (whole g) a ↔ (a < length (g .arcs))
+  pub whole-usable-arc : (a : ℕ) → Usable (whole g x) a ↔ (a < length (g .arcs))
   whole-usable-arc a = (λ h. h .0, λ h. (h, refl))
 
-  -- .. and so may a cycle
-  pub whole-lasting-arc : (a : ℕ) → Lasts (whole g) a ↔ (a < length (g .arcs))
-  whole-lasting-arc a = (λ h. h .0 .0, λ h. ((h, refl), refl))
+  -- .. and a cycle those without a barred colour
+  pub whole-lasting-arc : (a : ℕ) → Lasts (whole g x) a
+      ↔ ((a < length (g .arcs)) × ((j : ℕ) → j < g .colours → bit x j ≡ true → meets g j a ≡ false))
+  whole-lasting-arc a =
+      let none = common-none x (arcAt g a .colours) (g .colours) in (
+        λ h. (h .0 .0, none .0 (not-true (hasBarred g x a) (h .1))),
+        λ h. ((h .0, refl), ap {B = Bool} not (none .1 (h .1))),
+      )
 
   -- arcs that lead from s to t in the model are usable in the net
-  pub whole-usable : (w : List ℕ) (s t : ℕ) → Plans.Leads g s w t ↔ Leads (graphOf g) (Usable (whole g)) s w t
+  pub whole-usable : (w : List ℕ) (s t : ℕ) → Plans.Leads g s w t ↔ Leads (graphOf g) (Usable (whole g x)) s w t
   whole-usable w s t =
       let e = leads-graph g w s t in (
-        λ h. leads-weaken (graphOf g) (λ a. a < length (g .arcs)) (Usable (whole g)) (λ a. whole-usable-arc a .1) w s t (e .0 h),
-        λ h. e .1 (leads-weaken (graphOf g) (Usable (whole g)) (λ a. a < length (g .arcs)) (λ a. whole-usable-arc a .0) w s t h),
+        λ h. leads-weaken (graphOf g) (λ a. a < length (g .arcs)) (Usable (whole g x)) (λ a. whole-usable-arc a .1) w s t (e .0 h),
+        λ h. e .1 (leads-weaken (graphOf g) (Usable (whole g x)) (λ a. a < length (g .arcs)) (λ a. whole-usable-arc a .0) w s t h),
       )
 
-  -- and they last
-  pub whole-lasts : (w : List ℕ) (s t : ℕ) → Plans.Leads g s w t ↔ Leads (graphOf g) (Lasts (whole g)) s w t
+  -- no barred colour stands on an arc of the list
+  abbrev Clean : List ℕ → Type 0
+  Clean w = (j : ℕ) → j < g .colours → bit x j ≡ true → Plans.Meets g j w → ⊥
+
+  lasts-clean : (w : List ℕ) (s t : ℕ) → Leads (graphOf g) (Lasts (whole g x)) s w t → Clean w
+  lasts-clean (a ∷ w) s t d j h q (inl m) = true≢false (sym m ∙ whole-lasting-arc a .0 (d .0) .1 j h q)
+  lasts-clean (a ∷ w) s t d j h q (inr m) = lasts-clean w (graphOf g .target a) t (d .2) j h q m
+
+  clean-lasts : (w : List ℕ) (s t : ℕ) → Leads (graphOf g) (λ a. a < length (g .arcs)) s w t → Clean w → Leads (graphOf g) (Lasts (whole g x)) s w t
+  clean-lasts [] s t d c = d
+  clean-lasts (a ∷ w) s t d c = (
+    whole-lasting-arc a .1 (d .0, λ j h q. not-so (meets g j a) (λ m. c j h q (inl m))),
+    d .1,
+    clean-lasts w (graphOf g .target a) t (d .2) (λ j h q m. c j h q (inr m)),
+  )
+
+  -- and they last exactly where none has a barred colour
+  pub whole-lasts : (w : List ℕ) (s t : ℕ) → (Plans.Leads g s w t × Clean w) ↔ Leads (graphOf g) (Lasts (whole g x)) s w t
   whole-lasts w s t =
       let e = leads-graph g w s t in (
-        λ h. leads-weaken (graphOf g) (λ a. a < length (g .arcs)) (Lasts (whole g)) (λ a. whole-lasting-arc a .1) w s t (e .0 h),
-        λ h. e .1 (leads-weaken (graphOf g) (Lasts (whole g)) (λ a. a < length (g .arcs)) (λ a. whole-lasting-arc a .0) w s t h),
+        λ h. clean-lasts w s t (e .0 (h .0)) (h .1),
+        λ h. (e .1 (leads-weaken (graphOf g) (Lasts (whole g x)) (λ a. a < length (g .arcs)) (λ a l. whole-lasting-arc a .0 l .0) w s t h), lasts-clean w s t h),
       )
 
-module _ (g : Automaton) (b c : ℕ) where
+  module _ (few : g .colours ≤ coloursMost) where
+    -- a required colour is the duty at its place
+    duty-same : (j : ℕ) → j < g .colours → bit x j ≡ false → (a : ℕ) → whole g x .meets (required x j) a ≡ meets g j a
+    duty-same j h q a = compressed-bit x (arcAt g a .colours) coloursMost 0 j (omega arith) q
+
+    -- every required colour is met exactly where every duty is
+    pub whole-meets : (w : List ℕ) → ((j : ℕ) → j < g .colours → bit x j ≡ false → Plans.Meets g j w) ↔ MeetsAll (whole g x) w
+    whole-meets w = (
+      λ f l h.
+          let (j, u, q, e) = required-at x (g .colours) l h in
+          subst (λ (i : ℕ). SomeArc (whole g x .meets i) w) e
+          (some-same (meets g j) (whole g x .meets (required x j)) (λ a. sym (duty-same j u q a)) w (f j u q)),
+      λ m j h q. some-same (whole g x .meets (required x j)) (meets g j) (duty-same j h q) w (m (required x j) (required-below x (g .colours) j h q)),
+    )
+
+module _ (g : Automaton) (x b c : ℕ) (few : g .colours ≤ coloursMost) where
   -- the plan with the prefix and the cycle of a lasso is one of the model, feasible and accepted
-  pub lasso-serves : (p : AcceptedLasso (whole g) b c) → Serves g b c (lassoPlan p)
+  pub lasso-serves : (p : AcceptedLasso (whole g x) b c) → Serves g x b c (lassoPlan p)
   lasso-serves p =
+      let (leads, clean) = whole-lasts g x (p .cycle) (p .mode) (p .mode) .1 (p .closed .leads) in
       record {
         plan =
             record {
               mode = p .mode;
-              leads-in = whole-usable g (p .prefix) (g .start) (p .mode) .1 (p .leads-in);
-              leads-cycle = whole-lasts g (p .cycle) (p .mode) (p .mode) .1 (p .closed .leads);
+              leads-in = whole-usable g x (p .prefix) (g .start) (p .mode) .1 (p .leads-in);
+              leads-cycle = leads;
               some-arc = p .closed .some-arc;
             };
         feasible = λ r. possible-graph g b c (p .prefix ++ times r (p .cycle)) .1 (p .possible r);
-        accepted = λ j h. p .meets j (omega arith);
+        accepted = record { required = whole-meets g x few (p .cycle) .1 (p .meets); barred = clean };
       }
 
   -- so is the plan whose prefix is a walk to mode s with charge e and whose cycle, from s, keeps e
-  pub reached-serves : (s e : ℕ) (r : Reached (whole g) (Usable (whole g)) 0 b (g .start) c 0 s e) (k : KeptCycle (whole g) b s e)
-      → Serves g b c (record { prefix = r .arcs; cycle = k .arcs })
+  pub reached-serves : (s e : ℕ) (r : Reached (whole g x) (Usable (whole g x)) 0 b (g .start) c 0 s e) (k : KeptCycle (whole g x) b s e)
+      → Serves g x b c (record { prefix = r .arcs; cycle = k .arcs })
   unfolding reached-lasso
-  reached-serves s e r k = lasso-serves (reached-lasso (whole g) b c s e r k)
+  reached-serves s e r k = lasso-serves (reached-lasso (whole g x) b c s e r k)
 
   -- and a feasible and accepted plan of the model is a lasso, with the same prefix and cycle
-  pub serves-lasso : (p : Plan) → Serves g b c p → (l : AcceptedLasso (whole g) b c) × (lassoPlan l ≡ p)
+  pub serves-lasso : (p : Plan) → Serves g x b c p → (l : AcceptedLasso (whole g x) b c) × (lassoPlan l ≡ p)
   serves-lasso p s = (
     record {
       prefix = p .prefix;
       cycle = p .cycle;
       mode = s .plan .mode;
-      leads-in = whole-usable g (p .prefix) (g .start) (s .plan .mode) .0 (s .plan .leads-in);
+      leads-in = whole-usable g x (p .prefix) (g .start) (s .plan .mode) .0 (s .plan .leads-in);
       closed =
-          record { some-arc = s .plan .some-arc; leads = whole-lasts g (p .cycle) (s .plan .mode) (s .plan .mode) .0 (s .plan .leads-cycle) };
+          record {
+            some-arc = s .plan .some-arc;
+            leads = whole-lasts g x (p .cycle) (s .plan .mode) (s .plan .mode) .0 (s .plan .leads-cycle, s .accepted .barred);
+          };
       possible = λ r. possible-graph g b c (p .prefix ++ times r (p .cycle)) .0 (s .feasible r);
-      meets = s .accepted;
+      meets = whole-meets g x few (p .cycle) .0 (s .accepted .required);
     },
     refl,
   )
 
   -- some plan is feasible and accepted exactly where the net has a lasso
-  pub whole-lasso : SomePlan g b c ↔ AcceptedLasso (whole g) b c
+  pub whole-lasso : SomePlan g x b c ↔ AcceptedLasso (whole g x) b c
   whole-lasso = (λ p. serves-lasso (p .0) (p .1) .0, λ l. (lassoPlan l, lasso-serves l))
 
-  -- some plan is feasible and accepted exactly where a cycle from some peak keeps the peak and meets every colour
-  pub plan-criterion : (high : ℕ → ℕ → ℕ) → Fit g → c ≤ b → Peaks (whole g) b c high → SomePlan g b c ↔ PeakCycle (whole g) b high
+module _ (g : Automaton) (x b c : ℕ) where
+  -- some plan is feasible and accepted exactly where a cycle from some peak keeps the peak and meets every duty
+  pub plan-criterion : (high : ℕ → ℕ → ℕ) → Fit g → c ≤ b → Peaks (whole g x) b c high → SomePlan g x b c ↔ PeakCycle (whole g x) b high
   plan-criterion high f hc k =
-      let d = criterion (whole g) b c high (whole-fits g f) hc k in
-      (λ p. d .0 (whole-lasso .0 p), λ q. whole-lasso .1 (d .1 q))
+      let d = criterion (whole g x) b c high (whole-fits g x f) hc k in
+      let w = whole-lasso g x b c (f .few-colours) in
+      (λ p. d .0 (w .0 p), λ q. w .1 (d .1 q))
 
   -- some plan is feasible and accepted exactly where the tour from some peak has a closing arc
-  pub plan-decided : (high : ℕ → ℕ → ℕ) (tour : ℕ → ℕ → ℕ → ℕ) → Fit g → c ≤ b → Peaks (whole g) b c high → Tours (whole g) b high tour
-      → SomePlan g b c ↔ PeakClosed (whole g) b high tour
+  pub plan-decided : (high : ℕ → ℕ → ℕ) (tour : ℕ → ℕ → ℕ → ℕ) → Fit g → c ≤ b → Peaks (whole g x) b c high → Tours (whole g x) b high tour
+      → SomePlan g x b c ↔ PeakClosed (whole g x) b high tour
   plan-decided high tour f hc k t =
-      let d = decides (whole g) b c high tour (whole-fits g f) hc k t in
-      (λ p. d .0 (whole-lasso .0 p), λ h. whole-lasso .1 (d .1 h))
+      let d = decides (whole g x) b c high tour (whole-fits g x f) hc k t in
+      let w = whole-lasso g x b c (f .few-colours) in
+      (λ p. d .0 (w .0 p), λ h. w .1 (d .1 h))

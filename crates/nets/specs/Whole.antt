@@ -1,9 +1,11 @@
--- The net of a whole model: every arc may be used in prefix and cycle, and every colour is a duty. Document 01, "The model and the charge":
--- "Accepted: each of the k colours stands on some arc of the round."
-use mathlib.Core.Bool.{true}
+-- The net of a whole model: every arc may be used in a prefix, every arc without a barred colour in a cycle, and every required colour is a
+-- duty. Document 01, "The model and the charge": "Accepted: each of the k colours stands on some arc of the round"; document 02, Ask 6: "some
+-- colours may appear in the run-in and never in the round".
+use mathlib.Core.Bool.{true, not}
 use Prim.Native.Nat.{ℕ}
 use lib.ListN.{length}
-use Rattle.model.specs.Automaton.{Automaton, arcAt, meets, moveOf}
+use Rattle.model.specs.Automaton.{Automaton, arcAt, bit, hasBarred, moveOf}
+use Rattle.model.specs.Required.{required, compressed}
 use Rattle.model.specs.Plans.{Plan}
 use Rattle.nets.specs.Graph.{Graph}
 use Rattle.nets.specs.Net.{Net, AcceptedLasso}
@@ -12,18 +14,18 @@ use Rattle.nets.specs.Net.{Net, AcceptedLasso}
 abbrev pub graphOf : Automaton → Graph
 graphOf g = record { source = λ a. arcAt g a .source; target = λ a. arcAt g a .target; move = λ a. moveOf (arcAt g a) }
 
--- every arc is on and lasting, and every colour is a duty
-abbrev pub whole : Automaton → Net
-whole g =
+-- every arc is on; those without a barred colour are lasting; a duty is a required colour, by its place among these
+abbrev pub whole : Automaton → ℕ → Net
+whole g x =
     record {
       graph = graphOf g;
       modes = g .modes;
       start = g .start;
       count = length (g .arcs);
       on = λ a. true;
-      lasting = λ a. true;
-      duties = g .colours;
-      meets = meets g;
+      lasting = λ a. not (hasBarred g x a);
+      duties = required x (g .colours);
+      meets = λ j a. bit (compressed x (arcAt g a .colours)) j;
     }
 
 -- the plan with a lasso's prefix and cycle

@@ -14,14 +14,14 @@ use Rattle.planwalk.specs.declared.Walked.{Walked}
 use Rattle.planwalk.specs.declared.Walked.the-variants.{Refused}
 use Rattle.planwalk.specs.Walked.{walkOn, walkOf}
 
-module _ (n s k : ℕ) (l : Lists) (b c p q : ℕ) (w : List ℕ) (j t : ℕ) where
+module _ (n s k : ℕ) (l : Lists) (x b c p q : ℕ) (w : List ℕ) (j t : ℕ) where
   -- a plan that judging refuses is not walked
-  pub walk-refused : (r : Refusal) → judged n s k l b c p q w ≡ verdict.Refused r → walkOf n s k l b c p q w j t ≡ Refused r
+  pub walk-refused : (r : Refusal) → judged n s k l x b c p q w ≡ verdict.Refused r → walkOf n s k l x b c p q w j t ≡ Refused r
   unfolding walkOf
   walk-refused r e = rw e refl
 
   -- "j not below k, looked at after the plan"
-  pub walk-no-colour : judged n s k l b c p q w ≡ verdict.Yes → k ≤ j → walkOf n s k l b c p q w j t ≡ Refused NoSuchColour
+  pub walk-no-colour : judged n s k l x b c p q w ≡ verdict.Yes → k ≤ j → walkOf n s k l x b c p q w j t ≡ Refused NoSuchColour
   unfolding walkOf
   walk-no-colour e h = rw (e, le-leb k j h) refl
 

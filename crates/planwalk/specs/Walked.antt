@@ -53,15 +53,16 @@ gaugeWalk n s k l b j [] i x = outcome.Spent i
 gaugeWalk n s k l b j (a ∷ w) i x =
     walkOn (steppedOf n s k l b a x) λ y. metOr (meets (automatonOf n s k l) j a) (suc i) (gaugeWalk n s k l b j w (suc i) y)
 
--- the call: "walk 1 to 6 and 11 to 18", "j not below k, looked at after the plan"; then the walk of the gauge from its start
-unfoldable pub walkOf : ℕ → ℕ → ℕ → Lists → ℕ → ℕ → ℕ → ℕ → List ℕ → ℕ → ℕ → Walked
-walkOf n s k l b c p q w j t =
-    walkIf (andThen (judged n s k l b c p q w) (refuse (leb k j) NoSuchColour Yes))
+-- the call: "walk 1 to 6 and 11 to 18", "j not below k, looked at after the plan"; then the walk of the gauge from its start.
+-- Document 02, Ask 6: "The walk may still be given a barred colour": whether x has j is not looked at.
+unfoldable pub walkOf : ℕ → ℕ → ℕ → Lists → ℕ → ℕ → ℕ → ℕ → ℕ → List ℕ → ℕ → ℕ → Walked
+walkOf n s k l x b c p q w j t =
+    walkIf (andThen (judged n s k l x b c p q w) (refuse (leb k j) NoSuchColour Yes))
     (walkOn (startedOf n s k l b c) (gaugeWalk n s k l b j (stepsOfPlan (planOf p w) t) 0))
 
 -- the number and the detail of the walk, whether the colour was met, and the steps made
-abbrev pub walkedAnswer : ℕ → ℕ → ℕ → Lists → ℕ → ℕ → ℕ → ℕ → List ℕ → ℕ → ℕ → WalkAnswer
-walkedAnswer n s k l b c p q w j t = walkAnswer (walkOf n s k l b c p q w j t)
+abbrev pub walkedAnswer : ℕ → ℕ → ℕ → Lists → ℕ → ℕ → ℕ → ℕ → ℕ → List ℕ → ℕ → ℕ → WalkAnswer
+walkedAnswer n s k l x b c p q w j t = walkAnswer (walkOf n s k l x b c p q w j t)
 
 -- the walk without the gauge: the least step, counted from 1 on behind i others, whose arc meets colour j, or all of them
 unfoldable pub firstMet : Automaton → ℕ → List ℕ → ℕ → Walked

@@ -91,8 +91,8 @@ fn step_until(model: Model, plan: &[u8], p: usize, j: u32, allowance: u16) -> Wa
     Walked::Spent(steps)
 }
 
-// A plan is judged, then 18 is looked at, and then the plan is stepped until colour j is first met or the allowance is spent. For all
-// numbers, lists and plans.
+// A plan is judged, with the barred colours, then 18 is looked at, and then the plan is stepped until colour j, barred or not, is first met or
+// the allowance is spent. For all numbers, lists and plans.
 pub fn walk(
     n: u32,
     start: u32,
@@ -105,14 +105,15 @@ pub fn walk(
     actions: &[u8],
     c: u32,
     b: u32,
+    barred: u8,
     p: u32,
     q: u32,
     plan: &[u8],
     j: u32,
     allowance: u16,
 ) -> Walked
-    ensures walked { λ r. ⌜ r ≡ walkOf n start k (lists (now (sources .entry)) (now (targets .entry)) (now (draws .entry)) (now (gains .entry)) (now (colours .entry)) (now (actions .entry))) b c p q (now (plan .entry)) j allowance ⌝ }
-    ensures answer { λ r. ⌜ walkAnswer r ≡ walkedAnswer n start k (lists (now (sources .entry)) (now (targets .entry)) (now (draws .entry)) (now (gains .entry)) (now (colours .entry)) (now (actions .entry))) b c p q (now (plan .entry)) j allowance ⌝ }
+    ensures walked { λ r. ⌜ r ≡ walkOf n start k (lists (now (sources .entry)) (now (targets .entry)) (now (draws .entry)) (now (gains .entry)) (now (colours .entry)) (now (actions .entry))) barred b c p q (now (plan .entry)) j allowance ⌝ }
+    ensures answer { λ r. ⌜ walkAnswer r ≡ walkedAnswer n start k (lists (now (sources .entry)) (now (targets .entry)) (now (draws .entry)) (now (gains .entry)) (now (colours .entry)) (now (actions .entry))) barred b c p q (now (plan .entry)) j allowance ⌝ }
 {
     let judged = judge_model(
         n,
@@ -126,6 +127,7 @@ pub fn walk(
         actions,
         c,
         b,
+        barred,
         p,
         q,
         plan,

@@ -7,7 +7,7 @@ use native.Mathlib.Omega.{arith}
 use lib.Dec.{eqb}
 use Rattle.refusals.specs.declared.Answer.{Answer}
 use Rattle.refusals.specs.declared.Refusal.{Refusal}
-use Rattle.refusals.specs.declared.Refusal.the-variants.{ModeCount, StartMode, ArcLists, ColourCount, UnfitArc, Levels, Product, WorkingSpace, PlanBuffer, NoPlan, PlanLength, ArcNumber, OtherMode, OpenCycle, ImpossibleStep, FallingCycle, MissingColour, NoSuchColour, HoaLine, DimacsLine, TextsDisagree, MixedGauge, JoinSize}
+use Rattle.refusals.specs.declared.Refusal.the-variants.{ModeCount, StartMode, ArcLists, ColourCount, UnfitArc, Levels, Product, WorkingSpace, PlanBuffer, NoPlan, PlanLength, ArcNumber, OtherMode, OpenCycle, ImpossibleStep, FallingCycle, MissingColour, NoSuchColour, HoaLine, DimacsLine, TextsDisagree, MixedGauge, JoinSize, BarredColour}
 use Rattle.refusals.specs.declared.Verdict.{Verdict}
 use Rattle.refusals.specs.declared.Verdict.the-variants.{Yes, Refused}
 use Rattle.refusals.specs.Refusals.{numbered, answerOf}
@@ -38,6 +38,7 @@ refusal-number (DimacsLine d) = omega arith
 refusal-number TextsDisagree = omega arith
 refusal-number MixedGauge = omega arith
 refusal-number JoinSize = omega arith
+refusal-number (BarredColour d) = omega arith
 
 -- the refusal that a number and a detail stand for
 abbrev refusalOf : Answer → Refusal
@@ -65,7 +66,8 @@ refusalOf x =
     (cond (eqb (x .number) 21) TextsDisagree
     (cond (eqb (x .number) 22) MixedGauge
     (cond (eqb (x .number) 23) JoinSize
-    ModeCount))))))))))))))))))))))
+    (cond (eqb (x .number) 24) (BarredColour (x .detail))
+    ModeCount)))))))))))))))))))))))
 
 refusal-back : (r : Refusal) → refusalOf (numbered r) ≡ r
 refusal-back ModeCount = refl
@@ -91,10 +93,11 @@ refusal-back (DimacsLine d) = refl
 refusal-back TextsDisagree = refl
 refusal-back MixedGauge = refl
 refusal-back JoinSize = refl
+refusal-back (BarredColour d) = refl
 
--- "with one detail (0 where none is named)": the numbers that name one are 5, 12, 13, 15, 17, 19 and 20
+-- "with one detail (0 where none is named)": the numbers that name one are 5, 12, 13, 15, 17, 19, 20 and 24
 abbrev namesDetail : ℕ → Bool
-namesDetail n = eqb n 5 || eqb n 12 || eqb n 13 || eqb n 15 || eqb n 17 || eqb n 19 || eqb n 20
+namesDetail n = eqb n 5 || eqb n 12 || eqb n 13 || eqb n 15 || eqb n 17 || eqb n 19 || eqb n 20 || eqb n 24
 
 pub detail-none : (r : Refusal) → namesDetail (numbered r .number) ≡ false → numbered r .detail ≡ 0
 detail-none ModeCount e = refl
@@ -120,6 +123,7 @@ detail-none (DimacsLine d) e = clash (cc)
 detail-none TextsDisagree e = refl
 detail-none MixedGauge e = refl
 detail-none JoinSize e = refl
+detail-none (BarredColour d) e = clash (cc)
 
 -- a number and a detail are those of one refusal alone
 pub refusal-one : (q r : Refusal) → numbered q ≡ numbered r → q ≡ r

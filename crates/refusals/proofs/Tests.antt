@@ -1,6 +1,6 @@
 -- When the tests that rows of the table are made of say no. Assumes nothing.
 use mathlib.Core.Path.{_≡_, refl}
-use mathlib.Core.Bool.{Bool, true, false, not, _||_}
+use mathlib.Core.Bool.{Bool, true, false, not, _&&_, _||_}
 use mathlib.Core.Logic.{_↔_}
 use Prim.Native.Nat.{ℕ, _≤_, _<_}
 use lib.Dec.{leb, ltb, eqb}
@@ -11,6 +11,16 @@ use Rattle.refusals.proofs.Verdicts.{clash}
 pub or-no : (s t : Bool) → ((s || t) ≡ false) ↔ ((s ≡ false) × (t ≡ false))
 or-no true t = (λ e. clash (cc), λ e. clash (cc))
 or-no false t = (λ e. (refl, e), λ e. e .1)
+
+-- not both of two
+pub and-no : (s t : Bool) → ((s && t) ≡ false) ↔ (s ≡ true → t ≡ false)
+and-no true t = (λ e q. e, λ f. f refl)
+and-no false t = (λ e q. clash (cc), λ f. refl)
+
+-- not this one
+pub is-no : (t : Bool) → (t ≡ true → ⊥) → t ≡ false
+is-no true f = absurd (f refl)
+is-no false f = refl
 
 -- none of four, none of five, none of six
 pub or4-no : (a b c d : Bool) → ((a || b || c || d) ≡ false) ↔ ((a ≡ false) × (b ≡ false) × (c ≡ false) × (d ≡ false))

@@ -3,7 +3,7 @@ use Prim.Native.Nat.{ℕ}
 use mathlib.Core.Bool.{Bool, true, false}
 use Rattle.refusals.specs.declared.Answer.{Answer}
 use Rattle.refusals.specs.declared.Refusal.{Refusal}
-use Rattle.refusals.specs.declared.Refusal.the-variants.{ModeCount, StartMode, ArcLists, ColourCount, UnfitArc, Levels, Product, WorkingSpace, PlanBuffer, NoPlan, PlanLength, ArcNumber, OtherMode, OpenCycle, ImpossibleStep, FallingCycle, MissingColour, NoSuchColour, HoaLine, DimacsLine, TextsDisagree, MixedGauge, JoinSize}
+use Rattle.refusals.specs.declared.Refusal.the-variants.{ModeCount, StartMode, ArcLists, ColourCount, UnfitArc, Levels, Product, WorkingSpace, PlanBuffer, NoPlan, PlanLength, ArcNumber, OtherMode, OpenCycle, ImpossibleStep, FallingCycle, MissingColour, NoSuchColour, HoaLine, DimacsLine, TextsDisagree, MixedGauge, JoinSize, BarredColour}
 use Rattle.refusals.specs.declared.Verdict.{Verdict}
 use Rattle.refusals.specs.declared.Verdict.the-variants.{Yes, Refused}
 
@@ -39,6 +39,8 @@ numbered TextsDisagree = answer 21 0
 numbered MixedGauge = answer 22 0
 -- Ask 5
 numbered JoinSize = answer 23 0
+-- Ask 6
+numbered (BarredColour position) = answer 24 position
 
 -- the yes is 0, with detail 0
 abbrev pub answerOf : Verdict → Answer

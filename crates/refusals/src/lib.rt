@@ -27,6 +27,7 @@ pub enum Refusal {
     TextsDisagree,
     MixedGauge,
     JoinSize,
+    BarredColour(u32),
 }
 
 // A number and its detail, 0 where none is named. A detail may be the line of a text, which no ceiling bounds.
@@ -71,6 +72,7 @@ impl Refusal {
             Refusal::TextsDisagree => row(21, 0),
             Refusal::MixedGauge => row(22, 0),
             Refusal::JoinSize => row(23, 0),
+            Refusal::BarredColour(position) => row(24, position as u64),
         }
     }
 }

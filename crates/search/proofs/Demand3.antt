@@ -25,7 +25,7 @@ use Rattle.search.proofs.Written.{answered-plan}
 use Rattle.search.proofs.Searchable.{searchable-yes}
 
 -- a plan that is handed back has its lengths
-found-lengths : {g : Automaton} {b c p q : ℕ} {plan plan′ : List ℕ} → Found g b c p q plan plan′ → Lengths p q (take (p + q) plan′)
+found-lengths : {g : Automaton} {x b c p q : ℕ} {plan plan′ : List ℕ} → Found g x b c p q plan plan′ → Lengths p q (take (p + q) plan′)
 found-lengths {p = p} {q} {plan′ = plan′} f =
     let w = take (p + q) plan′ in
     let long = length-take-le (p + q) plan′ (f .within) in

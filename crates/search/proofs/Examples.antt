@@ -12,10 +12,10 @@ use Rattle.search.specs.Examples.{Answers}
 use Rattle.search.proofs.Searchable.{searchable-on}
 use Rattle.search.proofs.Demand3.{search-ten, search-complete}
 
--- where the buffers suffice for a row that holds, search answers as it says: A and G by a plan, B and H by 10 (judge Examples, examples-hold)
+-- where the buffers suffice for a row that holds, search answers as it says, nothing barred: A and G by a plan, B and H by 10 (judge Examples, examples-hold)
 pub example-searched : (x : Example) {work plan work′ plan′ : List ℕ} {r : Searched} → Stands x
     → spaces (x .modes) (x .colours) (x .bound) (length work) (length plan) ≡ Yes
-    → SearchOf (x .modes) 0 (x .colours) (x .arcs) (x .bound) (x .credit) work plan work′ plan′ r → Answers (x .claim) r
+    → SearchOf (x .modes) 0 (x .colours) (x .arcs) 0 (x .bound) (x .credit) work plan work′ plan′ r → Answers (x .claim) r
 example-searched x {work} {plan} {r = r} stands room h = go (x .claim) stands
   where
     n : ℕ
@@ -26,8 +26,8 @@ example-searched x {work} {plan} {r = r} stands room h = go (x .claim) stands
 
     go : (k : Claim) → Says x k → Answers k r
     go Found (a, some) =
-        let (p, q, e, f) = search-complete n 0 (x .colours) (x .arcs) (x .bound) (x .credit) h (through a) some in (p, q, e)
-    go None (a, none) = search-ten n 0 (x .colours) (x .arcs) (x .bound) (x .credit) h (through a) .1 none
+        let (p, q, e, f) = search-complete n 0 (x .colours) (x .arcs) 0 (x .bound) (x .credit) h (through a) some in (p, q, e)
+    go None (a, none) = search-ten n 0 (x .colours) (x .arcs) 0 (x .bound) (x .credit) h (through a) .1 none
     go (Judged p q w a) says = tt
 
 -- what a row says of search, in the paper's numbers: 0 where a plan is found, else 10; this pins each case of Answers

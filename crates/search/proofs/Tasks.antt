@@ -1,6 +1,6 @@
 -- Laws of a task: its passes are ready, what they leave, and the table of the code that the pass from a mode is lent. Assumes nothing.
 use mathlib.Core.Path.{_≡_, refl, sym, ap, _∙_}
-use mathlib.Core.Bool.{Bool}
+use mathlib.Core.Bool.{Bool, true, false}
 use mathlib.Core.List.{List}
 use Prim.Native.Nat.{ℕ, zero, suc, _+_, _*_, _≤_, _<_}
 use native.Mathlib.Nat.{one-mul, mul-le-mul, mul-le-mul-right}
@@ -26,8 +26,8 @@ take-replicate (suc n) zero h = absurd (omega arith)
 take-replicate (suc n) (suc m) h = rw (take-replicate n m (omega arith)) refl
 
 -- a pass of a task, over the levels 0 to last
-abbrev taskPass : List ℕ → List ℕ → Task → ℕ → ℕ → ℕ → Pass
-taskPass rows places t last goal least = passOf rows places t (record { last = last; goal = goal; least = least })
+abbrev taskPass : List ℕ → List ℕ → Task → Bool → ℕ → ℕ → ℕ → Pass
+taskPass rows places t lasting last goal least = passOf rows places t (record { lasting = lasting; last = last; goal = goal; least = least })
 
 module _ {rows places : List ℕ} {t : Task} {words : ℕ} (able : Searchable rows places t words) where
   few-levels : t .colours + 1 ≤ coloursMost + 1
@@ -43,9 +43,9 @@ module _ {rows places : List ℕ} {t : Task} {words : ℕ} (able : Searchable ro
     more = mul-le-mul-right (t .modes * (t .bound + 1)) (omega arith)
 
     -- it is ready, with a table and a working space as long
-    pass-ready : {goal least nodes words′ : ℕ} → nodes ≡ length table → words′ ≡ words → Ready (taskPass rows places t last goal least) nodes words′
+    pass-ready : (lasting : Bool) {goal least nodes words′ : ℕ} → nodes ≡ length table → words′ ≡ words → Ready (taskPass rows places t lasting last goal least) nodes words′
     unfolding room node
-    pass-ready hb hw =
+    pass-ready lasting hb hw =
         ready-kept (record {
           some-mode = able .some-mode;
           few-modes = able .few-modes;
@@ -60,10 +60,10 @@ module _ {rows places : List ℕ} {t : Task} {words : ℕ} (able : Searchable ro
         }) (hb ∙ size ∙ count) hw
 
     -- what it asks, where it begins at mode s with charge c
-    pub pass-asked : {goal least s c : ℕ} → s < t .modes → c ≤ t .bound
-        → Ready (taskPass rows places t last goal least) (length table) words
+    pub pass-asked : (lasting : Bool) {goal least s c : ℕ} → s < t .modes → c ≤ t .bound
+        → Ready (taskPass rows places t lasting last goal least) (length table) words
         × ((s < length table) × (c ≤ t .bound) × (table ≡ replicate (length table) 0))
-    pass-asked hs hc = (pass-ready refl refl, (omega (arith, size, count), hc, rw size blank))
+    pass-asked lasting hs hc = (pass-ready lasting refl refl, (omega (arith, size, count), hc, rw size blank))
 
   -- what the pass for the peaks leaves
   pub peaks-left : {peaks best w : List ℕ} {found : Bool} {head a tail : ℕ} → peaks ≡ replicate (t .modes) 0 → length best ≡ length peaks

@@ -72,6 +72,13 @@ module _ {rows places : List ℕ} {t : Task} {m : Aim} {h : Entry} {i : ℕ} {be
       let low = node-levels (f .running .ready) node-inside .0 in
       (rw (level-same) low, f .running .ready .levels, f .running .ready .few-modes)
 
+  -- the pass may not use the arc
+  pub relax-off : {a : ℕ} → a ≡ arcPlaced places i → (m .lasting && barredAt rows a) ≡ true
+      → Tried (passOf rows places t m) best w tail i (i + 1) (nodeAt w (p .index)) (chargeAt w (p .index)) best w false a tail
+  relax-off {a} ea e =
+      let off : (m .lasting && barredAt rows (arcPlaced places i)) ≡ true = rw ea at e in
+      rw ea (tried-impossible (f .queue) (λ u x s. false≢true (sym (ap {B = Bool} not off) ∙ s .allowed)))
+
 -- what the code reads of the arc
 pub record Reads (rows places : List ℕ) (i a d g : ℕ) : Type 0 where
   pub arc : a ≡ arcPlaced places i

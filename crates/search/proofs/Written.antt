@@ -4,6 +4,7 @@ use mathlib.Core.Bool.{Bool, true, false}
 use mathlib.Core.List.{List, [], _++_, append-nil}
 use mathlib.Core.Logic.{_↔_}
 use Prim.Native.Nat.{ℕ, _+_, _-_, _*_, _≤_, _<_}
+use native.Mathlib.Nat.{mul-le-mul-right}
 use native.Mathlib.Numerals.{add-one}
 use native.Mathlib.Omega.{arith}
 use lib.ListN.{length, getD, take, drop, set, length-append, length-drop, drop-of-length-le}
@@ -11,6 +12,8 @@ use lib.Seq.{length-take-le, take-at, drop-at, take-append-add, drop-append-add,
 use Rattle.limits.specs.Ceilings.{coloursMost, productMost, planBuffer}
 use Rattle.model.specs.Automaton.{Automaton}
 use Rattle.model.specs.Plans.{Plan}
+use Rattle.model.specs.Required.{required}
+use Rattle.model.proofs.Required.{required-le}
 use Rattle.judge.specs.Shape.{planOf}
 use Rattle.judge.proofs.Arcs.{rest-part}
 use Rattle.nets.specs.Net.{Net, Usable, AcceptedLasso}
@@ -139,21 +142,23 @@ written-lasso (none e) not = absurd (not refl)
 written-lasso (found f) not = (λ e. absurd (not e), λ no. absurd (no (f .lasso)))
 
 -- in the words of the model, where the net stands for it
-pub written-answered : (g : Automaton) {b c : ℕ} {plan plan′ : List ℕ} {r : Searched} → Written (whole g) b c plan plan′ r
-    → Answered g b c plan plan′ r
-written-answered g {b} {c} (none e) = search.none e
-written-answered g {b} {c} (found f) =
+pub written-answered : (g : Automaton) (x : ℕ) {b c : ℕ} {plan plan′ : List ℕ} {r : Searched} → g .colours ≤ coloursMost
+    → Written (whole g x) b c plan plan′ r → Answered g x b c plan plan′ r
+written-answered g x {b} {c} few (none e) = search.none e
+written-answered g x {b} {c} few (found f) =
+    let levels : required x (g .colours) + 1 ≤ g .colours + 1 = omega (arith, required-le x (g .colours)) in
+    let more = mul-le-mul-right (b + 1) (mul-le-mul-right (g .modes) levels) in
     search.found (record {
-      serves = rw (f .same) at (lasso-serves g b c (f .lasso));
+      serves = rw (f .same) at (lasso-serves g x b c few (f .lasso));
       within = f .within;
       short = f .short;
       prefix-short = f .prefix-short;
-      cycle-short = f .cycle-short;
+      cycle-short = omega (arith, f .cycle-short, more);
       later = f .later;
     })
 
 -- an answer without the refusal 10 has a plan
-pub answered-plan : {g : Automaton} {b c : ℕ} {plan plan′ : List ℕ} {r : Searched} → Answered g b c plan plan′ r → (r ≡ noPlan → ⊥)
-    → (p : ℕ) × (q : ℕ) × (r ≡ outcome.Plan p q) × Found g b c p q plan plan′
+pub answered-plan : {g : Automaton} {x b c : ℕ} {plan plan′ : List ℕ} {r : Searched} → Answered g x b c plan plan′ r → (r ≡ noPlan → ⊥)
+    → (p : ℕ) × (q : ℕ) × (r ≡ outcome.Plan p q) × Found g x b c p q plan plan′
 answered-plan (search.none e) not = absurd (not refl)
 answered-plan (search.found {p} {q} f) not = (p, q, refl, f)

@@ -2,7 +2,7 @@
 -- what they answer and write. No public promise rests on these words.
 use Prim.Native.Nat.{ℕ, _+_, _*_, _/_, _%_, _≤_, _<_}
 use mathlib.Core.Path.{_≡_}
-use mathlib.Core.Bool.{true, _&&_}
+use mathlib.Core.Bool.{Bool, true, not, _&&_}
 use mathlib.Core.List.{List}
 use lib.Dec.{ltb}
 use lib.ListN.{length, take, drop}
@@ -16,7 +16,7 @@ use Rattle.judge.specs.Shape.{planOf}
 use Rattle.nets.specs.Net.{Net, Fits, AcceptedLasso}
 use Rattle.nets.specs.Table.{raisedIf}
 use Rattle.nets.specs.Whole.{lassoPlan}
-use Rattle.groups.specs.Rows.{sourceAt, targetAt, drawAt, gainAt, coloursAt}
+use Rattle.groups.specs.Rows.{sourceAt, targetAt, drawAt, gainAt, coloursAt, barredAt}
 use Rattle.groups.specs.Grouped.{firstPlace, InGroup, Grouped}
 use Rattle.passes.specs.Pass.{Pass}
 use Rattle.passes.specs.Queue.{nodeAt, chargeAt, Running, Tried, Visited}
@@ -28,35 +28,35 @@ use Rattle.search.specs.declared.pass.Entry.{Entry}
 use Rattle.search.specs.declared.pass.Outcome.{Outcome}
 use Rattle.search.specs.Search.{noPlan, searchable}
 
--- the net of n modes and m arcs by the fields of its arcs, with the start mode s and k duties
-abbrev pub fieldsNet : (ℕ → ℕ) → (ℕ → ℕ) → (ℕ → ℕ) → (ℕ → ℕ) → (ℕ → ℕ) → ℕ → ℕ → ℕ → ℕ → Net
-fieldsNet source target draw gain colours n s k m =
+-- the net of n modes and m arcs by the fields of its arcs, with the start mode s and k duties; an arc with a barred colour does not last
+abbrev pub fieldsNet : (ℕ → ℕ) → (ℕ → ℕ) → (ℕ → ℕ) → (ℕ → ℕ) → (ℕ → ℕ) → (ℕ → Bool) → ℕ → ℕ → ℕ → ℕ → Net
+fieldsNet source target draw gain colours barred n s k m =
     record {
       graph = record { source = source; target = target; move = λ a. record { draw = draw a; gain = gain a } };
       modes = n;
       start = s;
       count = m;
       on = λ a. true;
-      lasting = λ a. true;
+      lasting = λ a. not (barred a);
       duties = k;
       meets = λ j a. bit (colours a) j;
     }
 
 -- the net of arcs that stand in rows
 abbrev pub rowsNet : List ℕ → ℕ → ℕ → ℕ → ℕ → Net
-rowsNet rows = fieldsNet (sourceAt rows) (targetAt rows) (drawAt rows) (gainAt rows) (coloursAt rows)
+rowsNet rows = fieldsNet (sourceAt rows) (targetAt rows) (drawAt rows) (gainAt rows) (coloursAt rows) (barredAt rows)
 
 -- the net of a task over its rows and groups; the last mode's group ends with the last arc
 abbrev pub taskNet : List ℕ → List ℕ → Task → Net
-taskNet rows places t = rowsNet rows (t .modes) (t .start) (t .colours) (firstPlace places (t .modes))
+taskNet rows places t = rowsNet rows (t .modes) (t .start) (t .duties) (firstPlace places (t .modes))
 
--- a pass of a task over its rows and groups
+-- a pass of a task over its rows and groups; one for a cycle tries no arc with a barred colour
 abbrev pub passOf : List ℕ → List ℕ → Task → Aim → Pass
 passOf rows places t m =
     record {
       net = taskNet rows places t;
       places = places;
-      ok = λ a. true;
+      ok = λ a. not (m .lasting && barredAt rows a);
       last = m .last;
       bound = t .bound;
       goal = m .goal;
@@ -107,13 +107,13 @@ pub record Searchable (rows places : List ℕ) (t : Task) (words : ℕ) : Type 0
   pub some-mode : 0 < t .modes
   pub few-modes : t .modes ≤ modesMost
   pub few-arcs : firstPlace places (t .modes) ≤ arcsMost
-  pub few-colours : t .colours ≤ coloursMost
+  pub few-duties : t .duties ≤ coloursMost
   pub fits : Fits (taskNet rows places t)
   pub grouped : Grouped (λ a. sourceAt rows a) (t .modes) (firstPlace places (t .modes)) places
   pub credit : t .credit ≤ t .bound
   pub low : t .bound ≤ boundMost
   pub product : t .modes * (t .bound + 1) ≤ productMost
-  pub space : workSpace (t .colours) (t .modes) (t .bound) ≤ words
+  pub space : workSpace (t .duties) (t .modes) (t .bound) ≤ words
 
 -- the lasso that is handed back, as p and q and the first p + q bytes of the plan buffer
 pub record LassoFound (g : Net) (b c p q : ℕ) (plan plan′ : List ℕ) : Type 0 where

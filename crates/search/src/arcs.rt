@@ -5,7 +5,7 @@ ghost use Prim.Native.Nat.{_<_};
 ghost use Rattle.limits.specs.Ceilings.{arcsMost};
 ghost use Rattle.groups.specs.Groups.{orderFrom};
 ghost use Rattle.groups.specs.Grouped.{firstPlace, arcPlaced};
-ghost use Rattle.groups.specs.Rows.{targetAt, drawAt, gainAt, coloursAt};
+ghost use Rattle.groups.specs.Rows.{targetAt, drawAt, gainAt, coloursAt, barredAt};
 use crate::entries::index;
 use groups::ORDER;
 use groups::PLACES;
@@ -59,10 +59,18 @@ pub fn gain_of(rows: &[u16; WORDS], a: usize) -> u16
     rows[ROW * a + 3]
 }
 
-// The colours of an arc.
+// The required colours of an arc, close together.
 pub fn colours_of(rows: &[u16; WORDS], a: usize) -> u16
     requires { ⌜ a < arcsMost ⌝ }
     ensures { λ r. ⌜ r ≡ coloursAt (now (rows .entry)) a ⌝ }
 {
-    rows[ROW * a + 4]
+    rows[ROW * a + 4] / 2
+}
+
+// Whether an arc has a barred colour.
+pub fn has_barred(rows: &[u16; WORDS], a: usize) -> bool
+    requires { ⌜ a < arcsMost ⌝ }
+    ensures { λ r. ⌜ r ≡ barredAt (now (rows .entry)) a ⌝ }
+{
+    rows[ROW * a + 4] % 2 == 1
 }

@@ -1,13 +1,15 @@
 // Search: a plan for a model, or that there is none. Refusals 1 to 10.
 //
 // A pass finds the greatest charge with which each node, a level and a mode, is reached. One pass over a single level finds the peaks, the
-// greatest charges of the modes. Then a pass from each mode with its peak, over the levels 0 to k, looks for an arc that comes back to the mode
-// in the last level with the peak or more. The first that is found closes a cycle; the prefix leads to its mode.
+// greatest charges of the modes. Then a pass from each mode with its peak, over the arcs without a barred colour and the levels 0 to r, of r
+// required colours, looks for an arc that comes back to the mode in the last level with the peak or more. The first that is found closes a
+// cycle; the prefix leads to its mode.
 ghost use mathlib.Core.Path.{_≡_};
 ghost use Prim.Native.Nat.{_≤_};
 ghost use Rattle.limits.specs.Ceilings.{modesMost, coloursMost, boundMost};
 ghost use Rattle.model.specs.Lists.{lists, held};
 ghost use Rattle.model.specs.Plans.{SomePlan};
+ghost use Rattle.model.specs.Required.{required};
 ghost use mathlib.Core.Logic.{_↔_};
 ghost use lib.ListN.{length};
 ghost use Rattle.search.specs.Search.{noPlan, Answered, spaces, levelsAndSpaces, searchAnswer, SearchOf};
@@ -139,28 +141,51 @@ fn check_search(
     }
 }
 
-// A plan for a fit model, or that there is none, by its groups and rows, "made inside the call, never lent" (document 02, Ask 7).
-fn decide_model(model: Model, c: u16, b: u16, work: &mut [u16], plan: &mut [u8]) -> Searched
-    requires { ⌜ Solvable model b c (length (now work)) (length (now plan)) ⌝ }
-    ensures no_plan { λ r. ⌜ (r ≡ noPlan) ↔ (SomePlan (held model) b c → ⊥) ⌝ }
-    ensures answered { λ r. ⌜ Answered (held model) b c (now (plan .entry)) (now (plan .exit)) r ⌝ }
+// How many of k colours are required.
+fn count_required(k: u8, barred: u8) -> usize
+    requires { ⌜ k ≤ coloursMost ⌝ }
+    ensures { λ r. ⌜ r ≡ required barred k ⌝ }
 {
-    let groups = group(model);
+    let mut count = 0;
+    let mut j = 0u8;
+    while j < k {
+        if ((barred as u32) >> (j as u32)) % 2 == 0 {
+            count += 1;
+        }
+        j += 1;
+    }
+    count
+}
+
+// A plan for a fit model, or that there is none, by its groups and rows, "made inside the call, never lent" (document 02, Ask 7).
+fn decide_model(
+    model: Model,
+    c: u16,
+    b: u16,
+    barred: u8,
+    work: &mut [u16],
+    plan: &mut [u8],
+) -> Searched
+    requires { ⌜ Solvable model b c (length (now work)) (length (now plan)) ⌝ }
+    ensures no_plan { λ r. ⌜ (r ≡ noPlan) ↔ (SomePlan (held model) barred b c → ⊥) ⌝ }
+    ensures answered { λ r. ⌜ Answered (held model) barred b c (now (plan .entry)) (now (plan .exit)) r ⌝ }
+{
+    let groups = group(model, barred);
     let modes = model.modes as usize;
     let start = model.start as usize;
-    let colours = model.colours as usize;
+    let duties = count_required(model.colours, barred);
     let task = Task {
         modes,
         start,
-        colours,
+        duties,
         credit: c,
         bound: b,
     };
     decide(&groups.rows, &groups.places, task, work, plan)
 }
 
-// Search: p and q of a plan in the plan buffer, or 10 where there is none, or the first of 1 to 9 that applies. For all numbers, lists and
-// buffers. Which plan is handed back is free, its p and q with it.
+// Search, with a byte of barred colours: p and q of a plan in the plan buffer, or 10 where there is none, or the first of 1 to 9 that applies.
+// For all numbers, lists and buffers. Which plan is handed back is free, its p and q with it.
 // work: at least 4 × (k + 1) × n × (b + 1) words. plan: at least (k + 2) × n × (b + 1) bytes. Longer ones are fine, and what stands in them
 // does not matter. Refusals 1 to 9 leave both as they were. After 10 or a plan every word of work is 0. After 10 plan is as it was; else the
 // prefix is in its first p bytes and the cycle in the next q, and later bytes are as they were.
@@ -176,10 +201,11 @@ pub fn search(
     actions: &[u8],
     c: u32,
     b: u32,
+    barred: u8,
     work: &mut [u16],
     plan: &mut [u8],
 ) -> Searched
-    ensures { λ r. ⌜ SearchOf n start k (lists (now (sources .entry)) (now (targets .entry)) (now (draws .entry)) (now (gains .entry)) (now (colours .entry)) (now (actions .entry))) b c (now (work .entry)) (now (plan .entry)) (now (work .exit)) (now (plan .exit)) r ⌝ }
+    ensures { λ r. ⌜ SearchOf n start k (lists (now (sources .entry)) (now (targets .entry)) (now (draws .entry)) (now (gains .entry)) (now (colours .entry)) (now (actions .entry))) barred b c (now (work .entry)) (now (plan .entry)) (now (work .exit)) (now (plan .exit)) r ⌝ }
 {
     let checked = check_search(
         n,
@@ -200,7 +226,7 @@ pub fn search(
     let model = checked.model;
     match verdict {
         Verdict::Yes => {
-            let searched = decide_model(model, c as u16, b as u16, work, plan);
+            let searched = decide_model(model, c as u16, b as u16, barred, work, plan);
             clear(work);
             searched
         }

@@ -1,9 +1,11 @@
 // The pass: the greatest charge with which each node, a level and a mode, is reached, and an arc that closes a cycle.
 ghost use mathlib.Core.Path.{_≡_};
+ghost use mathlib.Core.Bool.{_&&_};
 ghost use Prim.Native.Nat.{_+_, _*_, _≤_, _<_};
 ghost use lib.Dec.{eqb};
 ghost use lib.ListN.{length, getD, set, replicate};
-ghost use Rattle.limits.specs.Ceilings.{modesMost, coloursMost, boundMost, workWords};
+ghost use Rattle.limits.specs.Ceilings.{modesMost, arcsMost, coloursMost, boundMost, workWords};
+ghost use Rattle.groups.specs.Rows.{barredAt};
 ghost use Rattle.passes.specs.Pass.{node, closesAt, Ready};
 ghost use Rattle.passes.specs.Queue.{wordCount, nodeAt, chargeAt, Pushed, Arrives, Arrived, Running, Passed};
 ghost use Rattle.search.specs.Tasks.{levelAfter, passOf, entryAt, Trying, Relaxed, VisitedAt};
@@ -12,6 +14,7 @@ use crate::arcs::colours_of;
 use crate::arcs::draw_of;
 use crate::arcs::first_place;
 use crate::arcs::gain_of;
+use crate::arcs::has_barred;
 use crate::arcs::target_of;
 use crate::entries::charge_of;
 use crate::entries::node_of;
@@ -22,9 +25,10 @@ use groups::WORDS;
 use walks::Step;
 use walks::bounded_step;
 
-// What a pass is for: it goes over the levels 0 to last, and an arc that comes to the node goal with the charge least or more closes the cycle,
-// and ends the pass.
+// What a pass is for: whether its arcs have to last, as those of a cycle have to, so that none has a barred colour; it goes over the levels 0 to
+// last, and an arc that comes to the node goal with the charge least or more closes the cycle, and ends the pass.
 pub struct Aim {
+    pub lasting: bool,
     pub last: usize,
     pub goal: usize,
     pub least: u16,
@@ -132,6 +136,17 @@ fn entered(modes: usize, last: usize, level: usize, target: usize, colours: u16)
     level * modes + target
 }
 
+// Whether a pass may not use an arc: its arcs have to last, and this one has a barred colour.
+fn is_left_out(rows: &[u16; WORDS], aim: Aim, arc: usize) -> bool
+    requires { ⌜ arc < arcsMost ⌝ }
+    ensures { λ r. ⌜ r ≡ aim .lasting && barredAt (now (rows .entry)) arc ⌝ }
+{
+    if aim.lasting {
+        return has_barred(rows, arc);
+    }
+    false
+}
+
 // Tries the arc at place i, one of its mode's, at an entry.
 fn relax(
     rows: &[u16; WORDS],
@@ -148,6 +163,14 @@ fn relax(
     ensures { λ r. ⌜ Relaxed (passOf (now (rows .entry)) (now (places .entry)) task aim) entry i (now (best .entry)) (now (work .entry)) tail (now (best .exit)) (now (work .exit)) r ⌝ }
 {
     let arc = arc_placed(places, i);
+    if is_left_out(rows, aim, arc) {
+        return Outcome {
+            found: false,
+            head: entry.index,
+            arc,
+            tail,
+        };
+    }
     let step = bounded_step(
         entry.charge,
         draw_of(rows, arc),

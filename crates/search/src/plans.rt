@@ -26,11 +26,12 @@ const MODES: usize = Limits::MODES as usize;
 
 const NODES: usize = ((Limits::COLOURS as usize) + 1) * MODES;
 
-// What a search is for: the model's numbers, the credit and the bound. The model's arcs are in the rows, and grouped in the places.
+// What a search is for: the model's modes, its start mode and the number of its required colours, which are the duties, the credit and the
+// bound. The model's arcs are in the rows, and grouped in the places.
 pub struct Task {
     pub modes: usize,
     pub start: usize,
-    pub colours: usize,
+    pub duties: usize,
     pub credit: u16,
     pub bound: u16,
 }
@@ -50,6 +51,7 @@ fn find_peaks(
 {
     let least = task.bound + 1;
     let aim = Aim {
+        lasting: false,
         last: 0,
         goal: 0,
         least,
@@ -67,8 +69,8 @@ fn find_peaks(
     outcome.tail
 }
 
-// The pass from a mode with a charge, over the levels 0 to k: an arc that comes back to the mode in the last level with that charge or more
-// closes the cycle.
+// The pass from a mode with a charge, over the arcs that last and a level for each duty and one more: an arc that comes back to the mode in the
+// last level with that charge or more closes the cycle.
 fn find_cycle(
     rows: &[u16; WORDS],
     places: &[u8; PLACES],
@@ -81,10 +83,11 @@ fn find_cycle(
     requires { ⌜ (mode < task .modes) × (charge ≤ task .bound) ⌝ }
     ensures { λ r. ⌜ CyclePassed (taskNet (now (rows .entry)) (now (places .entry)) task) (task .bound) mode charge (now (work .exit)) (r .found) (r .head) (r .arc) ⌝ }
 {
-    let nodes = (task.colours + 1) * task.modes;
-    let goal = task.colours * task.modes + mode;
+    let nodes = (task.duties + 1) * task.modes;
+    let goal = task.duties * task.modes + mode;
     let aim = Aim {
-        last: task.colours,
+        lasting: true,
+        last: task.duties,
         goal,
         least: charge,
     };
@@ -160,7 +163,7 @@ fn write_cycle(
 ) -> usize
     requires { ⌜ Searchable (now rows) (now places) task (length (now work)) ⌝ }
     requires { ⌜ (mode < task .modes) × (charge ≤ task .bound) × KeptCycle (taskNet (now rows) (now places) task) (task .bound) mode charge ⌝ }
-    requires { ⌜ room (nodes (task .modes) (task .colours)) (task .bound) ≤ length (now part) ⌝ }
+    requires { ⌜ room (nodes (task .modes) (task .duties)) (task .bound) ≤ length (now part) ⌝ }
     ensures { λ r. ⌜ CycleWritten (taskNet (now (rows .entry)) (now (places .entry)) task) (task .bound) mode charge (now (part .entry)) (now (part .exit)) r ⌝ }
 {
     let outcome = find_cycle(rows, places, task, mode, charge, work);
@@ -179,7 +182,7 @@ pub fn decide<'a>(
     plan: &mut [u8],
 ) -> Searched
     requires { ⌜ Searchable (now rows) (now places) task (length (now work)) ⌝ }
-    requires { ⌜ planBuffer (task .colours) (task .modes) (task .bound) ≤ length (now plan) ⌝ }
+    requires { ⌜ planBuffer (task .duties) (task .modes) (task .bound) ≤ length (now plan) ⌝ }
     ensures no_plan { λ r. ⌜ (r ≡ noPlan) ↔ (AcceptedLasso (taskNet (now (rows .entry)) (now (places .entry)) task) (task .bound) (task .credit) → ⊥) ⌝ }
     ensures answered { λ r. ⌜ Written (taskNet (now (rows .entry)) (now (places .entry)) task) (task .bound) (task .credit) (now (plan .entry)) (now (plan .exit)) r ⌝ }
 {

@@ -21,7 +21,7 @@ use Rattle.model.specs.Lists.{Lists}
 use Rattle.model.specs.Fitness.{levelsOf}
 use Rattle.model.specs.Plans.{Plan}
 use Rattle.judge.specs.Shape.{planOf, shape}
-use Rattle.judge.specs.Colours.{coloursOf}
+use Rattle.judge.specs.Colours.{acceptedOf}
 use Rattle.judge.specs.Judged.{judged}
 use Rattle.gauge.specs.declared.Gauge.{Gauge}
 use Rattle.gauge.specs.declared.Gauged.{Gauged}
@@ -55,13 +55,13 @@ chargesByWeight l b c p =
     refuse (ltb x e && ltb y x) FallingCycle Yes
 
 -- the verdict, for any numbers, lists and bytes
-unfoldable pub judgedByWeight : ℕ → ℕ → ℕ → WeightLists → ℕ → ℕ → ℕ → ℕ → List ℕ → Verdict
-judgedByWeight n s k l b c p q w =
+unfoldable pub judgedByWeight : ℕ → ℕ → ℕ → WeightLists → ℕ → ℕ → ℕ → ℕ → ℕ → List ℕ → Verdict
+judgedByWeight n s k l x b c p q w =
     let g = modelBy n s k l in
     andThen (fitnessByWeight n s k l)
     (andThen (levelsOf b c)
     (andThen (shape g p q w)
-    (andThen (chargesByWeight l b c (planOf p w)) (coloursOf g (planOf p w .cycle)))))
+    (andThen (chargesByWeight l b c (planOf p w)) (acceptedOf g x (planOf p w)))))
 
 -- The gauge: its start ..
 unfoldable pub startedByWeight : ℕ → ℕ → ℕ → WeightLists → ℕ → ℕ → Gauged
@@ -85,14 +85,14 @@ gaugeWalkByWeight n s k l b j (a ∷ w) i x =
     walkOn (steppedByWeight n s k l b a x) λ y. metOr (meets (modelBy n s k l) j a) (suc i) (gaugeWalkByWeight n s k l b j w (suc i) y)
 
 -- .. and the call
-unfoldable pub walkByWeight : ℕ → ℕ → ℕ → WeightLists → ℕ → ℕ → ℕ → ℕ → List ℕ → ℕ → ℕ → Walked
-walkByWeight n s k l b c p q w j t =
-    walkIf (andThen (judgedByWeight n s k l b c p q w) (refuse (leb k j) NoSuchColour Yes))
+unfoldable pub walkByWeight : ℕ → ℕ → ℕ → WeightLists → ℕ → ℕ → ℕ → ℕ → ℕ → List ℕ → ℕ → ℕ → Walked
+walkByWeight n s k l x b c p q w j t =
+    walkIf (andThen (judgedByWeight n s k l x b c p q w) (refuse (leb k j) NoSuchColour Yes))
     (walkOn (startedByWeight n s k l b c) (gaugeWalkByWeight n s k l b j (stepsOfPlan (planOf p w) t) 0))
 
 -- Search: what holds of the plan that is handed back ..
-pub record FoundByWeight (n s k : ℕ) (l : WeightLists) (b c p q : ℕ) (plan plan′ : List ℕ) : Type 0 where
-  pub serves : ServesByWeight n s k l b c (planOf p (take (p + q) plan′))
+pub record FoundByWeight (n s k : ℕ) (l : WeightLists) (x b c p q : ℕ) (plan plan′ : List ℕ) : Type 0 where
+  pub serves : ServesByWeight n s k l x b c (planOf p (take (p + q) plan′))
   pub within : p + q ≤ length plan′
   pub short : p + q ≤ planMost
   pub prefix-short : p ≤ n * (b + 1)
@@ -100,31 +100,31 @@ pub record FoundByWeight (n s k : ℕ) (l : WeightLists) (b c p q : ℕ) (plan p
   pub later : drop (p + q) plan′ ≡ drop (p + q) plan
 
 -- .. 10, with the buffer untouched, or such a plan in it ..
-pub data AnsweredByWeight (n s k : ℕ) (l : WeightLists) (b c : ℕ) (plan plan′ : List ℕ) : Searched → Type 0 where
-  none : plan′ ≡ plan → AnsweredByWeight n s k l b c plan plan′ noPlan
-  found : {p q : ℕ} → FoundByWeight n s k l b c p q plan plan′ → AnsweredByWeight n s k l b c plan plan′ (outcome.Plan p q)
+pub data AnsweredByWeight (n s k : ℕ) (l : WeightLists) (x b c : ℕ) (plan plan′ : List ℕ) : Searched → Type 0 where
+  none : plan′ ≡ plan → AnsweredByWeight n s k l x b c plan plan′ noPlan
+  found : {p q : ℕ} → FoundByWeight n s k l x b c p q plan plan′ → AnsweredByWeight n s k l x b c plan plan′ (outcome.Plan p q)
 
 -- .. demand 3 ..
-pub record DecidedByWeight (n s k : ℕ) (l : WeightLists) (b c : ℕ) (work plan work′ plan′ : List ℕ) (r : Searched) : Type 0 where
-  pub no-plan : (r ≡ noPlan) ↔ (SomePlanByWeight n s k l b c → ⊥)
-  pub answered : AnsweredByWeight n s k l b c plan plan′ r
+pub record DecidedByWeight (n s k : ℕ) (l : WeightLists) (x b c : ℕ) (work plan work′ plan′ : List ℕ) (r : Searched) : Type 0 where
+  pub no-plan : (r ≡ noPlan) ↔ (SomePlanByWeight n s k l x b c → ⊥)
+  pub answered : AnsweredByWeight n s k l x b c plan plan′ r
   pub cleared : work′ ≡ replicate (length work) 0
 
 -- .. over all inputs, v being what 1 to 9 say ..
-pub record SearchIfByWeight (v : Verdict) (n s k : ℕ) (l : WeightLists) (b c : ℕ) (work plan work′ plan′ : List ℕ) (r : Searched) : Type 0 where
-  pub refused : (x : Refusal) → v ≡ Refused x → (r ≡ outcome.Refused x) × (work′ ≡ work) × (plan′ ≡ plan)
-  pub decided : v ≡ Yes → DecidedByWeight n s k l b c work plan work′ plan′ r
+pub record SearchIfByWeight (v : Verdict) (n s k : ℕ) (l : WeightLists) (x b c : ℕ) (work plan work′ plan′ : List ℕ) (r : Searched) : Type 0 where
+  pub refused : (y : Refusal) → v ≡ Refused y → (r ≡ outcome.Refused y) × (work′ ≡ work) × (plan′ ≡ plan)
+  pub decided : v ≡ Yes → DecidedByWeight n s k l x b c work plan work′ plan′ r
 
 -- .. and the call
-abbrev pub SearchByWeight : ℕ → ℕ → ℕ → WeightLists → ℕ → ℕ → List ℕ → List ℕ → List ℕ → List ℕ → Searched → Type 0
-SearchByWeight n s k l b c work plan work′ plan′ r =
-    SearchIfByWeight (andThen (fitnessByWeight n s k l) (levelsAndSpaces n k b c (length work) (length plan))) n s k l b c work plan work′ plan′ r
+abbrev pub SearchByWeight : ℕ → ℕ → ℕ → WeightLists → ℕ → ℕ → ℕ → List ℕ → List ℕ → List ℕ → List ℕ → Searched → Type 0
+SearchByWeight n s k l x b c work plan work′ plan′ r =
+    SearchIfByWeight (andThen (fitnessByWeight n s k l) (levelsAndSpaces n k b c (length work) (length plan))) n s k l x b c work plan work′ plan′ r
 
 -- "the same verdicts as before": every call on the six lists l answers what the weights l′ say, whatever else it is given
 pub record SameAnswers (l : Lists) (l′ : WeightLists) : Type 0 where
-  pub judging : (n s k b c p q : ℕ) (w : List ℕ) → judged n s k l b c p q w ≡ judgedByWeight n s k l′ b c p q w
+  pub judging : (n s k x b c p q : ℕ) (w : List ℕ) → judged n s k l x b c p q w ≡ judgedByWeight n s k l′ x b c p q w
   pub starting : (n s k b c : ℕ) → startedOf n s k l b c ≡ startedByWeight n s k l′ b c
   pub stepping : (n s k b a : ℕ) (x : Gauge) → steppedOf n s k l b a x ≡ steppedByWeight n s k l′ b a x
-  pub walking : (n s k b c p q : ℕ) (w : List ℕ) (j t : ℕ) → walkOf n s k l b c p q w j t ≡ walkByWeight n s k l′ b c p q w j t
-  pub searching : (n s k b c : ℕ) (work plan work′ plan′ : List ℕ) (r : Searched)
-      → SearchOf n s k l b c work plan work′ plan′ r ↔ SearchByWeight n s k l′ b c work plan work′ plan′ r
+  pub walking : (n s k x b c p q : ℕ) (w : List ℕ) (j t : ℕ) → walkOf n s k l x b c p q w j t ≡ walkByWeight n s k l′ x b c p q w j t
+  pub searching : (n s k x b c : ℕ) (work plan work′ plan′ : List ℕ) (r : Searched)
+      → SearchOf n s k l x b c work plan work′ plan′ r ↔ SearchByWeight n s k l′ x b c work plan work′ plan′ r

@@ -92,10 +92,10 @@ abbrev pub FeasibleByWeight : WeightLists → ℕ → ℕ → Plan → Type 0
 FeasibleByWeight l b c p = (r : ℕ) → IsPossible (walkedByWeight l b (p .prefix ++ times r (p .cycle)) c)
 
 -- a plan that is feasible by weights, and accepted
-pub record ServesByWeight (n s k : ℕ) (l : WeightLists) (b c : ℕ) (p : Plan) : Type 0 where
+pub record ServesByWeight (n s k : ℕ) (l : WeightLists) (x b c : ℕ) (p : Plan) : Type 0 where
   pub plan : IsPlan (modelBy n s k l) p
   pub feasible : FeasibleByWeight l b c p
-  pub accepted : Accepted (modelBy n s k l) p
+  pub accepted : Accepted (modelBy n s k l) x p
 
-abbrev pub SomePlanByWeight : ℕ → ℕ → ℕ → WeightLists → ℕ → ℕ → Type 0
-SomePlanByWeight n s k l b c = (p : Plan) × ServesByWeight n s k l b c p
+abbrev pub SomePlanByWeight : ℕ → ℕ → ℕ → WeightLists → ℕ → ℕ → ℕ → Type 0
+SomePlanByWeight n s k l x b c = (p : Plan) × ServesByWeight n s k l x b c p

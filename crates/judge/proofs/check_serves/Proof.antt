@@ -1,9 +1,8 @@
--- `judge::check_serves` meets its contract: 15 or 16, else 17. Assumes nothing.
+-- `judge::check_serves` meets its contract: 15 or 16, else 24 and 17. Assumes nothing.
 use mathlib.Core.Path.{sym, _∙_}
 use borrow.Author.Needs.{needs}
 use Rattle.refusals.proofs.Verdicts.{and-then-on, and-then-stop}
 use Rattle.judge.specs.Judged.{servesOf}
-use Rattle.judge.proofs.Arcs.{rest-part, arcs-drop}
 use Rattle.judge.proofs.check_serves.Statement.{statement}
 use Rattle.judge.proofs.check_serves.Tie as tie
 
@@ -13,20 +12,8 @@ check-charges-requires c κs = let h = c .before .pre in (h .1, h .2, h .3)
 enum-told : tie.Need-enum-told
 enum-told c = search needs
 
-sub-check-colours : tie.Need-sub-check-colours
-sub-check-colours c = search needs
-
-part-check-colours-start : tie.Need-part-check-colours-start
-part-check-colours-start c = search needs
-
-part-check-colours-end : tie.Need-part-check-colours-end
-part-check-colours-end c = search needs
-
-check-colours-requires : tie.Need-check-colours-requires
-check-colours-requires c κs =
-    let d = c .before .before .before .before .before in
-    let a = d .args in
-    rw (rest-part (a .p) (a .plan .now)) (d .pre .0, arcs-drop (a .model) (a .plan .now) (d .pre .1) (a .p))
+check-accepted-requires : tie.Need-check-accepted-requires
+check-accepted-requires c κs = c .before .before .before .before .pre
 
 enum-known-charges : tie.Need-enum-known-charges
 enum-known-charges c = search needs
@@ -34,10 +21,7 @@ enum-known-charges c = search needs
 returns : tie.Need-returns
 unfolding servesOf
 returns c =
-    let e = c .before .before .before .before in
-    let a = e .before .before .args in
-    (rw (rest-part (a .p) (a .plan .now)) at (c .check-colours .ensures))
-    ∙ and-then-on _ _ (sym (e .check-charges .ensures) ∙ c .before .before .enum-told .given .1)
+    c .check-accepted .ensures ∙ and-then-on _ _ (sym (c .before .before .before .check-charges .ensures) ∙ c .before .enum-told .given .1)
 
 returns-2 : tie.Need-returns-2
 unfolding servesOf
@@ -49,10 +33,7 @@ check-serves-spec =
     (tie.spec
     check-charges-requires
     enum-told
-    sub-check-colours
-    part-check-colours-start
-    part-check-colours-end
-    check-colours-requires
+    check-accepted-requires
     enum-known-charges
     returns
     returns-2)

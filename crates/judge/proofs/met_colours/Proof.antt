@@ -13,11 +13,11 @@ use Rattle.judge.proofs.met_colours.Statement.{statement}
 use Rattle.judge.proofs.met_colours.Tie as tie
 
 abbrev Inv-loop : tie.InvT-loop
-Inv-loop arcs required model met₀ i₀ met i =
-    (i ≤ length arcs) × (metBy (held model) arcs 0 ≡ metBy (held model) (drop i arcs) met)
+Inv-loop arcs passed all model met₀ i₀ met i =
+    (i ≤ length arcs) × (metBy (held model) arcs passed ≡ metBy (held model) (drop i arcs) met)
 
 abbrev μ-loop : tie.MeasureT-loop
-μ-loop arcs required model met₀ i₀ met i = length arcs - i
+μ-loop arcs passed all model met₀ i₀ met i = length arcs - i
 
 loop-holds : tie.Need-loop-holds Inv-loop μ-loop
 loop-holds c = (omega arith, refl)

@@ -42,9 +42,9 @@ step-until-requires c κs =
     let a = start r .args in
     let l = lists-of (start r) in
     let w = a .plan .now in
-    let judged = told-judged (a .n) (a .start) (a .k) l (a .b) (a .c) (a .p) (a .q) w _ (r .judge-model .ensures) _ (c .before .enum-told .given .1) in
-    let right = judged-yes (a .n) (a .start) (a .k) l (a .b) (a .c) (a .p) (a .q) w .0 judged in (
-      told-arcs (a .n) (a .start) (a .k) l (a .b) (a .c) (a .p) (a .q) w _ (r .judge-model .ensures) (c .before .enum-told .given .1),
+    let judged = told-judged (a .n) (a .start) (a .k) l (a .barred) (a .b) (a .c) (a .p) (a .q) w _ (r .judge-model .ensures) _ (c .before .enum-told .given .1) in
+    let right = judged-yes (a .n) (a .start) (a .k) l (a .barred) (a .b) (a .c) (a .p) (a .q) w .0 judged in (
+      told-arcs (a .n) (a .start) (a .k) l (a .barred) (a .b) (a .c) (a .p) (a .q) w _ (r .judge-model .ensures) (c .before .enum-told .given .1),
       omega (arith, right .lengths .parts, right .lengths .some-arc),
       omega (arith, right .fit .few-colours, c .if1 .left),
     )

@@ -158,6 +158,15 @@ enum-told-16 c = search needs
 row-requires-23 : tie.Need-row-requires-23
 row-requires-23 c κs = search needs
 
+enum-known-self-8 : tie.Need-enum-known-self-8
+enum-known-self-8 c = search needs
+
+cast-row-6 : tie.Need-cast-row-6
+cast-row-6 c = search needs
+
+row-requires-24 : tie.Need-row-requires-24
+row-requires-24 c κs = search needs
+
 returns : tie.Need-returns
 returns c = c .row .ensures ∙ sym (ap numbered (c .before .enum-told .given .1))
 
@@ -227,6 +236,9 @@ returns-22 c = c .row22 .ensures ∙ sym (ap numbered (c .before .enum-told15 .g
 returns-23 : tie.Need-returns-23
 returns-23 c = c .row23 .ensures ∙ sym (ap numbered (c .before .enum-told16 .given .1))
 
+returns-24 : tie.Need-returns-24
+returns-24 c = c .row24 .ensures ∙ sym (ap numbered (c .before .before .self8 .given .1))
+
 pub answer-spec : {M : Type 1} → statement M
 answer-spec =
     tie.close
@@ -282,6 +294,9 @@ answer-spec =
     row-requires-22
     enum-told-16
     row-requires-23
+    enum-known-self-8
+    cast-row-6
+    row-requires-24
     returns
     returns-2
     returns-3
@@ -304,4 +319,5 @@ answer-spec =
     returns-20
     returns-21
     returns-22
-    returns-23)
+    returns-23
+    returns-24)

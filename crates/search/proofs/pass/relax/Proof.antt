@@ -108,5 +108,5 @@ relax-spec =
     enum-told
     same-length
     same-length-2
-    returns
-    returns-2)
+    returns-2
+    returns-3)

@@ -1,5 +1,6 @@
 -- `plans::find_peaks` meets its contract. Assumes nothing.
 use mathlib.Core.Path.{sym}
+use mathlib.Core.Bool.{false}
 use native.Mathlib.Nat.{one-mul}
 use native.Mathlib.Omega.{arith}
 use borrow.Author.Needs.{needs}
@@ -21,7 +22,7 @@ run-requires : tie.Need-run-requires
 run-requires c κs =
     let s = asked c in
     let able = s .pre .0 in
-    pass-asked able (omega arith) (sym (one-mul _)) (s .pre .1) (able .fits .starts) (able .credit)
+    pass-asked able (omega arith) (sym (one-mul _)) (s .pre .1) false (able .fits .starts) (able .credit)
 
 same-length : tie.Need-same-length
 same-length c = search needs

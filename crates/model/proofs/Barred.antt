@@ -1,0 +1,73 @@
+-- Bytes of barred colours: what it means that a byte has a bit in common with another, by bits, by a mask and as the code tests it. Assumes
+-- nothing.
+use mathlib.Core.Path.{_≡_, refl, sym, ap, _∙_}
+use mathlib.Core.Bool.{Bool, true, false, false≢true, not, _&&_}
+use mathlib.Core.Logic.{_↔_}
+use Prim.Native.Nat.{ℕ, zero, suc, _+_, _*_, _/_, _%_, _^_, _≤_, _<_}
+use native.Mathlib.Nat.{div-one}
+use native.Mathlib.Omega.{arith}
+use native.Mathlib.Decide.{ℕ-discrete, decLe}
+use lib.Bits.{bitAnd}
+use lib.Dec.{eqb}
+use lib.Pow.{mod-pow-add}
+use borrow.Author.Tests.{eq-eqb, eqb-true}
+use Rattle.refusals.proofs.Tests.{or-no, and-no}
+use Rattle.model.specs.Automaton.{bit, common}
+use Rattle.model.proofs.Bits.{colours-below, bit-zero, half-bit, and-bit}
+
+-- the bits below k of a number's rest by 2 ^ k are its own
+pub mod-bit : (k x j : ℕ) → j < k → bit (x % 2 ^ k) j ≡ bit x j
+mod-bit zero x j h = absurd (omega arith)
+mod-bit (suc k) x zero h =
+    let e : k + 1 ≡ suc k = omega arith in
+    let m : x % 2 ^ suc k ≡ (x / 2 ^ 1 % 2 ^ k) * 2 ^ 1 + x % 2 ^ 1 = rw e at (mod-pow-add x k 1) in
+    let p : x % 2 ^ suc k % 2 ≡ x % 2 = omega arith in
+    rw (div-one (x % 2 ^ suc k), div-one x, p) refl
+mod-bit (suc k) x (suc j) h =
+    let e : k + 1 ≡ suc k = omega arith in
+    let m : x % 2 ^ suc k ≡ (x / 2 ^ 1 % 2 ^ k) * 2 ^ 1 + x % 2 ^ 1 = rw e at (mod-pow-add x k 1) in
+    let p : x % 2 ^ suc k / 2 ≡ x / 2 % 2 ^ k = omega arith in
+    sym (half-bit (x % 2 ^ suc k) j) ∙ ap {B = Bool} (λ (y : ℕ). bit y j) p ∙ mod-bit k (x / 2) j (omega arith) ∙ half-bit x j
+
+-- no bit below k is one of both bytes
+pub common-none : (x y k : ℕ) → (common x y k ≡ false) ↔ ((j : ℕ) → j < k → bit x j ≡ true → bit y j ≡ false)
+common-none x y zero = (λ e j h. absurd (omega arith), λ f. refl)
+common-none x y (suc k) =
+    let ih = common-none x y k in
+    let split = or-no (bit x k && bit y k) (common x y k) in
+    let here = and-no (bit x k) (bit y k) in (
+      λ e j h q. elim (ℕ-discrete j k) [ yes z ↦ rw z (here .0 (split .0 e .0) (rw z at q)) | no z ↦ ih .0 (split .0 e .1) j (omega arith) q ],
+      λ f. split .1 (here .1 (λ q. f k (omega arith) q), ih .1 (λ j h q. f j (omega arith) q)),
+    )
+
+-- the mask of the common bits is 0 where there are none
+mask-none : (x y : ℕ) → (bitAnd y x ≡ 0) ↔ ((j : ℕ) → bit x j ≡ true → bit y j ≡ false)
+mask-none x y = (
+  λ e j q. and-other (bit y j) (bit x j) (sym (and-bit y x j) ∙ ap {B = Bool} (λ (z : ℕ). bit z j) e ∙ bit-zero j) q,
+  λ f. let low = colours-below (bitAnd y x) 0 .1 (λ j h. and-bit y x j ∙ other-and (bit y j) (bit x j) (f j)) in omega arith,
+)
+  where
+    and-other : (s t : Bool) → (s && t) ≡ false → t ≡ true → s ≡ false
+    and-other true t e q = absurd (false≢true (sym e ∙ q))
+    and-other false t e q = refl
+
+    other-and : (s t : Bool) → (t ≡ true → s ≡ false) → (s && t) ≡ false
+    other-and true true f = f refl
+    other-and true false f = refl
+    other-and false t f = refl
+
+-- of a byte y without a bit at or above k, the test by the mask
+pub common-mask : (x y k : ℕ) → y < 2 ^ k → common x y k ≡ not (eqb (bitAnd y x) 0)
+common-mask x y k low = go (common x y k) refl (eqb (bitAnd y x) 0) refl
+  where
+    high : (j : ℕ) → k ≤ j → bit y j ≡ false
+    high = colours-below y k .0 low
+
+    all : ((j : ℕ) → j < k → bit x j ≡ true → bit y j ≡ false) → (j : ℕ) → bit x j ≡ true → bit y j ≡ false
+    all f j q = elim (decLe k j) [ yes h ↦ high j h | no h ↦ f j (omega arith) q ]
+
+    go : (s : Bool) → common x y k ≡ s → (t : Bool) → eqb (bitAnd y x) 0 ≡ t → s ≡ not t
+    go true e true q = absurd (false≢true (sym (common-none x y k .1 (λ j h. mask-none x y .0 (eqb-true (bitAnd y x) 0 q) j)) ∙ e))
+    go true e false q = refl
+    go false e true q = refl
+    go false e false q = absurd (false≢true (sym q ∙ eq-eqb (bitAnd y x) 0 (mask-none x y .1 (all (common-none x y k .0 e)))))
