@@ -29,7 +29,7 @@ low-bit x y k j h =
     in
     ap (λ (z : ℕ). eqb z 1) s
 
--- the upper byte, without the k bits below it; so of two bytes of barred colours
+-- the upper byte, without the k bits below it. So x + 2 ^ k * y bars in the joined model the knee's colours x and the habit's colours y.
 pub upper-byte : (x y k : ℕ) → x < 2 ^ k → (x + 2 ^ k * y) / 2 ^ k ≡ y
 upper-byte x y k h = add-mul-div-left x y (pow-pos k) ∙ (omega (arith, div-eq-of-lt h))
 

@@ -143,7 +143,7 @@ module _ (g h : Automaton) where
           | no u ↦ low j (omega arith)
         ]
 
-    -- so a plan is accepted where both of its parts are
+    -- so a plan is accepted where both of its parts are, each with the barred colours among its own
     accepted-both : (x : ℕ) (p : Plan) → AllJoined (p .cycle)
         → Accepted J x p ↔ (Accepted g x (kneePlan p) × Accepted h (x / 2 ^ (g .colours)) (habitPlan p))
     accepted-both x p k =
@@ -288,7 +288,7 @@ module _ (g h : Automaton) where
         )
 
     -- "the joined model has a feasible accepted plan exactly when the two have run-ins of equal length and rounds of equal length, with the same
-    -- actions, whose common charge and joint colours satisfy the definition"
+    -- actions, whose common charge and joint colours satisfy the definition"; x: the joined model's barred colours
     pub joins : (x b c : ℕ) → SomePlan J x b c ↔ SomeTogether g h x b c
     joins x b c = (λ (p, serves). (kneePlan p, habitPlan p, serves-apart x b c p serves), λ (p, q, t). plan-joined x b c p q t)
 
