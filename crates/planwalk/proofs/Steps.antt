@@ -61,9 +61,8 @@ module _ (n s k : ℕ) (l : Lists) (b : ℕ) (fit : fitness n s k l ≡ Yes) (lo
       let g = automatonOf n s k l in
       let (m, e, leads, ends) = serves-walked g x b c p serves t t in
       let lost = spilled-most n s k l b fit (stepsOfPlan p t) s c m e h leads ends in
-      let room = omega (arith, lost, length-take t (p .prefix ++ times t (p .cycle))) in
       rw (started-yes n s k l b c fit (levels-yes b c .1 (low, h)))
-      (gauge-least (stepsOfPlan p t) (newGauge g b c) m e (new-matches g b c) h room leads ends 0)
+      (gauge-least (stepsOfPlan p t) (newGauge g b c) m e (new-matches g b c) h (omega (arith, lost, length-take t (p .prefix ++ times t (p .cycle)))) leads ends 0)
 
 module _ (n s k : ℕ) (l : Lists) (x b c p q : ℕ) (w : List ℕ) (yes : judged n s k l x b c p q w ≡ Yes) (j t : ℕ) (h : j < k) (few : t < 2 ^ 16) where
   -- the call, for a plan that judging accepts, a colour of the model, barred or not, and an allowance of 16 bits
