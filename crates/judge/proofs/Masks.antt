@@ -4,7 +4,7 @@ use mathlib.Core.Bool.{Bool, _||_, or-assoc, or-false}
 use mathlib.Core.List.{List, [], _∷_}
 use mathlib.Core.Logic.{_⊎_, inl, inr, ⊎-elim, _≢_}
 use Prim.Native.Nat.{ℕ, zero, suc, _+_, _-_, _/_, _%_, _^_, _≤_, _<_}
-use native.Mathlib.Nat.{add-zero, zero-add, suc-add, add-suc, pow-suc, eq-zero-or-pos, div-one, div-eq-of-lt, add-sub-of-le, mod-eq-of-lt}
+use native.Mathlib.Nat.{add-zero, zero-add, suc-add, add-suc, pow-suc, eq-zero-or-pos, div-one, add-sub-of-le, mod-eq-of-lt}
 use native.Mathlib.Omega.{arith}
 use native.Mathlib.Decide.{ℕ-discrete}
 use borrow.Author.Tests.{eq-eqb, ne-eqb}
