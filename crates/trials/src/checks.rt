@@ -34,6 +34,7 @@ fn is_judged(
         actions,
         numbers.credit,
         numbers.bound,
+        numbers.barred,
         p,
         q,
         plan,
@@ -42,7 +43,13 @@ fn is_judged(
     answer.number == 0
 }
 
-// Whether the walk of a plan for a number is right: a colour is met within prefix and cycle, a number that is no colour is refused by 18.
+// Whether a colour is barred.
+fn is_barred(barred: u8, colour: u32) -> bool {
+    ((barred as u32) >> (colour % 8)) % 2 == 1
+}
+
+// Whether the walk of a plan for a number is right: a required colour is met within prefix and cycle, a barred one within the prefix or not at
+// all, and a number that is no colour is refused by 18.
 fn is_walked_for(
     sources: &[u8],
     targets: &[u8],
@@ -70,6 +77,7 @@ fn is_walked_for(
         actions,
         numbers.credit,
         numbers.bound,
+        numbers.barred,
         p,
         q,
         plan,
@@ -78,10 +86,16 @@ fn is_walked_for(
     );
     let result = walked.answer();
     let answer = result.answer;
-    if colour < numbers.colours {
+    if colour >= numbers.colours {
+        return answer.number == 18;
+    }
+    if !is_barred(numbers.barred, colour) {
         return result.met;
     }
-    answer.number == 18
+    if result.met {
+        return (result.steps as u32) <= p;
+    }
+    answer.number == 0
 }
 
 // Whether it is so for each colour and for the first number that is no colour.
