@@ -189,14 +189,20 @@ fn try_two_parts(first: u32) -> u32 {
 
 // Families with barred colours: with small numbers, with medium numbers whose arcs draw and gain, and with all four colours.
 fn try_barred(first: u32) {
-    let mut few = small(3000);
+    let mut few = small(2000);
+    few.modes_least = 2;
+    few.modes_span = 5;
     few.colours_span = COLOURS + 1;
+    few.arcs_least = 4;
+    few.arcs_span = 12;
+    few.net_low = 3;
     few.bars = true;
     let mut more = medium(1000);
-    more.net_low = 16;
-    more.both_span = 24;
+    more.net_low = 8;
+    more.both_span = 12;
     more.bars = true;
     let mut colours = all_colours(32);
+    colours.net_low = 125;
     colours.bars = true;
     let second = try_family(b"barred", few, first);
     let third = try_family(b"medium-barred", more, second);

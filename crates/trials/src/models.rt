@@ -25,7 +25,7 @@ pub struct Numbers {
 
 // A family of models: from `least` on, `span` values of each number. An arc's gain less its draw is a number below net_span less net_low; beyond
 // that it draws and gains a number below both_span, the same, so that with 1 no arc has both parts. Where `repeats`, an arc is as likely as not
-// equal in all fields to the one before. Where `bars`, each bit of the barred byte, also at or above k, is set one time in four; else none.
+// equal in all fields to the one before. Where `bars`, the barred byte is any byte, also with bits at or above k; else it is 0.
 pub struct Family {
     pub models: u16,
     pub modes_least: u16,
@@ -94,13 +94,12 @@ fn number(state: u32, least: u16, span: u16) -> u32
     (least as u32) + pick(state, span as u32)
 }
 
-// The barred byte of a model of a family, by the two states after a state.
+// The barred byte of a model of a family, by the state after a state.
 fn barred_of(family: Family, state: u32) -> u8 {
     if !family.bars {
         return 0;
     }
-    let first = next(state);
-    low_byte(pick(first, 256) & pick(next(first), 256))
+    low_byte(pick(next(state), 256))
 }
 
 // The numbers with every bit of the barred byte at or above k turned.
@@ -110,7 +109,7 @@ pub fn turned(numbers: Numbers) -> Numbers {
     other
 }
 
-// The numbers of a model of a family, by the eight states after a state. Its first arc is picked by later ones.
+// The numbers of a model of a family, by the seven states after a state. Its first arc is picked by later ones.
 pub fn numbers_of(family: Family, state: u32) -> Numbers {
     let first = next(state);
     let second = next(first);
