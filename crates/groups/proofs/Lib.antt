@@ -7,5 +7,5 @@ pub mod Bytes
 pub mod Making
 pub mod Placing
 pub mod Rows
+pub mod Compressing
 pub mod Grouping
-pub mod Squeezing

@@ -1,19 +1,22 @@
 -- Lists of arc numbers of a model: where 12 and the shape do not apply, the parts of one, and the colours of its arcs. Assumes nothing.
-use mathlib.Core.Path.{_≡_}
+use mathlib.Core.Path.{_≡_, sym, ap}
 use mathlib.Core.List.{List}
 use Prim.Native.Nat.{ℕ, _+_, _-_, _^_, _≤_, _<_}
 use native.Mathlib.Omega.{arith}
 use lib.ListN.{length, getD, take, drop, length-drop}
 use lib.Seq.{getD-take, getD-drop, length-take-le, take-all}
 use Rattle.limits.specs.Ceilings.{arcsMost, planMost}
+use Rattle.refusals.specs.declared.Verdict.{Verdict}
 use Rattle.refusals.specs.declared.Verdict.the-variants.{Yes}
+use Rattle.refusals.specs.Refusals.{andThen}
 use Rattle.refusals.proofs.Verdicts.{and-then-yes}
 use Rattle.model.specs.declared.Model.{Model}
-use Rattle.model.specs.Automaton.{arcAt}
+use Rattle.model.specs.Automaton.{Automaton, arcAt}
 use Rattle.model.specs.Fitness.{Holds}
 use Rattle.model.specs.Lists.{held}
 use Rattle.model.proofs.Bits.{colours-below}
-use Rattle.judge.specs.Shape.{lengthOf, numbers, chain, numbersThenChain, closing, path, shape}
+use Rattle.judge.specs.Shape.{planOf, lengthOf, numbers, chain, numbersThenChain, closing, path, shape}
+use Rattle.judge.specs.Colours.{barredFrom, coloursOf, acceptedOf}
 use Rattle.judge.specs.Judged.{ArcNumbers}
 use Rattle.judge.proofs.Shapes.{length-yes, numbers-yes}
 

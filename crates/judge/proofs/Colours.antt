@@ -11,9 +11,11 @@ use borrow.Author.Tests.{not-false}
 use Rattle.refusals.specs.declared.Refusal.the-variants.{MissingColour, BarredColour}
 use Rattle.refusals.specs.declared.Verdict.the-variants.{Yes}
 use Rattle.refusals.proofs.Verdicts.{clash, refuse-yes, and-then-yes, and-then-on}
+use Rattle.refusals.proofs.Tests.{is-no}
 use Rattle.refusals.proofs.Scan.{scan-yes}
 use Rattle.model.specs.Automaton.{Automaton, arcAt, bit, meets, hasBarred}
 use Rattle.model.specs.Plans.{Plan, SomeArc, Meets, Accepted}
+use Rattle.model.proofs.Bits.{bit-zero}
 use Rattle.model.proofs.Barred.{common-none}
 use Rattle.judge.specs.Colours.{someArc, missingFrom, barredFrom, coloursOf, acceptedOf}
 use Rattle.judge.proofs.Firsts.{missing-scan}
@@ -48,11 +50,6 @@ colours-yes g x w =
     either j true q = refl
     either j false q = rw (q refl) refl
 
--- what is not so is false
-not-so : (t : Bool) → (t ≡ true → ⊥) → t ≡ false
-not-so true h = absurd (h refl)
-not-so false h = refl
-
 -- 24 does not apply exactly where no barred colour stands on an arc of the cycle
 pub barred-yes : (g : Automaton) (x : ℕ) (w : List ℕ) (i : ℕ)
     → (barredFrom g x w i ≡ Yes) ↔ ((j : ℕ) → j < g .colours → bit x j ≡ true → Meets g j w → ⊥)
@@ -63,8 +60,12 @@ barred-yes g x (a ∷ w) i =
     let here = common-none x (arcAt g a .colours) (g .colours) in
     let ih = barred-yes g x w (suc i) in (
       λ e j h q m. ⊎-elim (λ t. true≢false (sym t ∙ here .0 (row .0 e .0) j h q)) (ih .0 (row .0 e .1) j h q) m,
-      λ f. row .1 (here .1 (λ j h q. not-so (meets g j a) (λ t. f j h q (inl t))), ih .1 (λ j h q m. f j h q (inr m))),
+      λ f. row .1 (here .1 (λ j h q. is-no (meets g j a) (λ t. f j h q (inl t))), ih .1 (λ j h q m. f j h q (inr m))),
     )
+
+-- with nothing barred 24 does not apply
+pub barred-zero : (g : Automaton) (w : List ℕ) (i : ℕ) → barredFrom g 0 w i ≡ Yes
+barred-zero g w i = barred-yes g 0 w i .1 (λ j h q m. true≢false (sym q ∙ bit-zero j))
 
 -- neither applies exactly where the plan is accepted
 pub accepted-yes : (g : Automaton) (x : ℕ) (p : Plan) → (acceptedOf g x p ≡ Yes) ↔ Accepted g x p

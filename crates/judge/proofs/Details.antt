@@ -17,18 +17,18 @@ use Rattle.walks.specs.declared.Step.the-variants.{To, Impossible}
 use Rattle.walks.specs.BoundedStep.{stepped}
 use Rattle.walks.specs.Walk.{Ends, walked}
 use Rattle.refusals.specs.declared.Refusal.{Refusal}
-use Rattle.refusals.specs.declared.Refusal.the-variants.{ArcNumber, OtherMode, ImpossibleStep, FallingCycle, MissingColour}
+use Rattle.refusals.specs.declared.Refusal.the-variants.{ArcNumber, OtherMode, ImpossibleStep, FallingCycle, MissingColour, BarredColour}
 use Rattle.refusals.specs.declared.Verdict.{Verdict}
 use Rattle.refusals.specs.declared.Verdict.the-variants.{Yes, Refused}
 use Rattle.refusals.specs.Refusals.{refuse}
 use Rattle.refusals.proofs.Verdicts.{clash, refuse-not, and-then-second}
-use Rattle.model.specs.Automaton.{Automaton, arcAt, moveOf}
+use Rattle.model.specs.Automaton.{Automaton, arcAt, moveOf, hasBarred}
 use Rattle.model.specs.Plans.{Plan, walkedArcs}
 use Rattle.judge.specs.declared.Ran.{Ran}
 use Rattle.judge.specs.declared.Ran.the-variants.{Through, Stops}
 use Rattle.judge.specs.Shape.{numbers, chain, numbersThenChain}
 use Rattle.judge.specs.Charges.{ranOn, ran, afterRan, secondRound, rounds, charges}
-use Rattle.judge.specs.Colours.{coloursOf}
+use Rattle.judge.specs.Colours.{barredFrom, coloursOf, acceptedOf}
 use Rattle.judge.specs.Judged.{servesOf}
 use Rattle.judge.proofs.Runs.{after-ran, ran-walked}
 

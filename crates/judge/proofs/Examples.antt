@@ -67,16 +67,16 @@ module _ (x : Example) (stands : Stands x) where
   clear a = and-then-yes (fitness (x .modes) 0 (x .colours) (x .arcs)) (levelsOf (x .bound) (x .credit)) .0 a
 
   -- "plan found"
-  pub row-found : x .claim ≡ Found → Clear × SomePlan model (x .bound) (x .credit)
+  pub row-found : x .claim ≡ Found → Clear × SomePlan model 0 (x .bound) (x .credit)
   row-found e = let (a, some) = says Found e in (clear a, some)
 
   -- "10"
-  pub row-none : x .claim ≡ None → Clear × (SomePlan model (x .bound) (x .credit) → ⊥)
+  pub row-none : x .claim ≡ None → Clear × (SomePlan model 0 (x .bound) (x .credit) → ⊥)
   row-none e = let (a, none) = says None e in (clear a, none)
 
   -- judging's number and detail
   pub row-judged : (p q : ℕ) (w : List ℕ) (r : Answer) → x .claim ≡ Judged p q w r
-      → answerOf (judged (x .modes) 0 (x .colours) (x .arcs) (x .bound) (x .credit) p q w) ≡ r
+      → answerOf (judged (x .modes) 0 (x .colours) (x .arcs) 0 (x .bound) (x .credit) p q w) ≡ r
   row-judged p q w r e = says (Judged p q w r) e
 
 -- .. and where all rows stand, the one at each place does: this pins All

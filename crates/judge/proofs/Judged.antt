@@ -14,27 +14,27 @@ use Rattle.model.specs.Plans.{Plan, Feasible, Accepted, Serves}
 use Rattle.model.proofs.Fitness.{fitness-yes, levels-yes}
 use Rattle.judge.specs.Shape.{planOf, shape, Lengths}
 use Rattle.judge.specs.Charges.{charges}
-use Rattle.judge.specs.Colours.{coloursOf}
+use Rattle.judge.specs.Colours.{acceptedOf}
 use Rattle.judge.specs.Judged.{servesOf, judgedPlan, judgedLevels, judged, judgedAnswer, Right}
 use Rattle.judge.proofs.Shapes.{shape-yes}
 use Rattle.judge.proofs.Runs.{charges-yes}
-use Rattle.judge.proofs.Colours.{colours-yes}
+use Rattle.judge.proofs.Colours.{accepted-yes}
 
-module _ (g : Automaton) (b c : ℕ) where
-  -- 15 to 17 do not apply exactly where the plan is feasible and accepted
-  pub serves-yes : (p : Plan) → c ≤ b → (servesOf g b c p ≡ Yes) ↔ (Feasible g b c p × Accepted g p)
+module _ (g : Automaton) (x b c : ℕ) where
+  -- 15, 16, 24 and 17 do not apply exactly where the plan is feasible and accepted
+  pub serves-yes : (p : Plan) → c ≤ b → (servesOf g x b c p ≡ Yes) ↔ (Feasible g b c p × Accepted g x p)
   unfolding servesOf
   serves-yes p h =
-      let both = and-then-yes (charges g b c p) (coloursOf g (p .cycle)) in (
-        λ e. (charges-yes g b c p h .0 (both .0 e .0), colours-yes g p .0 (both .0 e .1)),
-        λ (f, a). both .1 (charges-yes g b c p h .1 f, colours-yes g p .1 a),
+      let both = and-then-yes (charges g b c p) (acceptedOf g x p) in (
+        λ e. (charges-yes g b c p h .0 (both .0 e .0), accepted-yes g x p .0 (both .0 e .1)),
+        λ (f, a). both .1 (charges-yes g b c p h .1 f, accepted-yes g x p .1 a),
       )
 
-  -- 11 to 17 do not apply exactly where the lengths are right and the bytes are a plan that serves
-  pub plan-yes : (p q : ℕ) (w : List ℕ) → c ≤ b → (judgedPlan g b c p q w ≡ Yes) ↔ (Lengths p q w × Serves g b c (planOf p w))
+  -- 11 to 16, 24 and 17 do not apply exactly where the lengths are right and the bytes are a plan that serves
+  pub plan-yes : (p q : ℕ) (w : List ℕ) → c ≤ b → (judgedPlan g x b c p q w ≡ Yes) ↔ (Lengths p q w × Serves g x b c (planOf p w))
   unfolding judgedPlan
   plan-yes p q w h =
-      let both = and-then-yes (shape g p q w) (servesOf g b c (planOf p w)) in
+      let both = and-then-yes (shape g p q w) (servesOf g x b c (planOf p w)) in
       let serves = serves-yes (planOf p w) h in (
         λ e.
             let (l, k) = shape-yes g p q w .0 (both .0 e .0) in
@@ -63,8 +63,9 @@ judged-yes n s k l x b c p q w =
     )
 
 -- demand 2 in the paper's number: judging answers 0 exactly for what is right
-pub judged-zero : (n s k : ℕ) (l : Lists) (b c p q : ℕ) (w : List ℕ) → (judgedAnswer n s k l b c p q w .number ≡ 0) ↔ Right n s k l b c p q w
-judged-zero n s k l b c p q w =
-    let zero = yes-number (judged n s k l b c p q w) in
-    let right = judged-yes n s k l b c p q w in
+pub judged-zero : (n s k : ℕ) (l : Lists) (x b c p q : ℕ) (w : List ℕ)
+    → (judgedAnswer n s k l x b c p q w .number ≡ 0) ↔ Right n s k l x b c p q w
+judged-zero n s k l x b c p q w =
+    let zero = yes-number (judged n s k l x b c p q w) in
+    let right = judged-yes n s k l x b c p q w in
     (λ e. right .0 (zero .0 e), λ r. zero .1 (right .1 r))

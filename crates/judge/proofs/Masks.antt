@@ -18,6 +18,7 @@ use Rattle.refusals.specs.declared.Verdict.{Verdict}
 use Rattle.refusals.specs.declared.Verdict.the-variants.{Yes, Refused}
 use Rattle.model.specs.Automaton.{Automaton, arcAt, bit, meets}
 use Rattle.model.proofs.Bits.{half-bit, or-bit}
+use Rattle.model.proofs.Barred.{mod-bit}
 use Rattle.judge.specs.Colours.{someArc, missingFrom, coloursOf, metBy}
 
 -- the colours of m, and those that the arcs meet

@@ -1,28 +1,35 @@
 -- One turn of each scan of a list of arcs: what is left to be said at position i, by what is left at the next. Assumes nothing.
 use mathlib.Core.Path.{_≡_, refl, ap, _∙_}
+use mathlib.Core.Bool.{Bool, not}
 use mathlib.Core.List.{List}
+use mathlib.Core.Logic.{_≢_}
 use Prim.Native.Nat.{ℕ, suc, _+_, _≤_, _<_}
 use native.Mathlib.Numerals.{add-one}
 use native.Mathlib.Omega.{arith}
-use borrow.Author.Tests.{lt-leb, le-leb}
-use lib.Bits.{bitOr}
-use lib.Dec.{leb}
+use borrow.Author.Tests.{lt-leb, le-leb, eq-eqb, ne-eqb}
+use lib.Bits.{bitOr, bitAnd}
+use lib.Dec.{leb, eqb}
 use lib.ListN.{length, getD, drop, drop-of-length-le}
 use lib.Seq.{drop-cons}
 use Rattle.walks.specs.declared.Step.the-variants.{To, Impossible}
 use Rattle.walks.specs.BoundedStep.{stepped}
-use Rattle.refusals.specs.declared.Refusal.the-variants.{ArcNumber}
+use Rattle.refusals.specs.declared.Refusal.the-variants.{ArcNumber, BarredColour}
+use Rattle.refusals.specs.declared.Verdict.{Verdict}
 use Rattle.refusals.specs.declared.Verdict.the-variants.{Yes, Refused}
 use Rattle.refusals.specs.Refusals.{refuse}
 use Rattle.model.specs.declared.Arc.{Arc}
 use Rattle.model.specs.declared.Model.{Model}
-use Rattle.model.specs.Automaton.{arcAt, moveOf}
+use Rattle.model.specs.Automaton.{arcAt, moveOf, hasBarred}
+use Rattle.model.specs.Fitness.{Holds}
 use Rattle.model.specs.Lists.{held}
 use Rattle.model.proofs.Held.{arcIn, held-arc}
+use Rattle.model.proofs.Barred.{common-mask}
 use Rattle.judge.specs.declared.Ran.the-variants.{Through, Stops}
 use Rattle.judge.specs.Shape.{numbers}
 use Rattle.judge.specs.Charges.{ran}
-use Rattle.judge.specs.Colours.{metBy}
+use Rattle.judge.specs.Colours.{metBy, barredFrom}
+use Rattle.judge.specs.Judged.{ArcNumbers}
+use Rattle.judge.proofs.Arcs.{arcs-coloured}
 
 -- 12 at position i
 module _ (m : ℕ) (w : List ℕ) (i : ℕ) where

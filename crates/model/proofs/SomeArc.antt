@@ -1,5 +1,5 @@
--- Some arc of a list passes a test: at which place, of two lists joined, and of a list repeated. Assumes nothing.
-use mathlib.Core.Path.{_≡_}
+-- Some arc of a list passes a test: at which place, of two lists joined, of a list repeated, and by another test. Assumes nothing.
+use mathlib.Core.Path.{_≡_, sym, _∙_}
 use mathlib.Core.Bool.{Bool, true}
 use mathlib.Core.List.{List, [], _∷_, _++_}
 use mathlib.Core.Logic.{_⊎_, inl, inr, ⊎-elim, _↔_}
@@ -38,3 +38,8 @@ module _ (test : ℕ → Bool) where
   -- a list repeated has no other arcs
   pub some-times : (r : ℕ) (w : List ℕ) → SomeArc test (times r w) → SomeArc test w
   some-times (suc r) w h = ⊎-elim (λ p. p) (some-times r w) (some-append w (times r w) h)
+
+-- what passes a test passes another that says the same
+pub some-same : (f h : ℕ → Bool) → ((a : ℕ) → f a ≡ h a) → (w : List ℕ) → SomeArc f w → SomeArc h w
+some-same f h e (a ∷ w) (inl p) = inl (sym (e a) ∙ p)
+some-same f h e (a ∷ w) (inr p) = inr (some-same f h e w p)

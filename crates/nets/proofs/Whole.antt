@@ -10,12 +10,14 @@ use lib.ListN.{length}
 use borrow.Author.Tests.{not-true}
 use Rattle.limits.specs.Ceilings.{coloursMost}
 use Rattle.walks.specs.Walk.{times}
+use Rattle.refusals.proofs.Tests.{is-no}
 use Rattle.model.specs.Automaton.{Automaton, arcAt, bit, meets, hasBarred}
 use Rattle.model.specs.Required.{required}
 use Rattle.model.specs.Fitness.{Fit}
 use Rattle.model.specs.Plans
 use Rattle.model.specs.Plans.{Plan, SomeArc, Serves, SomePlan}
 use Rattle.model.proofs.Barred.{common-none}
+use Rattle.model.proofs.SomeArc.{some-same}
 use Rattle.model.proofs.Required.{compressed-bit, required-below, required-at}
 use Rattle.nets.specs.Graph.{Leads}
 use Rattle.nets.specs.Net.{Usable, Lasts, Fits, MeetsAll, AcceptedLasso}
@@ -30,16 +32,6 @@ use Rattle.nets.proofs.GraphOf.{leads-graph, possible-graph}
 pub whole-fits : (g : Automaton) (x : ℕ) → Fit g → Fits (whole g x)
 whole-fits g x f =
     record { starts = f .starts; sources = λ a k. f .arcs-fit a (k .0) .source; targets = λ a k. f .arcs-fit a (k .0) .target }
-
--- arcs that pass one test pass another that is the same
-some-same : (f h : ℕ → Bool) → ((a : ℕ) → f a ≡ h a) → (w : List ℕ) → SomeArc f w → SomeArc h w
-some-same f h e (a ∷ w) (inl p) = inl (sym (e a) ∙ p)
-some-same f h e (a ∷ w) (inr p) = inr (some-same f h e w p)
-
--- what is not so is false
-not-so : (t : Bool) → (t ≡ true → ⊥) → t ≡ false
-not-so true h = absurd (h refl)
-not-so false h = refl
 
 module _ (g : Automaton) (x : ℕ) where
   -- a prefix may use every arc that is there ..
@@ -74,7 +66,7 @@ module _ (g : Automaton) (x : ℕ) where
   clean-lasts : (w : List ℕ) (s t : ℕ) → Leads (graphOf g) (λ a. a < length (g .arcs)) s w t → Clean w → Leads (graphOf g) (Lasts (whole g x)) s w t
   clean-lasts [] s t d c = d
   clean-lasts (a ∷ w) s t d c = (
-    whole-lasting-arc a .1 (d .0, λ j h q. not-so (meets g j a) (λ m. c j h q (inl m))),
+    whole-lasting-arc a .1 (d .0, λ j h q. is-no (meets g j a) (λ m. c j h q (inl m))),
     d .1,
     clean-lasts w (graphOf g .target a) t (d .2) (λ j h q m. c j h q (inr m)),
   )

@@ -28,8 +28,8 @@ check-colours-requires c κs =
     let a = d .args in
     rw (rest-part (a .p) (a .plan .now)) (d .pre .0, arcs-drop (a .model) (a .plan .now) (d .pre .1) (a .p))
 
-enum-known-bars : tie.Need-enum-known-bars
-enum-known-bars c = search needs
+enum-known-clean : tie.Need-enum-known-clean
+enum-known-clean c = search needs
 
 returns : tie.Need-returns
 returns c =
@@ -44,7 +44,7 @@ returns-2 : tie.Need-returns-2
 returns-2 c =
     let s = c .before .before .before .before .before in
     let a = s .args in
-    and-then-stop _ _ _ (sym (c .before .before .before .check-barred .ensures) ∙ c .before .bars .given .1)
+    and-then-stop _ _ _ (sym (c .before .before .before .check-barred .ensures) ∙ c .before .clean .given .1)
     ∙ accepted-parts (held (a .model)) (a .barred) (a .p) (a .plan .now) (s .pre .2)
 
 pub check-accepted-spec : {M : Type 1} → statement M
@@ -57,6 +57,6 @@ check-accepted-spec =
     part-check-colours-start
     part-check-colours-end
     check-colours-requires
-    enum-known-bars
+    enum-known-clean
     returns
     returns-2)

@@ -1,4 +1,4 @@
--- `judge::judge_levels` meets its contract: 6, else 11 to 17. Assumes nothing.
+-- `judge::judge_levels` meets its contract: 6, else 11 to 16, 24 and 17. Assumes nothing.
 use mathlib.Core.Path.{sym, _∙_}
 use native.Mathlib.Omega.{arith}
 use borrow.Author.Needs.{needs}

@@ -1,4 +1,4 @@
--- `judge::judge_model` meets its contract: the refusal of fitness, else what 6 and 11 to 17 say. Assumes nothing.
+-- `judge::judge_model` meets its contract: the refusal of fitness, else what 6, 11 to 16, 24 and 17 say. Assumes nothing.
 use borrow.Author.Needs.{needs}
 use Rattle.model.specs.Lists.{Lists, lists}
 use Rattle.model.proofs.Held.{told-holds}
@@ -36,7 +36,7 @@ returns c =
     let r = c .before .before .before .before in
     let a = start r .args in
     let l = lists-of (start r) in
-    judged-fit (a .n) (a .start) (a .k) l (a .b) (a .c) (a .p) (a .q) (a .plan .now) _ (r .check-model .ensures) (c .before .enum-told .given .1) _
+    judged-fit (a .n) (a .start) (a .k) l (a .barred) (a .b) (a .c) (a .p) (a .q) (a .plan .now) _ (r .check-model .ensures) (c .before .enum-told .given .1) _
     (c .judge-levels .ensures)
 
 returns-2 : tie.Need-returns-2
@@ -44,7 +44,7 @@ returns-2 c =
     let r = c .before .before .before .before in
     let a = start r .args in
     let l = lists-of (start r) in
-    judged-unfit (a .n) (a .start) (a .k) l (a .b) (a .c) (a .p) (a .q) (a .plan .now) _ (r .check-model .ensures) _ (c .before .verdict .given .1)
+    judged-unfit (a .n) (a .start) (a .k) l (a .barred) (a .b) (a .c) (a .p) (a .q) (a .plan .now) _ (r .check-model .ensures) _ (c .before .verdict .given .1)
 
 pub judge-model-spec : {M : Type 1} → statement M
 judge-model-spec =

@@ -1,4 +1,4 @@
--- `judge::judge_plan` meets its contract: the refusal of the shape, else 15 to 17. Assumes nothing.
+-- `judge::judge_plan` meets its contract: the refusal of the shape, else 15, 16, 24 and 17. Assumes nothing.
 use mathlib.Core.Path.{sym, _∙_}
 use borrow.Author.Needs.{needs}
 use Rattle.refusals.proofs.Verdicts.{and-then-on, and-then-stop}
