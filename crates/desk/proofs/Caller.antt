@@ -52,57 +52,57 @@ plan-parts (outcome.Plan p q) parts e = cc
 plan-parts (outcome.Refused y) parts e = absurd (omega (arith, refusal-number y))
 
 -- where none of 1 to 9 applies, the number is 0 or 10
-answered-number : {g : Automaton} {b c : ℕ} {plan plan′ : List ℕ} {x : Searched} → Answered g b c plan plan′ x
-    → (searchAnswer x .answer .number ≡ 0) ⊎ (searchAnswer x .answer .number ≡ 10)
+answered-number : {g : Automaton} {x b c : ℕ} {plan plan′ : List ℕ} {y : Searched} → Answered g x b c plan plan′ y
+    → (searchAnswer y .answer .number ≡ 0) ⊎ (searchAnswer y .answer .number ≡ 10)
 answered-number (none e) = inr refl
 answered-number (found f) = inl refl
 
-module _ (n s k : ℕ) (l : Lists) (b c p q : ℕ) (w : List ℕ) where
+module _ (n s k : ℕ) (l : Lists) (x b c p q : ℕ) (w : List ℕ) where
   -- judging: the number and the detail are those of the verdict, and p and q are 0
-  pub desk-judge-parts : Parts (deskJudged n s k l b c p q w) (answerOf (judged n s k l b c p q w)) 0 0
-  desk-judge-parts = unpacked (answerOf (judged n s k l b c p q w)) 0 0 (judge-fields n s k l b c p q w)
+  pub desk-judge-parts : Parts (deskJudged n s k l x b c p q w) (answerOf (judged n s k l x b c p q w)) 0 0
+  desk-judge-parts = unpacked (answerOf (judged n s k l x b c p q w)) 0 0 (judge-fields n s k l x b c p q w)
 
   -- the number is 0 exactly where all is right
-  pub desk-judged : (numberIn (deskJudged n s k l b c p q w) ≡ 0) ↔ Right n s k l b c p q w
-  desk-judged = rw (desk-judge-parts .number) (judged-zero n s k l b c p q w)
+  pub desk-judged : (numberIn (deskJudged n s k l x b c p q w) ≡ 0) ↔ Right n s k l x b c p q w
+  desk-judged = rw (desk-judge-parts .number) (judged-zero n s k l x b c p q w)
 
-module _ {n s k : ℕ} {l : Lists} {b c : ℕ} {work plan work′ plan′ : List ℕ} {r : ℕ} (h : DeskSearched n s k l b c work plan work′ plan′ r) where
+module _ {n s k : ℕ} {l : Lists} {x b c : ℕ} {work plan work′ plan′ : List ℕ} {r : ℕ} (h : DeskSearched n s k l x b c work plan work′ plan′ r) where
   -- search: the parts are those of what is answered
   desk-search-parts : SearchParts r (h .searched)
   desk-search-parts =
-      let x = searchAnswer (h .searched) in
-      rw (h .word) (unpacked (x .answer) (x .p) (x .q) (search-fields n s k l b c (h .claim)))
+      let y = searchAnswer (h .searched) in
+      rw (h .word) (unpacked (y .answer) (y .p) (y .q) (search-fields n s k l x b c (h .claim)))
 
   -- where the number is 0, a plan is answered, with the two lengths in the word
-  desk-answer : numberIn r ≡ 0 → SearchOf n s k l b c work plan work′ plan′ (outcome.Plan (firstIn r) (secondIn r))
+  desk-answer : numberIn r ≡ 0 → SearchOf n s k l x b c work plan work′ plan′ (outcome.Plan (firstIn r) (secondIn r))
   desk-answer e = rw (plan-parts (h .searched) desk-search-parts e) at (h .claim)
 
   -- it is in the plan buffer,
-  pub desk-plan : numberIn r ≡ 0 → Found (automatonOf n s k l) b c (firstIn r) (secondIn r) plan plan′
+  pub desk-plan : numberIn r ≡ 0 → Found (automatonOf n s k l) x b c (firstIn r) (secondIn r) plan plan′
   desk-plan e =
       let claim = desk-answer e in
-      answered-found (claim .decided (plan-searchable n s k l b c claim) .answered)
+      answered-found (claim .decided (plan-searchable n s k l x b c claim) .answered)
 
   -- and judging says yes to it
   pub desk-plan-judged : numberIn r ≡ 0
-      → numberIn (deskJudged n s k l b c (firstIn r) (secondIn r) (take (firstIn r + secondIn r) plan′)) ≡ 0
+      → numberIn (deskJudged n s k l x b c (firstIn r) (secondIn r) (take (firstIn r + secondIn r) plan′)) ≡ 0
   desk-plan-judged e =
       let w = take (firstIn r + secondIn r) plan′ in
-      desk-judge-parts n s k l b c (firstIn r) (secondIn r) w .number
-      ∙ yes-number (judged n s k l b c (firstIn r) (secondIn r) w) .1 (search-judged n s k l b c (desk-answer e))
+      desk-judge-parts n s k l x b c (firstIn r) (secondIn r) w .number
+      ∙ yes-number (judged n s k l x b c (firstIn r) (secondIn r) w) .1 (search-judged n s k l x b c (desk-answer e))
 
   -- where one of 1 to 9 applies, the word is its number and detail, and both buffers are untouched
-  pub desk-refused : (x : Refusal) → searchable n s k l b c (length work) (length plan) ≡ Refused x
-      → (numberIn r ≡ numbered x .number) × (detailIn r ≡ numbered x .detail) × (firstIn r ≡ 0) × (secondIn r ≡ 0) × (work′ ≡ work) × (plan′ ≡ plan)
-  desk-refused x e =
-      let (answer, works, plans) = h .claim .refused x e in
+  pub desk-refused : (y : Refusal) → searchable n s k l b c (length work) (length plan) ≡ Refused y
+      → (numberIn r ≡ numbered y .number) × (detailIn r ≡ numbered y .detail) × (firstIn r ≡ 0) × (secondIn r ≡ 0) × (work′ ≡ work) × (plan′ ≡ plan)
+  desk-refused y e =
+      let (answer, works, plans) = h .claim .refused y e in
       let parts = rw answer at desk-search-parts in
       (parts .number, parts .detail, parts .first, parts .second, works, plans)
 
   module _ (through : searchable n s k l b c (length work) (length plan) ≡ Yes) where
     -- where none of them applies, the number is 10 exactly where no plan of any length is feasible and accepted
-    pub desk-ten : (numberIn r ≡ 10) ↔ (SomePlan (automatonOf n s k l) b c → ⊥)
-    desk-ten = rw (desk-search-parts .number) (search-ten n s k l b c (h .claim) through)
+    pub desk-ten : (numberIn r ≡ 10) ↔ (SomePlan (automatonOf n s k l) x b c → ⊥)
+    desk-ten = rw (desk-search-parts .number) (search-ten n s k l x b c (h .claim) through)
 
     -- it is 0 or 10, and the working space is zero
     pub desk-done : ((numberIn r ≡ 0) ⊎ (numberIn r ≡ 10)) × (work′ ≡ replicate (length work) 0)
@@ -115,13 +115,13 @@ module _ {n s k : ℕ} {l : Lists} {b c : ℕ} {work plan work′ plan′ : List
     desk-none ten = search-plan-kept (searchable n s k l b c (length work) (length plan)) (h .claim) (λ zero. absurd (omega (arith, desk-search-parts .number, ten, zero)))
 
 -- two words for one call have the same number and detail, whatever stands in the buffers
-pub desk-agrees : {n s k : ℕ} {l : Lists} {b c : ℕ} {work plan work′ plan′ work₂ plan₂ work₂′ plan₂′ : List ℕ} {r r₂ : ℕ}
-    → length work₂ ≡ length work → length plan₂ ≡ length plan → DeskSearched n s k l b c work plan work′ plan′ r
-    → DeskSearched n s k l b c work₂ plan₂ work₂′ plan₂′ r₂ → (numberIn r ≡ numberIn r₂) × (detailIn r ≡ detailIn r₂)
-desk-agrees {n} {s} {k} {l} {b} {c} ew ep h h₂ =
+pub desk-agrees : {n s k : ℕ} {l : Lists} {x b c : ℕ} {work plan work′ plan′ work₂ plan₂ work₂′ plan₂′ : List ℕ} {r r₂ : ℕ}
+    → length work₂ ≡ length work → length plan₂ ≡ length plan → DeskSearched n s k l x b c work plan work′ plan′ r
+    → DeskSearched n s k l x b c work₂ plan₂ work₂′ plan₂′ r₂ → (numberIn r ≡ numberIn r₂) × (detailIn r ≡ detailIn r₂)
+desk-agrees {n} {s} {k} {l} {x} {b} {c} ew ep h h₂ =
     let one = desk-search-parts h in
     let two = desk-search-parts h₂ in
-    let same = agreed-answer (search-agrees n s k l b c ew ep (h .claim) (h₂ .claim)) in (
+    let same = agreed-answer (search-agrees n s k l x b c ew ep (h .claim) (h₂ .claim)) in (
       one .number ∙ ap {B = ℕ} (λ (x : Answer). x .number) same ∙ sym (two .number),
       one .detail ∙ ap {B = ℕ} (λ (x : Answer). x .detail) same ∙ sym (two .detail),
     )
@@ -147,11 +147,11 @@ module _ {n s k : ℕ} {l : Lists} {b a : ℕ} {x y : Gauge} {r : ℕ} (h : Desk
   desk-step-kept refused = h .moved-on ∙ stepped-keeps n s k l b a x (λ e. refused (desk-step-parts .number ∙ e))
 
 -- the walk: number and detail, the steps made, and 1 where the colour was met
-pub desk-walk-parts : (n s k : ℕ) (l : Lists) (b c p q : ℕ) (w : List ℕ) (j t : ℕ) → t < 2 ^ 16 → let x = walkAnswer (walkOf n s k l b c p q w j t) in
-    Parts (deskWalked n s k l b c p q w j t) (x .answer) (x .steps) (cond (x .met) 1 0)
-desk-walk-parts n s k l b c p q w j t low =
-    let x = walkAnswer (walkOf n s k l b c p q w j t) in
-    unpacked (x .answer) (x .steps) (cond (x .met) 1 0) (walk-fields n s k l b c p q w j t low)
+pub desk-walk-parts : (n s k : ℕ) (l : Lists) (x b c p q : ℕ) (w : List ℕ) (j t : ℕ) → t < 2 ^ 16 → let y = walkAnswer (walkOf n s k l x b c p q w j t) in
+    Parts (deskWalked n s k l x b c p q w j t) (y .answer) (y .steps) (cond (y .met) 1 0)
+desk-walk-parts n s k l x b c p q w j t low =
+    let y = walkAnswer (walkOf n s k l x b c p q w j t) in
+    unpacked (y .answer) (y .steps) (cond (y .met) 1 0) (walk-fields n s k l x b c p q w j t low)
 
 module _ (hoa dimacs : List ℕ) (l : Lists) where
   -- reading: the number is 0 exactly where none of 19 to 21 and 1 to 5 applies
@@ -196,7 +196,7 @@ module _ (x y : Given) (l : Lists) where
   -- then the model that is left is the joined model, fit for every call; it has a plan that serves exactly where the two have plans that serve together,
   pub desk-join-model : r .number ≡ 0
       → (model-left ≡ joinedGiven x y) × (fitness (r .n) (r .start) (r .k) (firstPlaces (r .m) (listsJoined x y l)) ≡ Yes)
-      × ((b c : ℕ) → SomePlan model-left b c ↔ SomeTogether (modelGiven x) (modelGiven y) b c)
+      × ((z b c : ℕ) → SomePlan model-left z b c ↔ SomeTogether (modelGiven x) (modelGiven y) z b c)
   desk-join-model e =
       let yes = yes-number (joinVerdict x y (roomIn l)) .0 e in
       (join-model x y l yes, join-fitness x y l yes, join-plans x y l yes)
@@ -220,12 +220,13 @@ module _ (x y : Given) (l : Lists) where
       → answer (r .number) (r .detail) ≡ answer 23 0
   desk-join-size e f misfit = ap {B = Answer} answerOf (join-size x y (roomIn l) e f .1 misfit)
 
-  -- A search of the model that is left answers 10, where none of 1 to 9 applies, exactly where no plans of the two serve together.
-  pub desk-join-ten : r .number ≡ 0 → {b c : ℕ} {work plan work′ plan′ : List ℕ} {word : ℕ}
-      → DeskSearched (r .n) (r .start) (r .k) (firstPlaces (r .m) (listsJoined x y l)) b c work plan work′ plan′ word
+  -- A search of the model that is left answers 10, where none of 1 to 9 applies, exactly where no plans of the two serve together; z: its byte of
+  -- barred colours
+  pub desk-join-ten : r .number ≡ 0 → {z b c : ℕ} {work plan work′ plan′ : List ℕ} {word : ℕ}
+      → DeskSearched (r .n) (r .start) (r .k) (firstPlaces (r .m) (listsJoined x y l)) z b c work plan work′ plan′ word
       → searchable (r .n) (r .start) (r .k) (firstPlaces (r .m) (listsJoined x y l)) b c (length work) (length plan) ≡ Yes
-      → (numberIn word ≡ 10) ↔ (SomeTogether (modelGiven x) (modelGiven y) b c → ⊥)
-  desk-join-ten e {b} {c} searched through =
+      → (numberIn word ≡ 10) ↔ (SomeTogether (modelGiven x) (modelGiven y) z b c → ⊥)
+  desk-join-ten e {z} {b} {c} searched through =
       let ten = desk-ten searched through in
-      let plans = desk-join-model e .2 b c in
+      let plans = desk-join-model e .2 z b c in
       (λ n together. ten .0 n (plans .1 together), λ none. ten .1 (λ some. none (plans .0 some)))

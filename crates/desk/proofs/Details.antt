@@ -14,13 +14,13 @@ use Rattle.walks.specs.declared.Step.{Step}
 use Rattle.walks.specs.declared.Step.the-variants.{To, Impossible}
 use Rattle.walks.specs.BoundedStep.{stepped}
 use Rattle.refusals.specs.declared.Refusal.{Refusal}
-use Rattle.refusals.specs.declared.Refusal.the-variants.{ModeCount, StartMode, ArcLists, ColourCount, Levels, Product, WorkingSpace, PlanBuffer, PlanLength, OpenCycle, FallingCycle}
+use Rattle.refusals.specs.declared.Refusal.the-variants.{ModeCount, StartMode, ArcLists, ColourCount, Levels, Product, WorkingSpace, PlanBuffer, PlanLength, OpenCycle, FallingCycle, BarredColour}
 use Rattle.refusals.specs.declared.Verdict.{Verdict}
 use Rattle.refusals.specs.declared.Verdict.the-variants.{Yes, Refused}
 use Rattle.refusals.specs.Refusals.{answerOf, refuse, andThen}
 use Rattle.refusals.proofs.Scan.{Scan}
 use Rattle.model.specs.declared.Arc.{Arc}
-use Rattle.model.specs.Automaton.{Automaton, arcAt, meets, moveOf}
+use Rattle.model.specs.Automaton.{Automaton, arcAt, bit, meets, hasBarred, moveOf}
 use Rattle.model.specs.Lists.{Lists, arcsOf, automatonOf}
 use Rattle.model.specs.Fitness.{header, headerOf, arcsVerdict, fitness, levelsOf}
 use Rattle.model.specs.Plans.{Plan}
@@ -175,10 +175,10 @@ judged-within n s k l x b c p q w =
     colours-within g x (m .cycle) (omega (arith, fitness-yes n s k l .0 fit .1 .few-colours))
 
 -- the walk: what judging refuses, and 18
-pub walked-within : (n s k : ℕ) (l : Lists) (b c p q : ℕ) (w : List ℕ) (j t : ℕ) (r : Refusal)
-    → walkOf n s k l b c p q w j t ≡ outcome.Refused r → Within (2 * planMost) (Refused r)
-walked-within n s k l b c p q w j t r e =
-    ⊎-elim (λ z. rw z at (judged-within n s k l b c p q w)) (λ (_, _, z). rw z (omega arith)) (walk-refused-by n s k l b c p q w j t r .0 e)
+pub walked-within : (n s k : ℕ) (l : Lists) (x b c p q : ℕ) (w : List ℕ) (j t : ℕ) (r : Refusal)
+    → walkOf n s k l x b c p q w j t ≡ outcome.Refused r → Within (2 * planMost) (Refused r)
+walked-within n s k l x b c p q w j t r e =
+    ⊎-elim (λ z. rw z at (judged-within n s k l x b c p q w)) (λ (_, _, z). rw z (omega arith)) (walk-refused-by n s k l x b c p q w j t r .0 e)
 
 -- a gauge: the largest are those of 5, an arc
 pub started-within : (n s k : ℕ) (l : Lists) (b c : ℕ) → Within arcsMost (startedOf n s k l b c .verdict)

@@ -35,8 +35,8 @@ verdict-fields v small h =
     record { number = answer-number v; detail = omega (arith, h .detail); first = omega arith; second = omega arith }
 
 -- what judging answers
-pub judge-fields : (n s k : ℕ) (l : Lists) (b c p q : ℕ) (w : List ℕ) → Fields (answerOf (judged n s k l b c p q w)) 0 0
-judge-fields n s k l b c p q w = verdict-fields (judged n s k l b c p q w) (omega arith) (judged-within n s k l b c p q w)
+pub judge-fields : (n s k : ℕ) (l : Lists) (x b c p q : ℕ) (w : List ℕ) → Fields (answerOf (judged n s k l x b c p q w)) 0 0
+judge-fields n s k l x b c p q w = verdict-fields (judged n s k l x b c p q w) (omega arith) (judged-within n s k l x b c p q w)
 
 -- what starting and stepping a gauge answer
 pub start-fields : (n s k : ℕ) (l : Lists) (b c : ℕ) → Fields (answerOf (startedOf n s k l b c .verdict)) 0 0
@@ -54,30 +54,30 @@ bit-met false = refl
 abbrev WalkFields : Walked → Type 0
 WalkFields y = Fields (walkAnswer y .answer) (walkAnswer y .steps) (cond (walkAnswer y .met) 1 0)
 
-pub walk-fields : (n s k : ℕ) (l : Lists) (b c p q : ℕ) (w : List ℕ) (j t : ℕ) → t < 2 ^ 16 → WalkFields (walkOf n s k l b c p q w j t)
-walk-fields n s k l b c p q w j t low = go (walkOf n s k l b c p q w j t) refl
+pub walk-fields : (n s k : ℕ) (l : Lists) (x b c p q : ℕ) (w : List ℕ) (j t : ℕ) → t < 2 ^ 16 → WalkFields (walkOf n s k l x b c p q w j t)
+walk-fields n s k l x b c p q w j t low = go (walkOf n s k l x b c p q w j t) refl
   where
-    go : (y : Walked) → walkOf n s k l b c p q w j t ≡ y → WalkFields y
-    go (outcome.Met x) e = let (_, _, (a, z, f)) = walk-met n s k l b c p q w j t x .0 e in omega (arith, f .within)
-    go (outcome.Spent x) e = let (_, _, z, _) = walk-spent n s k l b c p q w j t x .0 e in omega arith
-    go (outcome.Refused r) e = omega (arith, refusal-number r, walked-within n s k l b c p q w j t r e .detail)
+    go : (y : Walked) → walkOf n s k l x b c p q w j t ≡ y → WalkFields y
+    go (outcome.Met u) e = let (_, _, (a, z, f)) = walk-met n s k l x b c p q w j t u .0 e in omega (arith, f .within)
+    go (outcome.Spent u) e = let (_, _, z, _) = walk-spent n s k l x b c p q w j t u .0 e in omega arith
+    go (outcome.Refused r) e = omega (arith, refusal-number r, walked-within n s k l x b c p q w j t r e .detail)
 
 -- what search answers
 abbrev SearchFields : Searched → Type 0
 SearchFields r = Fields (searchAnswer r .answer) (searchAnswer r .p) (searchAnswer r .q)
 
 -- where none of 1 to 9 applies
-answered-fields : {g : Automaton} {b c : ℕ} {plan plan′ : List ℕ} {r : Searched} → Answered g b c plan plan′ r → SearchFields r
+answered-fields : {g : Automaton} {x b c : ℕ} {plan plan′ : List ℕ} {r : Searched} → Answered g x b c plan plan′ r → SearchFields r
 answered-fields (none e) = omega arith
 answered-fields (found f) = omega (arith, f .short)
 
 -- on all inputs
-pub search-fields : (n s k : ℕ) (l : Lists) (b c : ℕ) {work plan work′ plan′ : List ℕ} {r : Searched}
-    → SearchOf n s k l b c work plan work′ plan′ r → SearchFields r
-search-fields n s k l b c {work} {plan} {r = r} h = go (searchable n s k l b c (length work) (length plan)) refl
+pub search-fields : (n s k : ℕ) (l : Lists) (x b c : ℕ) {work plan work′ plan′ : List ℕ} {r : Searched}
+    → SearchOf n s k l x b c work plan work′ plan′ r → SearchFields r
+search-fields n s k l x b c {work} {plan} {r = r} h = go (searchable n s k l b c (length work) (length plan)) refl
   where
     go : (v : Verdict) → searchable n s k l b c (length work) (length plan) ≡ v → SearchFields r
     go Yes e = answered-fields (h .decided e .answered)
-    go (Refused x) e =
+    go (Refused y) e =
         let small = rw e at (searchable-within n s k l b c (length work) (length plan)) in
-        rw (h .refused x e .0) (omega (arith, refusal-number x, small .detail))
+        rw (h .refused y e .0) (omega (arith, refusal-number y, small .detail))

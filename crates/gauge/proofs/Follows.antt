@@ -176,31 +176,31 @@ started-yes n s k l b c fit levels = rw (fit, levels) refl
 
 -- Started, and stepped along a plan that serves, however often the cycle repeats and wherever one stops, the gauge is refused only where the
 -- total would pass 64 bits: else it has the mode that the arcs lead to, the charge of their walk, and what the walk lost.
-pub plan-followed : (n s k : ℕ) (l : Lists) (b c : ℕ) (p : Plan) → fitness n s k l ≡ Yes → b ≤ boundMost → c ≤ b
-    → Serves (automatonOf n s k l) b c p → (r i : ℕ) → let w = take i (p .prefix ++ times r (p .cycle)) in
+pub plan-followed : (n s k : ℕ) (l : Lists) (x b c : ℕ) (p : Plan) → fitness n s k l ≡ Yes → b ≤ boundMost → c ≤ b
+    → Serves (automatonOf n s k l) x b c p → (r i : ℕ) → let w = take i (p .prefix ++ times r (p .cycle)) in
     let y = spilled b (movesOf (automatonOf n s k l) w) c in
-    (t : ℕ) × (x : ℕ) × Leads (automatonOf n s k l) s w t × (walkedArcs (automatonOf n s k l) b w c ≡ Ends x)
-    × ((afterGauged (startedOf n s k l b c) (stepsOf n s k l b w) ≡ gauged Yes (movedTo (newGauge (automatonOf n s k l) b c) t x y)) ↔ (y ≤ spillMost))
-plan-followed n s k l b c p fit hb hc serves r i =
-    let (t, x, leads, ends) = serves-walked (automatonOf n s k l) b c p serves r i in
+    (t : ℕ) × (e : ℕ) × Leads (automatonOf n s k l) s w t × (walkedArcs (automatonOf n s k l) b w c ≡ Ends e)
+    × ((afterGauged (startedOf n s k l b c) (stepsOf n s k l b w) ≡ gauged Yes (movedTo (newGauge (automatonOf n s k l) b c) t e y)) ↔ (y ≤ spillMost))
+plan-followed n s k l x b c p fit hb hc serves r i =
+    let (t, e, leads, ends) = serves-walked (automatonOf n s k l) x b c p serves r i in
     let w = take i (p .prefix ++ times r (p .cycle)) in
     let y = spilled b (movesOf (automatonOf n s k l) w) c in
     let z = newGauge (automatonOf n s k l) b c in
-    let follows = gauge-follows n s k l b fit hb w z t x y (new-matches (automatonOf n s k l) b c) hc (omega arith) in (
+    let follows = gauge-follows n s k l b fit hb w z t e y (new-matches (automatonOf n s k l) b c) hc (omega arith) in (
       t,
-      x,
+      e,
       leads,
       ends,
       rw (started-yes n s k l b c fit (levels-yes b c .1 (hb, hc))) (λ q. follows .0 q .3, λ low. follows .1 (leads, ends, omega arith, low)),
     )
 
 -- .. so not within the first 1,844,674,407,370,955 steps: none loses more than 10,000
-pub plan-never-full : (n s k : ℕ) (l : Lists) (b c : ℕ) (p : Plan) → fitness n s k l ≡ Yes → b ≤ boundMost → c ≤ b
-    → Serves (automatonOf n s k l) b c p → (r i : ℕ) → i * gainMost ≤ spillMost → let w = take i (p .prefix ++ times r (p .cycle)) in
-    (x : Gauge) × (afterGauged (startedOf n s k l b c) (stepsOf n s k l b w) ≡ gauged Yes x)
-plan-never-full n s k l b c p fit hb hc serves r i few =
-    let (t, x, leads, ends, followed) = plan-followed n s k l b c p fit hb hc serves r i in
+pub plan-never-full : (n s k : ℕ) (l : Lists) (x b c : ℕ) (p : Plan) → fitness n s k l ≡ Yes → b ≤ boundMost → c ≤ b
+    → Serves (automatonOf n s k l) x b c p → (r i : ℕ) → i * gainMost ≤ spillMost → let w = take i (p .prefix ++ times r (p .cycle)) in
+    (z : Gauge) × (afterGauged (startedOf n s k l b c) (stepsOf n s k l b w) ≡ gauged Yes z)
+plan-never-full n s k l x b c p fit hb hc serves r i few =
+    let (t, e, leads, ends, followed) = plan-followed n s k l x b c p fit hb hc serves r i in
     let all = p .prefix ++ times r (p .cycle) in
-    let most = spilled-most n s k l b fit (take i all) s c t x hc leads ends in
+    let most = spilled-most n s k l b fit (take i all) s c t e hc leads ends in
     let g = automatonOf n s k l in
-    (movedTo (newGauge g b c) t x (spilled b (movesOf g (take i all)) c), followed .1 (omega (arith, length-take i all)))
+    (movedTo (newGauge g b c) t e (spilled b (movesOf g (take i all)) c), followed .1 (omega (arith, length-take i all)))

@@ -1,12 +1,14 @@
 -- One colour byte above the k bits of another. "the habit's colour j becomes the knee's k plus j". Assumes nothing.
 use mathlib.Core.Path.{_≡_, sym, ap, _∙_}
+use mathlib.Core.Bool.{Bool}
 use Prim.Native.Nat.{ℕ, suc, _+_, _*_, _-_, _/_, _%_, _^_, _<_}
-use native.Mathlib.Nat.{mul-assoc, mul-comm, mul-suc, mul-le-mul-left, pow-suc, div-eq-of-lt, div-div-eq-div-mul, add-mul-div-left, add-mul-mod-self-left}
+use native.Mathlib.Nat.{mul-assoc, mul-comm, mul-suc, mul-le-mul-left, pow-suc, div-eq-of-lt, add-mul-div-left, add-mul-mod-self-left}
 use native.Mathlib.Omega.{arith}
 use lib.Dec.{eqb}
 use lib.Bits.{bitOr, or-shifted-r}
 use lib.Pow.{pow-pos, pow-add, shl-exact}
 use Rattle.model.specs.Automaton.{bit}
+use Rattle.model.proofs.Bits.{shifted-bit}
 use Rattle.join.specs.Within.{ColoursFit}
 
 -- bit j below k is that of the lower byte
@@ -27,15 +29,13 @@ low-bit x y k j h =
     in
     ap (λ (z : ℕ). eqb z 1) s
 
+-- the upper byte, without the k bits below it. So x + 2 ^ k * y bars in the joined model the knee's colours x and the habit's colours y.
+pub upper-byte : (x y k : ℕ) → x < 2 ^ k → (x + 2 ^ k * y) / 2 ^ k ≡ y
+upper-byte x y k h = add-mul-div-left x y (pow-pos k) ∙ (omega (arith, div-eq-of-lt h))
+
 -- bit k + j is bit j of the upper byte
 pub high-bit : (x y k j : ℕ) → x < 2 ^ k → bit (x + 2 ^ k * y) (k + j) ≡ bit y j
-high-bit x y k j h =
-    let s : (x + 2 ^ k * y) / 2 ^ (k + j) ≡ y / 2 ^ j =
-    ap (λ (z : ℕ). (x + 2 ^ k * y) / z) (pow-add 2 k j)
-    ∙ sym (div-div-eq-div-mul (x + 2 ^ k * y) (2 ^ k) (2 ^ j))
-    ∙ ap (λ (z : ℕ). z / 2 ^ j) (add-mul-div-left x y (pow-pos k) ∙ (omega (arith, div-eq-of-lt h)))
-    in
-    ap (λ (z : ℕ). eqb (z % 2) 1) s
+high-bit x y k j h = sym (shifted-bit (x + 2 ^ k * y) k j) ∙ ap {B = Bool} (λ (z : ℕ). bit z j) (upper-byte x y k h)
 
 -- k bits and k′ bits above them are k + k′ bits
 pub colours-within : (x y k k′ : ℕ) → x < 2 ^ k → y < 2 ^ k′ → x + 2 ^ k * y < 2 ^ (k + k′)

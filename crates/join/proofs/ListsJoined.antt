@@ -91,10 +91,11 @@ module _ (x y : Given) where
     pub join-rest : let m = joinOf x y l .count in laterPlaces m (listsJoined x y l) ≡ laterPlaces m l
     join-rest = rw yes (filled-rest J l (joinable .size .room-for))
 
-    -- "For any c and b in their limits, the joined model has a feasible accepted plan exactly when the two have" plans that serve together
-    pub join-plans : (b c : ℕ) → let r = joinOf x y l in
-        SomePlan (automatonOf (r .modes) (r .start) (r .colours) (firstPlaces (r .count) (listsJoined x y l))) b c
-        ↔ SomeTogether (modelGiven x) (modelGiven y) b c
-    join-plans b c =
-        subst (λ (g : Automaton). SomePlan g b c ↔ SomeTogether (modelGiven x) (modelGiven y) b c) (sym join-model)
-        (joins (modelGiven x) (modelGiven y) (joinable .knee) (joinable .habit) b c)
+    -- "For any c and b in their limits, the joined model has a feasible accepted plan exactly when the two have" plans that serve together. z: the
+    -- joined model's barred colours
+    pub join-plans : (z b c : ℕ) → let r = joinOf x y l in
+        SomePlan (automatonOf (r .modes) (r .start) (r .colours) (firstPlaces (r .count) (listsJoined x y l))) z b c
+        ↔ SomeTogether (modelGiven x) (modelGiven y) z b c
+    join-plans z b c =
+        subst (λ (g : Automaton). SomePlan g z b c ↔ SomeTogether (modelGiven x) (modelGiven y) z b c) (sym join-model)
+        (joins (modelGiven x) (modelGiven y) (joinable .knee) (joinable .habit) z b c)

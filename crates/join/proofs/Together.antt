@@ -1,9 +1,10 @@
 -- The joined model has a feasible accepted plan exactly where knee and habit have plans that serve together. Assumes nothing.
 use mathlib.Core.Path.{_≡_, refl, sym, ap, _∙_, subst}
-use mathlib.Core.Bool.{Bool}
+use mathlib.Core.Bool.{Bool, true, false}
 use mathlib.Core.List.{List, [], _∷_, _++_, map, map-append}
 use mathlib.Core.Logic.{inl, inr, _↔_}
-use Prim.Native.Nat.{ℕ, zero, suc, _+_, _-_, _<_, min}
+use Prim.Native.Nat.{ℕ, zero, suc, _+_, _-_, _/_, _^_, _<_, min}
+use native.Mathlib.Nat.{zero-div}
 use native.Mathlib.Omega.{arith}
 use native.Mathlib.Decide.{decLe}
 use lib.ListN.{length, length-map}
@@ -13,8 +14,8 @@ use Rattle.walks.proofs.Walks.{map-times}
 use Rattle.model.specs.declared.Arc.{Arc}
 use Rattle.model.specs.Automaton.{Automaton, arcAt, bit, meets, moveOf, movesOf}
 use Rattle.model.specs.Fitness.{Fit}
-use Rattle.model.specs.Plans.{Plan, Leads, IsPlan, SomeArc, Accepted, Serves, SomePlan}
-use Rattle.model.proofs.Bits.{colours-below}
+use Rattle.model.specs.Plans.{Plan, Leads, IsPlan, SomeArc, Meets, Accepted, Serves, SomePlan}
+use Rattle.model.proofs.Bits.{colours-below, shifted-bit}
 use Rattle.join.specs.Joined.{joinMode, joined}
 use Rattle.join.specs.Together.{SameActions, bothMoves, movesTogether, ServeTogether, SomeTogether}
 use Rattle.join.proofs.Colours.{low-bit, high-bit}
@@ -44,6 +45,9 @@ module _ (p q : ℕ → Bool) (f : ℕ → ℕ) (P : ℕ → Type 0) (same : (z 
   some-from : (w : List ℕ) → Every P w → SomeArc q (map f w) → SomeArc p w
   some-from (z ∷ w) h (inl m) = inl (same z (h .0) ∙ m)
   some-from (z ∷ w) h (inr m) = inr (some-from w (h .1) m)
+
+  some-same : (w : List ℕ) → Every P w → SomeArc p w ↔ SomeArc q (map f w)
+  some-same w h = (some-to w h, some-from w h)
 
 -- moves go together as long as both last
 pub together-length : (ms ns : List Move) → length (movesTogether ms ns) ≡ min (length ms) (length ns)
@@ -120,27 +124,50 @@ module _ (g h : Automaton) where
         ∙ high-bit (arcAt g (kneeArc g h z) .colours) (arcAt h (habitArc g h z) .colours) (g .colours) j
         (colours-below (arcAt g (kneeArc g h z) .colours) (g .colours) .1 (knee .arcs-fit (kneeArc g h z) (m .knee-below) .colours))
 
-    -- so a plan is accepted where both of its parts are
-    accepted-both : (p : Plan) → AllJoined (p .cycle) → Accepted J p ↔ (Accepted g (kneePlan p) × Accepted h (habitPlan p))
-    accepted-both p k = (
-      λ m. (
-        λ j i. some-to (meets J j) (meets g j) (kneeArc g h) (IsJoined g h) (λ z l. knee-colour j z i l) (p .cycle) k (m j (omega arith)),
-        λ j i.
-            some-to (meets J (g .colours + j)) (meets h j) (habitArc g h) (IsJoined g h) (habit-colour j) (p .cycle) k
-            (m (g .colours + j) (omega arith)),
-      ),
-      λ m j i.
-          elim (decLe (g .colours) j) [
-            | yes u ↦
-                let d = j - g .colours in
-                let e : j ≡ g .colours + d = omega arith in
-                rw e
-                (some-from (meets J (g .colours + d)) (meets h d) (habitArc g h) (IsJoined g h) (habit-colour d) (p .cycle) k (m .1 d (omega arith)))
-            | no u ↦
-                some-from (meets J j) (meets g j) (kneeArc g h) (IsJoined g h) (λ z l. knee-colour j z (omega arith) l) (p .cycle) k
-                (m .0 j (omega arith))
-          ],
-    )
+    -- so do lists of joined arcs
+    knee-meets : (j : ℕ) → j < g .colours → (w : List ℕ) → AllJoined w → Meets J j w ↔ Meets g j (knees w)
+    knee-meets j i = some-same (meets J j) (meets g j) (kneeArc g h) (IsJoined g h) (λ z l. knee-colour j z i l)
+
+    habit-meets : (j : ℕ) (w : List ℕ) → AllJoined w → Meets J (g .colours + j) w ↔ Meets h j (habits w)
+    habit-meets j = some-same (meets J (g .colours + j)) (meets h j) (habitArc g h) (IsJoined g h) (habit-colour j)
+
+    -- a colour of the joined model is one of the knee, or one of the habit above them
+    each-colour : (P : ℕ → Type 0) → ((j : ℕ) → j < g .colours → P j) → ((j : ℕ) → j < h .colours → P (g .colours + j))
+        → (j : ℕ) → j < J .colours → P j
+    each-colour P low high j i =
+        elim (decLe (g .colours) j) [
+          | yes u ↦
+              let d = j - g .colours in
+              let e : g .colours + d ≡ j = omega arith in
+              subst P e (high d (omega arith))
+          | no u ↦ low j (omega arith)
+        ]
+
+    -- so a plan is accepted where both of its parts are, each with the barred colours among its own
+    accepted-both : (x : ℕ) (p : Plan) → AllJoined (p .cycle)
+        → Accepted J x p ↔ (Accepted g x (kneePlan p) × Accepted h (x / 2 ^ (g .colours)) (habitPlan p))
+    accepted-both x p k =
+        let w = p .cycle in
+        let above : (j : ℕ) → bit (x / 2 ^ (g .colours)) j ≡ bit x (g .colours + j) = shifted-bit x (g .colours) in (
+          λ m. (
+            record {
+              required = λ j i e. knee-meets j i w k .0 (m .required j (omega arith) e);
+              barred = λ j i e s. m .barred j (omega arith) e (knee-meets j i w k .1 s);
+            },
+            record {
+              required = λ j i e. habit-meets j w k .0 (m .required (g .colours + j) (omega arith) (sym (above j) ∙ e));
+              barred = λ j i e s. m .barred (g .colours + j) (omega arith) (sym (above j) ∙ e) (habit-meets j w k .1 s);
+            },
+          ),
+          λ (m, n). record {
+            required =
+                each-colour (λ j. bit x j ≡ false → Meets J j w) (λ j i e. knee-meets j i w k .1 (m .required j i e))
+                (λ j i e. habit-meets j w k .1 (n .required j i (above j ∙ e)));
+            barred =
+                each-colour (λ j. bit x j ≡ true → Meets J j w → ⊥) (λ j i e s. m .barred j i e (knee-meets j i w k .0 s))
+                (λ j i e s. n .barred j i (above j ∙ e) (habit-meets j w k .0 s));
+          },
+        )
 
     -- where joined arcs lead from the joined mode of s₁ and s₂: the knee's arcs and the habit's arcs lead to the two modes of t
     record LeadApart (w : List ℕ) (s₁ s₂ t : ℕ) : Type 0 where
@@ -207,13 +234,13 @@ module _ (g h : Automaton) where
         )
 
     -- A plan of the joined model serves exactly where its two parts serve together.
-    pub serves-apart : (b c : ℕ) (p : Plan) → Serves J b c p → ServeTogether g h b c (kneePlan p) (habitPlan p)
-    serves-apart b c p serves =
+    pub serves-apart : (x b c : ℕ) (p : Plan) → Serves J x b c p → ServeTogether g h x b c (kneePlan p) (habitPlan p)
+    serves-apart x b c p serves =
         let plan = serves .plan in
         let prefix = leads-arcs J (p .prefix) (J .start) (plan .mode) (plan .leads-in) in
         let cycle = leads-arcs J (p .cycle) (plan .mode) (plan .mode) (plan .leads-cycle) in
         let plans = plan-apart p plan in
-        let accepted = accepted-both p cycle .0 (serves .accepted) in
+        let accepted = accepted-both x p cycle .0 (serves .accepted) in
         record {
           knee = plans .0;
           habit = plans .1;
@@ -224,9 +251,9 @@ module _ (g h : Automaton) where
           habit-accepted = accepted .1;
         }
 
-    pub serves-joined : (b c : ℕ) (p : Plan) → AllJoined (p .prefix) → AllJoined (p .cycle) → ServeTogether g h b c (kneePlan p) (habitPlan p)
-        → Serves J b c p
-    serves-joined b c p prefix cycle t =
+    pub serves-joined : (x b c : ℕ) (p : Plan) → AllJoined (p .prefix) → AllJoined (p .cycle) → ServeTogether g h x b c (kneePlan p) (habitPlan p)
+        → Serves J x b c p
+    serves-joined x b c p prefix cycle t =
         let t₁ = t .knee .mode in
         let t₂ = t .habit .mode in
         record {
@@ -238,12 +265,12 @@ module _ (g h : Automaton) where
                 some-arc = omega (arith, t .knee .some-arc, length-map (p .cycle) (kneeArc g h));
               };
           feasible = λ r. rw (rounds-joined (p .prefix) (p .cycle) prefix cycle r) (t .feasible r);
-          accepted = accepted-both p cycle .1 (t .knee-accepted, t .habit-accepted);
+          accepted = accepted-both x p cycle .1 (t .knee-accepted, t .habit-accepted);
         }
 
     -- two plans that serve together are the parts of one of the joined model
-    plan-joined : (b c : ℕ) (p q : Plan) → ServeTogether g h b c p q → SomePlan J b c
-    plan-joined b c p q t =
+    plan-joined : (x b c : ℕ) (p q : Plan) → ServeTogether g h x b c p q → SomePlan J x b c
+    plan-joined x b c p q t =
         let (u, ju, eu, fu) = arcs-joined (p .prefix) (q .prefix) (t .same-prefix)
         (leads-arcs g (p .prefix) (g .start) (t .knee .mode) (t .knee .leads-in))
         (leads-arcs h (q .prefix) (h .start) (t .habit .mode) (t .habit .leads-in))
@@ -256,11 +283,15 @@ module _ (g h : Automaton) where
         let knees-are : p ≡ kneePlan joint = rw (eu, ew) refl in
         let habits-are : q ≡ habitPlan joint = rw (fu, fw) refl in (
           joint,
-          serves-joined b c joint ju jw
-              (subst (λ (x : Plan). ServeTogether g h b c x (habitPlan joint)) knees-are (subst (λ (y : Plan). ServeTogether g h b c p y) habits-are t)),
+          serves-joined x b c joint ju jw
+              (subst (λ (y : Plan). ServeTogether g h x b c y (habitPlan joint)) knees-are (subst (λ (y : Plan). ServeTogether g h x b c p y) habits-are t)),
         )
 
     -- "the joined model has a feasible accepted plan exactly when the two have run-ins of equal length and rounds of equal length, with the same
-    -- actions, whose common charge and joint colours satisfy the definition"
-    pub joins : (b c : ℕ) → SomePlan J b c ↔ SomeTogether g h b c
-    joins b c = (λ (p, serves). (kneePlan p, habitPlan p, serves-apart b c p serves), λ (p, q, t). plan-joined b c p q t)
+    -- actions, whose common charge and joint colours satisfy the definition"; x: the joined model's barred colours
+    pub joins : (x b c : ℕ) → SomePlan J x b c ↔ SomeTogether g h x b c
+    joins x b c = (λ (p, serves). (kneePlan p, habitPlan p, serves-apart x b c p serves), λ (p, q, t). plan-joined x b c p q t)
+
+-- With no barred colour of the joined model there is none of the habit: joins at 0 is Ask 5's theorem.
+pub habit-unbarred : (g h : Automaton) (q : Plan) → Accepted h (0 / 2 ^ (g .colours)) q ↔ Accepted h 0 q
+habit-unbarred g h q = rw (zero-div (2 ^ (g .colours))) (λ a. a, λ a. a)

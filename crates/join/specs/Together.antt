@@ -1,6 +1,6 @@
 -- Knee and habit walked together. Document 02, Ask 5: "the two have run-ins of equal length and rounds of equal length, with the same actions, whose
 -- common charge and joint colours satisfy the definition". (Theorem joins.)
-use Prim.Native.Nat.{ℕ, _+_}
+use Prim.Native.Nat.{ℕ, _+_, _/_, _^_}
 use mathlib.Core.Path.{_≡_}
 use mathlib.Core.List.{List, [], _∷_, _++_}
 use Rattle.walks.specs.BoundedStep.{Move}
@@ -31,16 +31,18 @@ FeasibleTogether g h b c p q =
     (r : ℕ)
     → IsPossible (walked b (movesTogether (movesOf g (p .prefix ++ times r (p .cycle))) (movesOf h (q .prefix ++ times r (q .cycle)))) c)
 
--- a plan of each, which serve together; the "joint colours" are met where each plan meets its own
-pub record ServeTogether (g h : Automaton) (b c : ℕ) (p q : Plan) : Type 0 where
+-- A plan of each, which serve together. x is the joined model's byte of barred colours (document 02, Ask 6). The "joint colours" satisfy the
+-- definition where each plan is accepted with the barred colours among its own: the knee's are the lowest bits of x, and since "the habit's
+-- colour j becomes the knee's k plus j" (Ask 5), the habit's are the bits from k on.
+pub record ServeTogether (g h : Automaton) (x b c : ℕ) (p q : Plan) : Type 0 where
   pub knee : IsPlan g p
   pub habit : IsPlan h q
   pub same-prefix : SameActions g h (p .prefix) (q .prefix)
   pub same-cycle : SameActions g h (p .cycle) (q .cycle)
   pub feasible : FeasibleTogether g h b c p q
-  pub knee-accepted : Accepted g p
-  pub habit-accepted : Accepted h q
+  pub knee-accepted : Accepted g x p
+  pub habit-accepted : Accepted h (x / 2 ^ (g .colours)) q
 
 -- of any lengths
-abbrev pub SomeTogether : Automaton → Automaton → ℕ → ℕ → Type 0
-SomeTogether g h b c = (p : Plan) × (q : Plan) × ServeTogether g h b c p q
+abbrev pub SomeTogether : Automaton → Automaton → ℕ → ℕ → ℕ → Type 0
+SomeTogether g h x b c = (p : Plan) × (q : Plan) × ServeTogether g h x b c p q

@@ -1,8 +1,9 @@
--- What the yes of refusals 24 and 17 says: every required colour stands on some arc of the cycle, and no barred one. Assumes nothing.
+-- What the yes of refusals 24 and 17 says: every required colour stands on some arc of the cycle, and no barred one; what they say with nothing
+-- barred; and that they ignore the bits at or above k. Assumes nothing.
 use mathlib.Core.Path.{_≡_, refl, sym, _∙_}
 use mathlib.Core.Bool.{Bool, true, false, true≢false, not, _||_}
 use mathlib.Core.List.{List, [], _∷_}
-use mathlib.Core.Logic.{_↔_, _⊎_, inl, inr, ⊎-elim}
+use mathlib.Core.Logic.{_↔_, inl, inr, ⊎-elim}
 use Prim.Native.Nat.{ℕ, zero, suc, _+_, _-_, _<_}
 use native.Mathlib.Nat.{sub-zero}
 use native.Mathlib.Omega.{arith}
@@ -11,19 +12,14 @@ use borrow.Author.Tests.{not-false}
 use Rattle.refusals.specs.declared.Refusal.the-variants.{MissingColour, BarredColour}
 use Rattle.refusals.specs.declared.Verdict.the-variants.{Yes}
 use Rattle.refusals.proofs.Verdicts.{clash, refuse-yes, and-then-yes, and-then-on}
-use Rattle.refusals.proofs.Tests.{is-no}
+use Rattle.refusals.proofs.Tests.{or-yes, is-no}
 use Rattle.refusals.proofs.Scan.{scan-yes}
 use Rattle.model.specs.Automaton.{Automaton, arcAt, bit, meets, hasBarred}
 use Rattle.model.specs.Plans.{Plan, SomeArc, Meets, Accepted}
 use Rattle.model.proofs.Bits.{bit-zero}
-use Rattle.model.proofs.Barred.{common-none}
+use Rattle.model.proofs.Barred.{common-none, barred-ignored}
 use Rattle.judge.specs.Colours.{someArc, missingFrom, barredFrom, coloursOf, acceptedOf}
 use Rattle.judge.proofs.Firsts.{missing-scan}
-
--- one of two
-or-yes : (a b : Bool) → ((a || b) ≡ true) ↔ ((a ≡ true) ⊎ (b ≡ true))
-or-yes true b = (λ e. inl refl, λ e. refl)
-or-yes false b = (λ e. inr e, ⊎-elim (λ e. clash (cc)) (λ e. e))
 
 -- the computed test is the fact
 pub some-arc : (test : ℕ → Bool) (w : List ℕ) → (someArc test w ≡ true) ↔ SomeArc test w
@@ -78,14 +74,29 @@ accepted-yes g x p =
       λ a. both .1 (clean .1 (a .barred), met .1 (a .required)),
     )
 
--- Where no colour of the model is barred, 24 does not apply, and 17 is what it was: the lowest-numbered of all k colours that is missing.
-pub nothing-barred : (g : Automaton) (x : ℕ) (p : Plan) → ((j : ℕ) → j < g .colours → bit x j ≡ false)
-    → acceptedOf g x p ≡ missingFrom (λ j. someArc (meets g j) (p .cycle)) (g .colours) 0
-unfolding acceptedOf coloursOf missingFrom
-nothing-barred g x p none =
-    sym (and-then-on _ _ (barred-yes g x (p .cycle) (length (p .prefix)) .1 (λ j h q m. true≢false (sym q ∙ none j h))))
-    ∙ missing-same (g .colours) 0 λ j h. rw (none j (omega arith)) refl
-  where
-    missing-same : {f h : ℕ → Bool} (n i : ℕ) → ((j : ℕ) → j < i + n → f j ≡ h j) → missingFrom f n i ≡ missingFrom h n i
-    missing-same zero i e = refl
-    missing-same (suc n) i e = rw (e i (omega arith), missing-same n (suc i) (λ j q. e j (omega arith))) refl
+-- 17, by a test that says the same of every colour looked at
+missing-same : {f h : ℕ → Bool} (n i : ℕ) → ((j : ℕ) → j < i + n → f j ≡ h j) → missingFrom f n i ≡ missingFrom h n i
+unfolding missingFrom
+missing-same zero i e = refl
+missing-same (suc n) i e = rw (e i (omega arith), missing-same n (suc i) (λ j q. e j (omega arith))) refl
+
+-- with nothing barred 17 is what it was before document 02: the lowest-numbered of all k colours that is missing
+pub accepted-unbarred : (g : Automaton) (p : Plan) → acceptedOf g 0 p ≡ missingFrom (λ j. someArc (meets g j) (p .cycle)) (g .colours) 0
+unfolding acceptedOf coloursOf
+accepted-unbarred g p =
+    sym (and-then-on _ _ (barred-zero g (p .cycle) (length (p .prefix)))) ∙ missing-same (g .colours) 0 (λ j h. rw (bit-zero j) refl)
+
+-- "its bits at or above k are ignored": bytes with the same bits below k are answered the same
+module _ (g : Automaton) (x y : ℕ) (same : (j : ℕ) → j < g .colours → bit x j ≡ bit y j) where
+  barred-same : (w : List ℕ) (i : ℕ) → barredFrom g x w i ≡ barredFrom g y w i
+  unfolding barredFrom
+  barred-same [] i = refl
+  barred-same (a ∷ w) i = rw (barred-ignored g a x y same, barred-same w (suc i)) refl
+
+  colours-same : (w : List ℕ) → coloursOf g x w ≡ coloursOf g y w
+  unfolding coloursOf
+  colours-same w = missing-same (g .colours) 0 (λ j h. rw (same j (omega arith)) refl)
+
+  pub accepted-same : (p : Plan) → acceptedOf g x p ≡ acceptedOf g y p
+  unfolding acceptedOf
+  accepted-same p = rw (barred-same (p .cycle) (length (p .prefix)), colours-same (p .cycle)) refl

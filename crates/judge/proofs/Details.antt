@@ -1,10 +1,11 @@
--- When refusals 15 and 16 are answered: 15 with the first step that is not possible, counted over run-in, first and second round in one list;
--- 16 where both rounds end lower. And that earlier rows come first: 13 after 12, 24 after 15 and 16, and 17 after 24. Assumes nothing.
+-- When refusals 15, 16 and 24 are answered: 15 with the first step that is not possible, counted over run-in, first and second round in one list;
+-- 16 where both rounds end lower; 24 with the position in the plan. And that earlier rows come first: 13 after 12, 24 after 15 and 16, and 17
+-- after 24. Assumes nothing.
 use mathlib.Core.Path.{_≡_, refl, _∙_}
-use mathlib.Core.Bool.{Bool, _&&_}
+use mathlib.Core.Bool.{Bool, not, _&&_}
 use mathlib.Core.List.{List, [], _∷_, _++_}
 use mathlib.Core.Logic.{_↔_}
-use Prim.Native.Nat.{ℕ, suc, _+_, _<_}
+use Prim.Native.Nat.{ℕ, zero, suc, _+_, _<_}
 use native.Mathlib.Nat.{add-zero, zero-add, add-suc, suc-add}
 use native.Mathlib.Omega.{arith}
 use native.Mathlib.Decide.{decLe}
@@ -21,15 +22,17 @@ use Rattle.refusals.specs.declared.Refusal.the-variants.{ArcNumber, OtherMode, 
 use Rattle.refusals.specs.declared.Verdict.{Verdict}
 use Rattle.refusals.specs.declared.Verdict.the-variants.{Yes, Refused}
 use Rattle.refusals.specs.Refusals.{refuse}
-use Rattle.refusals.proofs.Verdicts.{clash, refuse-not, and-then-second}
+use Rattle.refusals.proofs.Verdicts.{clash, refuse-not, and-then-first, and-then-second}
+use Rattle.refusals.proofs.Scan.{FirstOf}
 use Rattle.model.specs.Automaton.{Automaton, arcAt, moveOf, hasBarred}
 use Rattle.model.specs.Plans.{Plan, walkedArcs}
 use Rattle.judge.specs.declared.Ran.{Ran}
 use Rattle.judge.specs.declared.Ran.the-variants.{Through, Stops}
 use Rattle.judge.specs.Shape.{numbers, chain, numbersThenChain}
 use Rattle.judge.specs.Charges.{ranOn, ran, afterRan, secondRound, rounds, charges}
-use Rattle.judge.specs.Colours.{barredFrom, coloursOf, acceptedOf}
+use Rattle.judge.specs.Colours.{missingFrom, barredFrom, coloursOf, acceptedOf}
 use Rattle.judge.specs.Judged.{servesOf}
+use Rattle.judge.proofs.Firsts.{barred-first}
 use Rattle.judge.proofs.Runs.{after-ran, ran-walked}
 
 -- what follows a list that is walked through, as a walk
@@ -193,6 +196,21 @@ unfolding acceptedOf
 accepted-colour g x p d =
     and-then-second (barredFrom g x (p .cycle) (length (p .prefix))) (coloursOf g x (p .cycle)) (MissingColour d)
     (barred-not g x (p .cycle) (length (p .prefix)) d)
+
+-- 17 does not answer 24
+missing-not : (has : ℕ → Bool) (f j e : ℕ) → missingFrom has f j ≡ Refused (BarredColour e) → ⊥
+unfolding missingFrom
+missing-not has zero j e = λ q. clash (cc)
+missing-not has (suc f) j e = refuse-not (not (has j)) (MissingColour j) (BarredColour e) _ (λ q. clash (cc)) (missing-not has f (suc j) e)
+
+-- "A barred colour in the round is 24, .. with the plan position of the round's first arc that has one": the length of the run-in and that arc's
+-- place in the round
+pub accepted-barred : (g : Automaton) (x : ℕ) (p : Plan) (e : ℕ) → (acceptedOf g x p ≡ Refused (BarredColour e))
+    ↔ ((d : ℕ) × (e ≡ length (p .prefix) + d) × FirstOf (λ j. hasBarred g x (getD (p .cycle) j 0)) (length (p .cycle)) d)
+unfolding acceptedOf coloursOf
+accepted-barred g x p e =
+    let row = barred-first g x (p .cycle) (length (p .prefix)) e in
+    (λ q. row .0 (and-then-first _ _ (BarredColour e) (missing-not _ (g .colours) 0 e) q), λ h. accepted-order g x p (BarredColour e) (row .1 h))
 
 -- 12 does not answer 13
 numbers-not : (m : ℕ) (w : List ℕ) (i d : ℕ) → numbers m w i ≡ Refused (OtherMode d) → ⊥

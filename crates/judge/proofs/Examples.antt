@@ -1,4 +1,5 @@
--- Document 01's examples A to L, from the definitions: one theorem over the table of specs/Examples. Assumes nothing.
+-- Document 01's examples A to L, from the definitions: one theorem over the table of specs/Examples; and what barred colours change in some of
+-- them. Assumes nothing.
 use mathlib.Core.Path.{_≡_, refl, subst}
 use mathlib.Core.List.{List, [], _∷_}
 use Prim.Native.Nat.{ℕ, zero, suc, _<_}
@@ -8,7 +9,7 @@ use lib.ListN.{length, getD}
 use Rattle.walks.specs.BoundedStep.{stepped}
 use Rattle.refusals.specs.declared.Answer.{Answer}
 use Rattle.refusals.specs.declared.Verdict.the-variants.{Yes}
-use Rattle.refusals.specs.Refusals.{answerOf}
+use Rattle.refusals.specs.Refusals.{answer, answerOf}
 use Rattle.refusals.proofs.Verdicts.{and-then-yes}
 use Rattle.model.specs.Automaton.{Automaton}
 use Rattle.model.specs.Lists.{automatonOf}
@@ -17,8 +18,8 @@ use Rattle.model.specs.Plans.{SomePlan}
 use Rattle.judge.specs.Shape.{planOf, shape, lengthOf, numbers, chain, closing}
 use Rattle.judge.specs.Charges.{charges, rounds, secondRound, ran}
 use Rattle.judge.specs.Colours.{barredFrom, coloursOf, acceptedOf, missingFrom}
-use Rattle.judge.specs.Judged.{judged, judgedLevels, judgedPlan, servesOf}
-use Rattle.judge.specs.Examples.{Claim, Found, None, Judged, Example, modelIn, Admitted, Says, Stands, All, ofA, ofB, ofG, examples}
+use Rattle.judge.specs.Judged.{judged, judgedLevels, judgedPlan, servesOf, judgedAnswer}
+use Rattle.judge.specs.Examples.{Claim, Found, None, Judged, Example, modelIn, Admitted, Says, Stands, All, ofA, ofB, ofG, ofJ, examples}
 use Rattle.judge.proofs.Judged.{judged-yes}
 use Rattle.judge.proofs.NoPlan.{no-plan}
 
@@ -50,6 +51,20 @@ examples-hold =
     and refl
     and refl
     and tt
+
+-- judging's number and detail in a row's model, with a byte of barred colours
+abbrev answers : Example → ℕ → ℕ → ℕ → List ℕ → Answer
+answers r x p q w = judgedAnswer (r .modes) 0 (r .colours) (r .arcs) x (r .bound) (r .credit) p q w
+
+-- Document 02, Ask 6. I's plan with its colour barred: 24 at the round's position in the plan. J's model, c 2, run-in 0, round 1: colour 0 is
+-- missing, and is passed over where it is barred, also with bits at or above k; it may stand in the run-in.
+pub barred-examples :
+    (answers (ofG 5 0 Found) 1 6 1 (0 ∷ 0 ∷ 0 ∷ 0 ∷ 0 ∷ 1 ∷ 2 ∷ []) ≡ answer 24 6)
+    × (answers (ofJ 2 2 Found) 0 1 1 (0 ∷ 1 ∷ []) ≡ answer 17 0)
+    × (answers (ofJ 2 2 Found) 1 1 1 (0 ∷ 1 ∷ []) ≡ answer 0 0)
+    × (answers (ofJ 2 2 Found) 253 1 1 (0 ∷ 1 ∷ []) ≡ answer 0 0)
+unfolding judged judgedLevels judgedPlan servesOf fitness header unfitLists arcsVerdict unfitArc levelsOf shape lengthOf numbers chain closing charges rounds secondRound ran stepped acceptedOf barredFrom coloursOf missingFrom
+barred-examples = (refl, refl, refl, refl)
 
 -- What a row that stands says, in the words of models and judging alone; this pins each case of Says.
 module _ (x : Example) (stands : Stands x) where

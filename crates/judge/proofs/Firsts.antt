@@ -1,16 +1,19 @@
 -- The details of refusals 12, 13, 24 and 17: each is the first place where its condition holds. Assumes nothing.
-use mathlib.Core.Path.{_≡_, refl}
-use mathlib.Core.Bool.{Bool, not, _||_}
+use mathlib.Core.Path.{_≡_, refl, sym, ap, _∙_}
+use mathlib.Core.Bool.{Bool, true, false, not, _||_}
 use mathlib.Core.List.{List, [], _∷_}
 use mathlib.Core.Logic.{_↔_}
-use Prim.Native.Nat.{ℕ, zero, suc, _+_, _-_, _<_}
+use Prim.Native.Nat.{ℕ, zero, suc, _+_, _-_, _≤_, _<_}
 use native.Mathlib.Nat.{sub-self, sub-zero, add-zero, add-suc}
 use native.Mathlib.Omega.{arith}
 use lib.Dec.{leb, eqb}
 use lib.ListN.{length, getD, take, drop}
 use lib.Seq.{drop-cons, drop-length}
 use Rattle.refusals.specs.declared.Refusal.the-variants.{ArcNumber, OtherMode, MissingColour, BarredColour}
+use Rattle.refusals.specs.declared.Verdict.{Verdict}
 use Rattle.refusals.specs.declared.Verdict.the-variants.{Refused}
+use Rattle.refusals.specs.Refusals.{refuse}
+use Rattle.refusals.proofs.Verdicts.{clash}
 use Rattle.refusals.proofs.Scan.{FirstOf, Scan, scan-first}
 use Rattle.model.specs.Automaton.{Automaton, arcAt, bit, meets, hasBarred}
 use Rattle.judge.specs.Shape.{numbers, chain, modeAfter}
@@ -55,7 +58,7 @@ missing-scan has f =
 pub missing-first : (has : ℕ → Bool) (f d : ℕ) → (missingFrom has f 0 ≡ Refused (MissingColour d)) ↔ FirstOf (λ j. not (has j)) f d
 missing-first has f = rw (sub-zero f) at (scan-first (λ j. not (has j)) MissingColour f (λ k. missingFrom has (f - k) k) (missing-scan has f))
 
--- 17 is answered with the lowest-numbered colour that is not barred and stands on no arc of the cycle
+-- 17 is answered with the lowest-numbered colour that is not barred and stands on no arc of the cycle: "17 and its detail pass over" the others
 pub colour-first : (g : Automaton) (x : ℕ) (w : List ℕ) (d : ℕ) → (coloursOf g x w ≡ Refused (MissingColour d))
     ↔ FirstOf (λ j. not (bit x j || someArc (meets g j) w)) (g .colours) d
 unfolding coloursOf
@@ -72,8 +75,28 @@ barred-scan g x w i =
       tells = λ m n e. let z : i + m ≡ i + n = cc in omega arith;
     }
 
--- 24 is answered with the first position, counted from i, whose arc has a barred colour
-pub barred-first : (g : Automaton) (x : ℕ) (w : List ℕ) (i d : ℕ) → (barredFrom g x w i ≡ Refused (BarredColour (i + d)))
-    ↔ FirstOf (λ j. hasBarred g x (getD w j 0)) (length w) d
-barred-first g x w i =
-    rw (add-zero i) at (scan-first (λ j. hasBarred g x (getD w j 0)) (λ j. BarredColour (i + j)) (length w) (λ k. barredFrom g x (drop k w) (i + k)) (barred-scan g x w i))
+-- no position before i is answered
+barred-from : (g : Automaton) (x : ℕ) (w : List ℕ) (i e : ℕ) → barredFrom g x w i ≡ Refused (BarredColour e) → i ≤ e
+unfolding barredFrom
+barred-from g x [] i e q = clash (cc)
+barred-from g x (a ∷ w) i e q = go (hasBarred g x a) q (barred-from g x w (suc i) e)
+  where
+    go : (t : Bool) → refuse t (BarredColour i) (barredFrom g x w (suc i)) ≡ Refused (BarredColour e)
+        → (barredFrom g x w (suc i) ≡ Refused (BarredColour e) → suc i ≤ e) → i ≤ e
+    go true q rest = let z : i ≡ e = cc in omega arith
+    go false q rest = omega (arith, rest q)
+
+-- 24 is answered "with the plan position of the round's first arc that has one": i and the place of the first arc that has a barred colour
+pub barred-first : (g : Automaton) (x : ℕ) (w : List ℕ) (i e : ℕ) → (barredFrom g x w i ≡ Refused (BarredColour e))
+    ↔ ((d : ℕ) × (e ≡ i + d) × FirstOf (λ j. hasBarred g x (getD w j 0)) (length w) d)
+barred-first g x w i e = (
+  λ q.
+      let there : e ≡ i + (e - i) = omega (arith, barred-from g x w i e q) in
+      (e - i, there, first (e - i) .0 (q ∙ ap {B = Verdict} (λ (z : ℕ). Refused (BarredColour z)) there)),
+  λ (d, there, f). first d .1 f ∙ ap {B = Verdict} (λ (z : ℕ). Refused (BarredColour z)) (sym there),
+)
+  where
+    first : (d : ℕ) → (barredFrom g x w i ≡ Refused (BarredColour (i + d))) ↔ FirstOf (λ j. hasBarred g x (getD w j 0)) (length w) d
+    first =
+        rw (add-zero i) at
+        (scan-first (λ j. hasBarred g x (getD w j 0)) (λ j. BarredColour (i + j)) (length w) (λ k. barredFrom g x (drop k w) (i + k)) (barred-scan g x w i))

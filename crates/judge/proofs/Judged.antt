@@ -1,24 +1,27 @@
--- What the yes of judging says: the model is fit, the levels are right, the plan has its lengths, and is feasible and accepted. Assumes
--- nothing.
-use mathlib.Core.Path.{_≡_}
+-- What the yes of judging says: the model is fit, the levels are right, the plan has its lengths, and is feasible and accepted. And what the
+-- byte of barred colours does not change. Assumes nothing.
+use mathlib.Core.Path.{_≡_, ap}
 use mathlib.Core.List.{List}
 use mathlib.Core.Logic.{_↔_}
-use Prim.Native.Nat.{ℕ, _≤_}
+use Prim.Native.Nat.{ℕ, _≤_, _<_}
+use lib.ListN.{drop}
+use Rattle.refusals.specs.declared.Verdict.{Verdict}
 use Rattle.refusals.specs.declared.Verdict.the-variants.{Yes}
+use Rattle.refusals.specs.Refusals.{andThen}
 use Rattle.refusals.proofs.Verdicts.{and-then-yes}
 use Rattle.refusals.proofs.Numbers.{yes-number}
-use Rattle.model.specs.Automaton.{Automaton}
+use Rattle.model.specs.Automaton.{Automaton, bit, meets}
 use Rattle.model.specs.Lists.{Lists, automatonOf}
 use Rattle.model.specs.Fitness.{fitness, levelsOf}
 use Rattle.model.specs.Plans.{Plan, Feasible, Accepted, Serves}
 use Rattle.model.proofs.Fitness.{fitness-yes, levels-yes}
 use Rattle.judge.specs.Shape.{planOf, shape, Lengths}
 use Rattle.judge.specs.Charges.{charges}
-use Rattle.judge.specs.Colours.{acceptedOf}
+use Rattle.judge.specs.Colours.{someArc, missingFrom, acceptedOf}
 use Rattle.judge.specs.Judged.{servesOf, judgedPlan, judgedLevels, judged, judgedAnswer, Right}
 use Rattle.judge.proofs.Shapes.{shape-yes}
 use Rattle.judge.proofs.Runs.{charges-yes}
-use Rattle.judge.proofs.Colours.{accepted-yes}
+use Rattle.judge.proofs.Colours.{accepted-yes, accepted-unbarred, accepted-same}
 
 module _ (g : Automaton) (x b c : ℕ) where
   -- 15, 16, 24 and 17 do not apply exactly where the plan is feasible and accepted
@@ -69,3 +72,25 @@ judged-zero n s k l x b c p q w =
     let zero = yes-number (judged n s k l x b c p q w) in
     let right = judged-yes n s k l x b c p q w in
     (λ e. right .0 (zero .0 e), λ r. zero .1 (right .1 r))
+
+module _ (n s k : ℕ) (l : Lists) where
+  -- With nothing barred every answer is the one of document 01: 1 to 6, 11 to 16, and 17 of the lowest-numbered colour that is missing.
+  pub judged-unbarred : (b c p q : ℕ) (w : List ℕ) → judged n s k l 0 b c p q w
+      ≡ andThen (fitness n s k l) (andThen (levelsOf b c) (andThen (shape (automatonOf n s k l) p q w) (andThen
+      (charges (automatonOf n s k l) b c (planOf p w)) (missingFrom (λ j. someArc (meets (automatonOf n s k l) j) (drop p w)) k 0))))
+  unfolding judged judgedLevels judgedPlan servesOf
+  judged-unbarred b c p q w =
+      let g = automatonOf n s k l in
+      ap {B = Verdict}
+      (λ (v : Verdict). andThen (fitness n s k l) (andThen (levelsOf b c) (andThen (shape g p q w) (andThen (charges g b c (planOf p w)) v))))
+      (accepted-unbarred g (planOf p w))
+
+  -- "A byte names these barred colours; its bits at or above k are ignored."
+  pub judged-ignored : (x y : ℕ) → ((j : ℕ) → j < k → bit x j ≡ bit y j) → (b c p q : ℕ) (w : List ℕ)
+      → judged n s k l x b c p q w ≡ judged n s k l y b c p q w
+  unfolding judged judgedLevels judgedPlan servesOf
+  judged-ignored x y same b c p q w =
+      let g = automatonOf n s k l in
+      ap {B = Verdict}
+      (λ (v : Verdict). andThen (fitness n s k l) (andThen (levelsOf b c) (andThen (shape g p q w) (andThen (charges g b c (planOf p w)) v))))
+      (accepted-same g x y same (planOf p w))

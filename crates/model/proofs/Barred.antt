@@ -1,8 +1,8 @@
 -- Bytes of barred colours: what it means that a byte has a bit in common with another, by bits, by a mask and as the code tests it. Assumes
 -- nothing.
 use mathlib.Core.Path.{_≡_, refl, sym, ap, _∙_}
-use mathlib.Core.Bool.{Bool, true, false, false≢true, not, _&&_}
-use mathlib.Core.Logic.{_↔_}
+use mathlib.Core.Bool.{Bool, true, false, false≢true, not, _&&_, and-eq-true-iff}
+use mathlib.Core.Logic.{_↔_, inl, inr, ⊎-elim}
 use Prim.Native.Nat.{ℕ, zero, suc, _+_, _*_, _/_, _%_, _^_, _≤_, _<_}
 use native.Mathlib.Nat.{div-one}
 use native.Mathlib.Omega.{arith}
@@ -11,8 +11,8 @@ use lib.Bits.{bitAnd}
 use lib.Dec.{eqb}
 use lib.Pow.{mod-pow-add}
 use borrow.Author.Tests.{eq-eqb, eqb-true}
-use Rattle.refusals.proofs.Tests.{or-no, and-no}
-use Rattle.model.specs.Automaton.{bit, common}
+use Rattle.refusals.proofs.Tests.{or-yes, or-no, and-no}
+use Rattle.model.specs.Automaton.{Automaton, arcAt, bit, meets, common, hasBarred}
 use Rattle.model.proofs.Bits.{colours-below, bit-zero, half-bit, and-bit}
 
 -- the bits below k of a number's rest by 2 ^ k are its own
@@ -39,6 +39,32 @@ common-none x y (suc k) =
       λ e j h q. elim (ℕ-discrete j k) [ yes z ↦ rw z (here .0 (split .0 e .0) (rw z at q)) | no z ↦ ih .0 (split .0 e .1) j (omega arith) q ],
       λ f. split .1 (here .1 (λ q. f k (omega arith) q), ih .1 (λ j h q. f j (omega arith) q)),
     )
+
+-- some bit below k is one of both
+common-some : (x y k : ℕ) → (common x y k ≡ true) ↔ ((j : ℕ) × (j < k) × (bit x j ≡ true) × (bit y j ≡ true))
+common-some x y zero = (λ e. absurd (false≢true e), λ (j, h, s, t). absurd (omega arith))
+common-some x y (suc k) =
+    let ih = common-some x y k in
+    let split = or-yes (bit x k && bit y k) (common x y k) in
+    let here = and-eq-true-iff (bit x k) (bit y k) in (
+      λ e. ⊎-elim (λ q. let (s, t) = here .0 q in (k, omega arith, s, t)) (λ q. let (j, h, s, t) = ih .0 q in (j, omega arith, s, t)) (split .0 e),
+      λ (j, h, s, t).
+          split .1 (elim (ℕ-discrete j k) [ yes z ↦ inl (here .1 (rw z at s, rw z at t)) | no z ↦ inr (ih .1 (j, omega arith, s, t)) ]),
+    )
+
+-- bytes with the same bits below k have the same in common with another
+common-same : (x y z k : ℕ) → ((j : ℕ) → j < k → bit x j ≡ bit y j) → common x z k ≡ common y z k
+common-same x y z zero f = refl
+common-same x y z (suc k) f = rw (f k (omega arith), common-same x y z k (λ j h. f j (omega arith))) refl
+
+module _ (g : Automaton) (a : ℕ) where
+  -- an arc has a barred colour exactly where it meets a colour of the model that the byte names
+  pub has-barred : (x : ℕ) → (hasBarred g x a ≡ true) ↔ ((j : ℕ) × (j < g .colours) × (bit x j ≡ true) × (meets g j a ≡ true))
+  has-barred x = common-some x (arcAt g a .colours) (g .colours)
+
+  -- "its bits at or above k are ignored"
+  pub barred-ignored : (x y : ℕ) → ((j : ℕ) → j < g .colours → bit x j ≡ bit y j) → hasBarred g x a ≡ hasBarred g y a
+  barred-ignored x y same = common-same x y (arcAt g a .colours) (g .colours) same
 
 -- the mask of the common bits is 0 where there are none
 mask-none : (x y : ℕ) → (bitAnd y x ≡ 0) ↔ ((j : ℕ) → bit x j ≡ true → bit y j ≡ false)

@@ -3,11 +3,11 @@ use mathlib.Core.Path.{_≡_, refl, sym, ap, _∙_}
 use mathlib.Core.Bool.{Bool, false, _&&_, _||_}
 use mathlib.Core.Logic.{_↔_}
 use Prim.Native.Nat.{ℕ, zero, suc, _+_, _*_, _/_, _%_, _^_, _≤_, _<_, min, max}
-use native.Mathlib.Nat.{one-mul, add-zero, add-suc, two-pow-succ, pow-suc, pow-succ', div-one, div-eq-of-lt, mul-mod-left, div-div-eq-div-mul, div-lt-iff-lt-mul}
+use native.Mathlib.Nat.{one-mul, add-zero, add-suc, two-pow-succ, pow-suc, div-one, div-eq-of-lt, mul-mod-left, div-div-eq-div-mul, div-lt-iff-lt-mul}
 use native.Mathlib.Omega.{arith}
 use lib.Bits.{bitAnd, bitOr, and-step, and-shr, or-step, or-shr}
 use lib.Dec.{eqb, eqb·zero-suc, eqb·suc-zero, eqb·suc-suc, lit<}
-use lib.Pow.{pow-pos, pow-mono, shl-exact}
+use lib.Pow.{pow-pos, pow-mono, pow-add, shl-exact}
 use borrow.Author.Tests.{eqb-false}
 use Rattle.model.specs.Automaton.{Automaton, arcAt, bit, meets}
 
@@ -46,9 +46,14 @@ colours-below x k = (to, from)
 pub bit-zero : (j : ℕ) → bit 0 j ≡ false
 bit-zero j = colours-below 0 0 .0 (omega arith) j (omega arith)
 
+-- bit j of a number without its k lowest bits is its bit k + j
+pub shifted-bit : (y k j : ℕ) → bit (y / 2 ^ k) j ≡ bit y (k + j)
+shifted-bit y k j =
+    ap {B = Bool} (λ (x : ℕ). eqb (x % 2) 1) (div-div-eq-div-mul y (2 ^ k) (2 ^ j) ∙ ap {B = ℕ} (λ (x : ℕ). y / x) (sym (pow-add 2 k j)))
+
 -- bit j of the half of a number is its bit j + 1
 pub half-bit : (y j : ℕ) → bit (y / 2) j ≡ bit y (suc j)
-half-bit y j = ap {B = Bool} (λ (x : ℕ). eqb (x % 2) 1) (div-div-eq-div-mul y 2 (2 ^ j) ∙ ap {B = ℕ} (λ (x : ℕ). y / x) (sym (pow-succ' 2 j)))
+half-bit y j = shifted-bit y 1 j ∙ ap {B = Bool} (bit y) (omega arith)
 
 -- of a power of two, 2 ^ i, bit i alone is set: the bits of a colour byte are counted from the lowest
 pub power-bit : (i j : ℕ) → bit (2 ^ i) j ≡ eqb i j

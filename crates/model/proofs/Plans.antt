@@ -119,7 +119,7 @@ accepted-buchi g x p h = (
 pub accepted-none : (g : Automaton) (x : ℕ) (p : Plan) → g .colours ≡ 0 → Accepted g x p
 accepted-none g x p e = record { required = λ j h. absurd (omega arith); barred = λ j h. absurd (omega arith) }
 
--- where no colour of the model is barred, accepted is that each of the k colours stands on some arc of the round
+-- where no colour of the model is barred, accepted is document 01's word: "each of the k colours stands on some arc of the round"
 pub accepted-all : (g : Automaton) (x : ℕ) (p : Plan) → ((j : ℕ) → j < g .colours → bit x j ≡ false)
     → Accepted g x p ↔ ((j : ℕ) → j < g .colours → Meets g j (p .cycle))
 accepted-all g x p none = (
@@ -127,17 +127,24 @@ accepted-all g x p none = (
   λ f. record { required = λ j h e. f j h; barred = λ j h e m. false≢true (sym (none j h) ∙ e) },
 )
 
--- and so it is for the byte 0
-pub accepted-zero : (g : Automaton) (p : Plan) → Accepted g 0 p ↔ ((j : ℕ) → j < g .colours → Meets g j (p .cycle))
-accepted-zero g p = accepted-all g 0 p (λ j h. bit-zero j)
+-- so with nothing barred a plan is what it was before Ask 6
+pub plan-unbarred : (g : Automaton) (b c : ℕ) → SomePlan g 0 b c
+    ↔ ((p : Plan) × IsPlan g p × Feasible g b c p × ((j : ℕ) → j < g .colours → Meets g j (p .cycle)))
+plan-unbarred g b c = (
+  λ (p, s). (p, s .plan, s .feasible, all p .0 (s .accepted)),
+  λ (p, plan, feasible, met). (p, record { plan = plan; feasible = feasible; accepted = all p .1 met }),
+)
+  where
+    all : (p : Plan) → Accepted g 0 p ↔ ((j : ℕ) → j < g .colours → Meets g j (p .cycle))
+    all p = accepted-all g 0 p (λ j h. bit-zero j)
 
--- "its bits at or above k are ignored"
-pub accepted-ignored : (g : Automaton) (x y : ℕ) (p : Plan) → ((j : ℕ) → j < g .colours → bit x j ≡ bit y j) → Accepted g x p → Accepted g y p
-accepted-ignored g x y p same a =
-    record { required = λ j h e. a .required j h (same j h ∙ e); barred = λ j h e. a .barred j h (same j h ∙ e) }
+-- "its bits at or above k are ignored": bytes with the same bits below k accept the same plans
+module _ (g : Automaton) (x y : ℕ) (same : (j : ℕ) → j < g .colours → bit x j ≡ bit y j) where
+  pub accepted-ignored : (p : Plan) → Accepted g x p → Accepted g y p
+  accepted-ignored p a = record { required = λ j h e. a .required j h (same j h ∙ e); barred = λ j h e. a .barred j h (same j h ∙ e) }
 
-pub serves-ignored : (g : Automaton) (x y b c : ℕ) (p : Plan) → ((j : ℕ) → j < g .colours → bit x j ≡ bit y j) → Serves g x b c p → Serves g y b c p
-serves-ignored g x y b c p same s = record { plan = s .plan; feasible = s .feasible; accepted = accepted-ignored g x y p same (s .accepted) }
+  pub serves-ignored : (b c : ℕ) (p : Plan) → Serves g x b c p → Serves g y b c p
+  serves-ignored b c p s = record { plan = s .plan; feasible = s .feasible; accepted = accepted-ignored p (s .accepted) }
 
 -- that SomePlan fails means that "no plan of any length is feasible and accepted" (document 01, demand 3); this pins each field of Serves
 pub no-plan-exists : (g : Automaton) (x b c : ℕ) → (SomePlan g x b c → ⊥) ↔ ((p : Plan) → IsPlan g p → Feasible g b c p → Accepted g x p → ⊥)

@@ -1,11 +1,16 @@
--- When the tests that rows of the table are made of say no. Assumes nothing.
+-- When the tests that rows of the table are made of say no, and when one of two says yes. Assumes nothing.
 use mathlib.Core.Path.{_≡_, refl}
 use mathlib.Core.Bool.{Bool, true, false, not, _&&_, _||_}
-use mathlib.Core.Logic.{_↔_}
+use mathlib.Core.Logic.{_↔_, _⊎_, inl, inr, ⊎-elim}
 use Prim.Native.Nat.{ℕ, _≤_, _<_}
 use lib.Dec.{leb, ltb, eqb}
 use borrow.Author.Tests.{ltb-false, leb-false, eqb-true, not-false, le-ltb, lt-leb, eq-eqb}
 use Rattle.refusals.proofs.Verdicts.{clash}
+
+-- one of two
+pub or-yes : (s t : Bool) → ((s || t) ≡ true) ↔ ((s ≡ true) ⊎ (t ≡ true))
+or-yes true t = (λ e. inl refl, λ e. refl)
+or-yes false t = (λ e. inr e, ⊎-elim (λ e. clash (cc)) (λ e. e))
 
 -- neither of two
 pub or-no : (s t : Bool) → ((s || t) ≡ false) ↔ ((s ≡ false) × (t ≡ false))

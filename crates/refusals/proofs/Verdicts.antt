@@ -39,6 +39,11 @@ pub refuse-not : (t : Bool) (q r : Refusal) (v : Verdict) → (Refused q ≡ Ref
 refuse-not true q r v here after = here
 refuse-not false q r v here after = after
 
+-- a refusal that the second of two checks does not answer is the first's
+pub and-then-first : (u v : Verdict) (r : Refusal) → (v ≡ Refused r → ⊥) → andThen u v ≡ Refused r → u ≡ Refused r
+and-then-first Yes v r not e = absurd (not e)
+and-then-first (Refused q) v r not e = e
+
 -- a refusal that the first of two checks does not answer is answered only where that check says yes
 pub and-then-second : (u v : Verdict) (r : Refusal) → (u ≡ Refused r → ⊥) → andThen u v ≡ Refused r → u ≡ Yes
 and-then-second Yes v r not e = refl

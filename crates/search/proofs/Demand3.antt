@@ -36,11 +36,11 @@ found-lengths {p = p} {q} {plan′ = plan′} f =
     }
 
 -- the plan of an answer with one
-pub answered-found : {g : Automaton} {b c p q : ℕ} {plan plan′ : List ℕ} → Answered g b c plan plan′ (outcome.Plan p q) → Found g b c p q plan plan′
+pub answered-found : {g : Automaton} {x b c p q : ℕ} {plan plan′ : List ℕ} → Answered g x b c plan plan′ (outcome.Plan p q) → Found g x b c p q plan plan′
 answered-found (found f) = f
 
 -- an answer without a plan leaves the plan buffer as it was
-answered-kept : {g : Automaton} {b c : ℕ} {plan plan′ : List ℕ} {r : Searched} → Answered g b c plan plan′ r
+answered-kept : {g : Automaton} {x b c : ℕ} {plan plan′ : List ℕ} {r : Searched} → Answered g x b c plan plan′ r
     → (searchAnswer r .answer .number ≡ 0 → ⊥) → plan′ ≡ plan
 answered-kept (none e) refused = e
 answered-kept (found f) refused = absurd (refused refl)
@@ -48,25 +48,25 @@ answered-kept (found f) refused = absurd (refused refl)
 -- the working space after a call, by what 1 to 9 say: "After 10 or a plan, the whole lent working space is zero", else it is as it was
 abbrev pub WorkLeft : Verdict → List ℕ → List ℕ → Type 0
 WorkLeft Yes work work′ = work′ ≡ replicate (length work) 0
-WorkLeft (Refused x) work work′ = work′ ≡ work
+WorkLeft (Refused y) work work′ = work′ ≡ work
 
-module _ {g : Automaton} {b c : ℕ} {work plan work′ plan′ : List ℕ} {r : Searched} where
+module _ {g : Automaton} {x b c : ℕ} {work plan work′ plan′ : List ℕ} {r : Searched} where
   -- what is left in the buffers: a refusal, 10 among them, leaves the plan buffer as it was ..
-  pub search-plan-kept : (v : Verdict) → Search v g b c work plan work′ plan′ r → (searchAnswer r .answer .number ≡ 0 → ⊥) → plan′ ≡ plan
+  pub search-plan-kept : (v : Verdict) → Search v g x b c work plan work′ plan′ r → (searchAnswer r .answer .number ≡ 0 → ⊥) → plan′ ≡ plan
   search-plan-kept Yes h refused = answered-kept (h .decided refl .answered) refused
-  search-plan-kept (Refused x) h refused = h .refused x refl .2
+  search-plan-kept (Refused y) h refused = h .refused y refl .2
 
   -- .. and the working space is zero, or as it was
-  pub search-work : (v : Verdict) → Search v g b c work plan work′ plan′ r → WorkLeft v work work′
+  pub search-work : (v : Verdict) → Search v g x b c work plan work′ plan′ r → WorkLeft v work work′
   search-work Yes h = h .decided refl .cleared
-  search-work (Refused x) h = h .refused x refl .1
+  search-work (Refused y) h = h .refused y refl .1
 
 -- judging says yes to a plan that is found where none of 1 to 9 applies
-found-judged : (n s k : ℕ) (l : Lists) (b c words bytes : ℕ) {p q : ℕ} {plan plan′ : List ℕ} → searchable n s k l b c words bytes ≡ Yes
-    → Found (automatonOf n s k l) b c p q plan plan′ → judged n s k l b c p q (take (p + q) plan′) ≡ Yes
-found-judged n s k l b c words bytes {p} {q} {plan′ = plan′} through f =
+found-judged : (n s k : ℕ) (l : Lists) (x b c words bytes : ℕ) {p q : ℕ} {plan plan′ : List ℕ} → searchable n s k l b c words bytes ≡ Yes
+    → Found (automatonOf n s k l) x b c p q plan plan′ → judged n s k l x b c p q (take (p + q) plan′) ≡ Yes
+found-judged n s k l x b c words bytes {p} {q} {plan′ = plan′} through f =
     let able = searchable-yes n s k l b c words bytes .0 through in
-    judged-yes n s k l b c p q (take (p + q) plan′) .1 (record {
+    judged-yes n s k l x b c p q (take (p + q) plan′) .1 (record {
       equal = able .equal;
       fit = able .fit;
       bound = able .low;
@@ -75,43 +75,43 @@ found-judged n s k l b c words bytes {p} {q} {plan′ = plan′} through f =
       serves = f .serves;
     })
 
-module _ (n s k : ℕ) (l : Lists) (b c : ℕ) {work plan work′ plan′ : List ℕ} where
+module _ (n s k : ℕ) (l : Lists) (x b c : ℕ) {work plan work′ plan′ : List ℕ} where
   -- where a plan is answered, none of 1 to 9 applies
-  pub plan-searchable : {p q : ℕ} → SearchOf n s k l b c work plan work′ plan′ (outcome.Plan p q)
+  pub plan-searchable : {p q : ℕ} → SearchOf n s k l x b c work plan work′ plan′ (outcome.Plan p q)
       → searchable n s k l b c (length work) (length plan) ≡ Yes
   plan-searchable {p} {q} h = go (searchable n s k l b c (length work) (length plan)) refl
     where
       go : (v : Verdict) → searchable n s k l b c (length work) (length plan) ≡ v → searchable n s k l b c (length work) (length plan) ≡ Yes
       go Yes e = e
-      go (Refused x) e = let stopped = h .refused x e .0 in clash (cc)
+      go (Refused y) e = let stopped = h .refused y e .0 in clash (cc)
 
   -- judging says yes to the plan that is handed back ..
-  pub search-judged : {p q : ℕ} → SearchOf n s k l b c work plan work′ plan′ (outcome.Plan p q) → judged n s k l b c p q (take (p + q) plan′) ≡ Yes
-  search-judged h = let through = plan-searchable h in found-judged n s k l b c (length work) (length plan) through (answered-found (h .decided through .answered))
+  pub search-judged : {p q : ℕ} → SearchOf n s k l x b c work plan work′ plan′ (outcome.Plan p q) → judged n s k l x b c p q (take (p + q) plan′) ≡ Yes
+  search-judged h = let through = plan-searchable h in found-judged n s k l x b c (length work) (length plan) through (answered-found (h .decided through .answered))
 
   -- .. and by the numbers that are answered: where the number is 0, to the plan with this p and q
-  pub search-zero : {r : Searched} → SearchOf n s k l b c work plan work′ plan′ r → searchAnswer r .answer .number ≡ 0
-      → judged n s k l b c (searchAnswer r .p) (searchAnswer r .q) (take (searchAnswer r .p + searchAnswer r .q) plan′) ≡ Yes
+  pub search-zero : {r : Searched} → SearchOf n s k l x b c work plan work′ plan′ r → searchAnswer r .answer .number ≡ 0
+      → judged n s k l x b c (searchAnswer r .p) (searchAnswer r .q) (take (searchAnswer r .p + searchAnswer r .q) plan′) ≡ Yes
   search-zero {r} h zero = go (searchable n s k l b c (length work) (length plan)) refl
     where
       go : (v : Verdict) → searchable n s k l b c (length work) (length plan) ≡ v
-          → judged n s k l b c (searchAnswer r .p) (searchAnswer r .q) (take (searchAnswer r .p + searchAnswer r .q) plan′) ≡ Yes
-      go Yes e = found-judged n s k l b c (length work) (length plan) e (h .by-number .otherwise e (λ ten. absurd (omega (arith, zero, ten))) .1)
-      go (Refused x) e =
-          let number = ap {B = ℕ} (λ (a : Answer). a .number) (h .by-number .refused x e .0) in
-          absurd (omega (arith, zero, number, refusal-number x))
+          → judged n s k l x b c (searchAnswer r .p) (searchAnswer r .q) (take (searchAnswer r .p + searchAnswer r .q) plan′) ≡ Yes
+      go Yes e = found-judged n s k l x b c (length work) (length plan) e (h .by-number .otherwise e (λ ten. absurd (omega (arith, zero, ten))) .1)
+      go (Refused y) e =
+          let number = ap {B = ℕ} (λ (a : Answer). a .number) (h .by-number .refused y e .0) in
+          absurd (omega (arith, zero, number, refusal-number y))
 
-  module _ {r : Searched} (h : SearchOf n s k l b c work plan work′ plan′ r)
+  module _ {r : Searched} (h : SearchOf n s k l x b c work plan work′ plan′ r)
       (through : searchable n s k l b c (length work) (length plan) ≡ Yes) where
     -- where none of 1 to 9 applies, the answer is 10 exactly where no plan of any length is feasible and accepted
-    pub search-none : (r ≡ noPlan) ↔ (SomePlan (automatonOf n s k l) b c → ⊥)
+    pub search-none : (r ≡ noPlan) ↔ (SomePlan (automatonOf n s k l) x b c → ⊥)
     search-none = h .decided through .no-plan
 
     -- in the paper's number
-    pub search-ten : (searchAnswer r .answer .number ≡ 10) ↔ (SomePlan (automatonOf n s k l) b c → ⊥)
+    pub search-ten : (searchAnswer r .answer .number ≡ 10) ↔ (SomePlan (automatonOf n s k l) x b c → ⊥)
     search-ten = h .by-number .ten through
 
     -- and where there is a plan, one is found
-    pub search-complete : SomePlan (automatonOf n s k l) b c
-        → (p : ℕ) × (q : ℕ) × (r ≡ outcome.Plan p q) × Found (automatonOf n s k l) b c p q plan plan′
+    pub search-complete : SomePlan (automatonOf n s k l) x b c
+        → (p : ℕ) × (q : ℕ) × (r ≡ outcome.Plan p q) × Found (automatonOf n s k l) x b c p q plan plan′
     search-complete some = answered-plan (h .decided through .answered) (λ e. search-none .0 e some)

@@ -12,7 +12,8 @@ use Rattle.search.specs.Examples.{Answers}
 use Rattle.search.proofs.Searchable.{searchable-on}
 use Rattle.search.proofs.Demand3.{search-ten, search-complete}
 
--- where the buffers suffice for a row that holds, search answers as it says, nothing barred: A and G by a plan, B and H by 10 (judge Examples, examples-hold)
+-- where the buffers suffice for a row that holds, search answers as it says, with nothing barred: A and G by a plan, B and H by 10 (judge
+-- Examples, examples-hold)
 pub example-searched : (x : Example) {work plan work′ plan′ : List ℕ} {r : Searched} → Stands x
     → spaces (x .modes) (x .colours) (x .bound) (length work) (length plan) ≡ Yes
     → SearchOf (x .modes) 0 (x .colours) (x .arcs) 0 (x .bound) (x .credit) work plan work′ plan′ r → Answers (x .claim) r

@@ -1,7 +1,8 @@
 -- The laws of search, one idea a file: an arc that is tried (Trying), the passes of a task (Tasks), what the buffers hold (Spaces), the
 -- plan that is written (Written), the first mode whose peak a cycle keeps (Kept), the table of peaks and what it decides (Peaks), the rows and
--- groups that stand for a model (Standing), where none of 1 to 9 applies (Searchable). Demand3 says what a caller learns, in the numbers that are answered too, FoundPlan what
--- the plan that is handed back says, Agreed what any two answers to a call have in common, Examples what search answers to the examples.
+-- groups that stand for a model (Standing), where none of 1 to 9 applies (Searchable). Demand3 says what a caller learns, in the numbers that are
+-- answered too, FoundPlan what the plan that is handed back says, Agreed what any two answers to a call have in common, Barred what the byte of
+-- barred colours changes and what not, Examples what search answers to the examples.
 pub mod Trying
 pub mod Tasks
 pub mod Spaces
@@ -13,4 +14,5 @@ pub mod Searchable
 pub mod Demand3
 pub mod FoundPlan
 pub mod Agreed
+pub mod Barred
 pub mod Examples

@@ -115,44 +115,44 @@ module _ (n s k : ℕ) (l : Lists) (b c words bytes : ℕ) {y : Fitted} (told : 
         buffer = subst₂ (λ (x z : ℕ). planBuffer x z b ≤ bytes) (sym colours) (sym modes) (a .buffer);
       }
 
-module _ {g : Automaton} {b c : ℕ} {plan plan′ : List ℕ} where
+module _ {g : Automaton} {x b c : ℕ} {plan plan′ : List ℕ} where
   -- where none of 1 to 9 applies, 10 is the number of one answer alone ..
-  answered-ten : {r : Searched} → Answered g b c plan plan′ r → (searchAnswer r .answer .number ≡ 10) ↔ (r ≡ noPlan)
+  answered-ten : {r : Searched} → Answered g x b c plan plan′ r → (searchAnswer r .answer .number ≡ 10) ↔ (r ≡ noPlan)
   answered-ten (none e) = (λ h. refl, λ h. refl)
   answered-ten (found f) = (λ h. absurd (omega arith), λ h. clash (cc))
 
   -- .. and any other is a plan's
-  answered-otherwise : {r : Searched} → Answered g b c plan plan′ r → (searchAnswer r .answer .number ≡ 10 → ⊥)
-      → (searchAnswer r .answer ≡ answer 0 0) × Found g b c (searchAnswer r .p) (searchAnswer r .q) plan plan′
+  answered-otherwise : {r : Searched} → Answered g x b c plan plan′ r → (searchAnswer r .answer .number ≡ 10 → ⊥)
+      → (searchAnswer r .answer ≡ answer 0 0) × Found g x b c (searchAnswer r .p) (searchAnswer r .q) plan plan′
   answered-otherwise (none e) h = absurd (h refl)
   answered-otherwise (found f) h = (refl, f)
 
-module _ {v : Verdict} {g : Automaton} {b c : ℕ} {work plan : List ℕ} where
+module _ {v : Verdict} {g : Automaton} {x b c : ℕ} {work plan : List ℕ} where
   -- what search answers says the same by its number
-  pub in-numbers : {work′ plan′ : List ℕ} {r : Searched} → ((x : Refusal) → v ≡ Refused x → r ≡ outcome.Refused x)
-      → (v ≡ Yes → Decided g b c work plan work′ plan′ r) → SearchByNumber v g b c plan plan′ (searchAnswer r)
+  pub in-numbers : {work′ plan′ : List ℕ} {r : Searched} → ((y : Refusal) → v ≡ Refused y → r ≡ outcome.Refused y)
+      → (v ≡ Yes → Decided g x b c work plan work′ plan′ r) → SearchByNumber v g x b c plan plan′ (searchAnswer r)
   in-numbers refused decided =
       record {
-        refused = λ x e. rw (refused x e) (refl, refl, refl);
+        refused = λ y e. rw (refused y e) (refl, refl, refl);
         ten = λ e. let d = decided e in let t = answered-ten (d .answered) in (λ n. d .no-plan .0 (t .0 n), λ no. t .1 (d .no-plan .1 no));
         ten-alone = λ e n. rw (answered-ten (decided e .answered) .0 n) (refl, refl, refl);
         otherwise = λ e n. answered-otherwise (decided e .answered) n;
       }
 
   -- where the verdict is a refusal, that is answered and both buffers are left as they were
-  pub search-refused : {x : Refusal} → v ≡ Refused x → Search v g b c work plan work plan (outcome.Refused x)
-  search-refused {x} told =
+  pub search-refused : {y : Refusal} → v ≡ Refused y → Search v g x b c work plan work plan (outcome.Refused y)
+  search-refused {y} told =
       record {
-        refused = λ y e. (cc, refl, refl);
+        refused = λ z e. (cc, refl, refl);
         decided = λ e. clash (cc);
-        by-number = in-numbers {work′ = work} {r = outcome.Refused x} (λ y e. cc) (λ e. clash (cc));
+        by-number = in-numbers {work′ = work} {r = outcome.Refused y} (λ z e. cc) (λ e. clash (cc));
       }
 
   -- where it is yes, search is decided and the working space cleared
-  pub search-decided : {work′ plan′ : List ℕ} {r : Searched} → v ≡ Yes → ((r ≡ noPlan) ↔ (SomePlan g b c → ⊥))
-      → Answered g b c plan plan′ r → work′ ≡ replicate (length work) 0 → Search v g b c work plan work′ plan′ r
+  pub search-decided : {work′ plan′ : List ℕ} {r : Searched} → v ≡ Yes → ((r ≡ noPlan) ↔ (SomePlan g x b c → ⊥))
+      → Answered g x b c plan plan′ r → work′ ≡ replicate (length work) 0 → Search v g x b c work plan work′ plan′ r
   search-decided {work′} {plan′} {r} told ten answered cleared =
-      let decided : Decided g b c work plan work′ plan′ r = record { no-plan = ten; answered = answered; cleared = cleared } in
+      let decided : Decided g x b c work plan work′ plan′ r = record { no-plan = ten; answered = answered; cleared = cleared } in
       record {
         refused = λ y e. clash (cc);
         decided = λ e. decided;

@@ -30,16 +30,16 @@ abbrev taskPass : List ℕ → List ℕ → Task → Bool → ℕ → ℕ → �
 taskPass rows places t lasting last goal least = passOf rows places t (record { lasting = lasting; last = last; goal = goal; least = least })
 
 module _ {rows places : List ℕ} {t : Task} {words : ℕ} (able : Searchable rows places t words) where
-  few-levels : t .colours + 1 ≤ coloursMost + 1
-  few-levels = omega (arith, able .few-colours)
+  few-levels : t .duties + 1 ≤ coloursMost + 1
+  few-levels = omega (arith, able .few-duties)
 
   -- a pass over the levels 0 to last, with a blank table that has a word for each node
-  module _ {last m : ℕ} {table : List ℕ} (levels : last ≤ t .colours) (count : m ≡ (last + 1) * t .modes)
+  module _ {last m : ℕ} {table : List ℕ} (levels : last ≤ t .duties) (count : m ≡ (last + 1) * t .modes)
       (blank : table ≡ replicate m 0) where
     size : length table ≡ m
     size = ap length blank ∙ length-replicate m 0
 
-    more : (last + 1) * (t .modes * (t .bound + 1)) ≤ (t .colours + 1) * (t .modes * (t .bound + 1))
+    more : (last + 1) * (t .modes * (t .bound + 1)) ≤ (t .duties + 1) * (t .modes * (t .bound + 1))
     more = mul-le-mul-right (t .modes * (t .bound + 1)) (omega arith)
 
     -- it is ready, with a table and a working space as long
@@ -71,23 +71,23 @@ module _ {rows places : List ℕ} {t : Task} {words : ℕ} (able : Searchable ro
       → Peaked (taskNet rows places t) (t .bound) (t .credit) best w tail
   peaks-left e hb hw p =
       passed-peaked (taskNet rows places t) places (t .bound) (able .fits) (t .credit)
-      (pass-ready (omega arith) (sym (one-mul (t .modes))) e hb hw) p
+      (pass-ready (omega arith) (sym (one-mul (t .modes))) e false hb hw) p
 
   -- what the pass from mode m with charge e leaves
   pub cycle-left : {m e : ℕ} {table best w : List ℕ} {found : Bool} {head a tail : ℕ} → m < t .modes
-      → table ≡ replicate ((t .colours + 1) * t .modes) 0 → length best ≡ length table → length w ≡ words
+      → table ≡ replicate ((t .duties + 1) * t .modes) 0 → length best ≡ length table → length w ≡ words
       → Passed (cyclePass (taskNet rows places t) places (t .bound) m e) m e best w found head a tail
       → CyclePassed (taskNet rows places t) (t .bound) m e w found head a
   cycle-left {m} {e} hm q hb hw p =
-      passed-cycle (taskNet rows places t) places (t .bound) (able .fits) m e hm (pass-ready (omega arith) refl q hb hw) p
+      passed-cycle (taskNet rows places t) places (t .bound) (able .fits) m e hm (pass-ready (omega arith) refl q true hb hw) p
 
   -- the nodes of the pass from a mode fit the table of the code
-  pub nodes-few : (t .colours + 1) * t .modes ≤ nodesMost
+  pub nodes-few : (t .duties + 1) * t .modes ≤ nodesMost
   nodes-few = omega (arith, mul-le-mul few-levels (able .few-modes))
 
   -- the part of that table which is lent to the pass is blank
-  pub table-blank : take {A = ℕ} ((t .colours + 1) * t .modes) (replicate nodesMost 0) ≡ replicate ((t .colours + 1) * t .modes) 0
-  table-blank = take-replicate ((t .colours + 1) * t .modes) nodesMost nodes-few
+  pub table-blank : take {A = ℕ} ((t .duties + 1) * t .modes) (replicate nodesMost 0) ≡ replicate ((t .duties + 1) * t .modes) 0
+  table-blank = take-replicate ((t .duties + 1) * t .modes) nodesMost nodes-few
 
   -- another working space, as long
   pub searchable-kept : {words′ : ℕ} → words′ ≡ words → Searchable rows places t words′

@@ -1,6 +1,6 @@
 -- What relax meets at an arc: the step that it takes, or that there is none; and what visit has from place to place. Assumes nothing.
 use mathlib.Core.Path.{_≡_, refl, sym, ap, _∙_}
-use mathlib.Core.Bool.{Bool, false}
+use mathlib.Core.Bool.{Bool, true, false, false≢true, not, _&&_}
 use mathlib.Core.List.{List}
 use Prim.Native.Nat.{ℕ, _+_, _%_, _≤_, _<_}
 use native.Mathlib.Nat.{mod-lt}
@@ -11,7 +11,7 @@ use Rattle.walks.specs.BoundedStep.{stepped}
 use Rattle.walks.proofs.Walks.{stepped-to, stepped-off}
 use Rattle.limits.specs.Ceilings.{modesMost, arcsMost, coloursMost}
 use Rattle.model.specs.Automaton.{bit}
-use Rattle.groups.specs.Rows.{sourceAt, targetAt, drawAt, gainAt, coloursAt}
+use Rattle.groups.specs.Rows.{sourceAt, targetAt, drawAt, gainAt, coloursAt, barredAt}
 use Rattle.groups.specs.Grouped.{firstPlace, arcPlaced}
 use Rattle.passes.specs.Pass.{Pass, Along, node}
 use Rattle.passes.specs.Queue.{nodeAt, chargeAt, Arrives, Arrived, Grown, Tried}
@@ -73,11 +73,14 @@ module _ {rows places : List ℕ} {t : Task} {m : Aim} {h : Entry} {i : ℕ} {be
       (rw (level-same) low, f .running .ready .levels, f .running .ready .few-modes)
 
   -- the pass may not use the arc
-  pub relax-off : {a : ℕ} → a ≡ arcPlaced places i → (m .lasting && barredAt rows a) ≡ true
-      → Tried (passOf rows places t m) best w tail i (i + 1) (nodeAt w (p .index)) (chargeAt w (p .index)) best w false a tail
-  relax-off {a} ea e =
-      let off : (m .lasting && barredAt rows (arcPlaced places i)) ≡ true = rw ea at e in
-      rw ea (tried-impossible (f .queue) (λ u x s. false≢true (sym (ap {B = Bool} not off) ∙ s .allowed)))
+  pub relax-left-out : {a : ℕ} → a ≡ arcPlaced places i → (m .lasting && barredAt rows a) ≡ true
+      → Relaxed (passOf rows places t m) h i best w tail best w (record { found = false; head = h .index; arc = a; tail = tail })
+  relax-left-out {a} ea e =
+      let out : (m .lasting && barredAt rows (arcPlaced places i)) ≡ true = rw ea at e in
+      record {
+        tried = rw ea (tried-impossible (f .running .queue) (λ u x s. false≢true (sym (ap {B = Bool} not out) ∙ s .allowed)));
+        entry = refl;
+      }
 
 -- what the code reads of the arc
 pub record Reads (rows places : List ℕ) (i a d g : ℕ) : Type 0 where
@@ -104,15 +107,15 @@ module _ {rows places : List ℕ} {t : Task} {m : Aim} {h : Entry} {i : ℕ} {be
       }
 
   -- the step that the arc takes
-  pub relax-along : {u x l k y : ℕ} → stepped (t .bound) (record { draw = d; gain = g }) (h .charge) ≡ To x l → k ≡ coloursAt rows a
+  pub relax-along : {u x l k y : ℕ} → (m .lasting && barredAt rows a) ≡ false → stepped (t .bound) (record { draw = d; gain = g }) (h .charge) ≡ To x l → k ≡ coloursAt rows a
       → y ≡ targetAt rows a → u ≡ node (t .modes) (levelAfter (m .last) k (h .level)) y
       → Along (passOf rows places t m) (arcPlaced places i) (nodeAt w (h .index)) (chargeAt w (h .index)) u x
   unfolding levelAfter
-  relax-along {u} {x} {l} e ek ey eu =
+  relax-along {u} {x} {l} used e ek ey eu =
       let (low, left, cut) = stepped-to (t .bound) (record { draw = d; gain = g }) (h .charge) x l .0 e in
       record {
         known = arc-known f;
-        allowed = refl;
+        allowed = ap {B = Bool} not (rw (r .arc) at used);
         leaves = arc-leaves f;
         possible = omega (arith, charge-same f, r .draw, ap {B = ℕ} (drawAt rows) (r .arc));
         left = sym left ∙ rw (r .draw, r .gain, r .arc, charge-same f) refl;

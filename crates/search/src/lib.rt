@@ -142,16 +142,14 @@ fn check_search(
 }
 
 // How many of k colours are required.
-fn count_required(k: u8, barred: u8) -> usize
+fn count_required(k: u32, barred: u8) -> u32
     requires { ⌜ k ≤ coloursMost ⌝ }
     ensures { λ r. ⌜ r ≡ required barred k ⌝ }
 {
-    let mut count = 0;
-    let mut j = 0u8;
+    let mut count = 0u32;
+    let mut j = 0u32;
     while j < k {
-        if ((barred as u32) >> (j as u32)) % 2 == 0 {
-            count += 1;
-        }
+        count += 1 - ((barred as u32) >> j) % 2;
         j += 1;
     }
     count
@@ -173,7 +171,9 @@ fn decide_model(
     let groups = group(model, barred);
     let modes = model.modes as usize;
     let start = model.start as usize;
-    let duties = count_required(model.colours, barred);
+    let colours = model.colours as u32;
+    let required = count_required(colours, barred);
+    let duties = required as usize;
     let task = Task {
         modes,
         start,

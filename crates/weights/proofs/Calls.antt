@@ -46,9 +46,9 @@ module _ (n s k : ℕ) (l : WeightLists) where
       ran-same b (p .cycle) (length (p .prefix) + length (p .cycle)) x _ _ λ y. refl
 
   -- judging
-  pub judged-same : (b c p q : ℕ) (w : List ℕ) → judged n s k (listsOf l) b c p q w ≡ by.judgedByWeight n s k l b c p q w
+  pub judged-same : (x b c p q : ℕ) (w : List ℕ) → judged n s k (listsOf l) x b c p q w ≡ by.judgedByWeight n s k l x b c p q w
   unfolding judged judgedLevels judgedPlan servesOf by.judgedByWeight
-  judged-same b c p q w = rw (fitness-same l n s k, charges-same b c (planOf p w)) refl
+  judged-same x b c p q w = rw (fitness-same l n s k, charges-same b c (planOf p w)) refl
 
   -- the gauge
   pub started-same : (b c : ℕ) → startedOf n s k (listsOf l) b c ≡ by.startedByWeight n s k l b c
@@ -65,11 +65,11 @@ module _ (n s k : ℕ) (l : WeightLists) where
   gauge-walk-same b j [] i x = refl
   gauge-walk-same b j (a ∷ w) i x = rw (stepped-same b a x, gauge-walk-same b j w (suc i) (by.steppedByWeight n s k l b a x .gauge)) refl
 
-  pub walk-same : (b c p q : ℕ) (w : List ℕ) (j t : ℕ) → walkOf n s k (listsOf l) b c p q w j t ≡ by.walkByWeight n s k l b c p q w j t
+  pub walk-same : (x b c p q : ℕ) (w : List ℕ) (j t : ℕ) → walkOf n s k (listsOf l) x b c p q w j t ≡ by.walkByWeight n s k l x b c p q w j t
   unfolding walkOf by.walkByWeight
-  walk-same b c p q w j t =
+  walk-same x b c p q w j t =
       rw (
-        judged-same b c p q w,
+        judged-same x b c p q w,
         started-same b c,
         gauge-walk-same b j (stepsOfPlan (planOf p w) t) 0 (by.startedByWeight n s k l b c .gauge),
       ) refl
@@ -80,9 +80,9 @@ module _ (n s k : ℕ) (l : WeightLists) where
   searchable-same b c words bytes = rw (fitness-same l n s k) refl
 
   -- .. the plan ..
-  found-same : (b c p q : ℕ) (plan plan′ : List ℕ) → search.Found (modelBy n s k l) b c p q plan plan′ ↔ by.FoundByWeight n s k l b c p q plan plan′
-  found-same b c p q plan plan′ =
-      let same = serves-same l n s k b c _ in (
+  found-same : (x b c p q : ℕ) (plan plan′ : List ℕ) → search.Found (modelBy n s k l) x b c p q plan plan′ ↔ by.FoundByWeight n s k l x b c p q plan plan′
+  found-same x b c p q plan plan′ =
+      let same = serves-same l n s k x b c _ in (
         λ f. record {
           serves = same .0 (f .serves);
           within = f .within;
@@ -101,27 +101,27 @@ module _ (n s k : ℕ) (l : WeightLists) where
         },
       )
 
-  answered-same : (b c : ℕ) (plan plan′ : List ℕ) (r : Searched)
-      → search.Answered (modelBy n s k l) b c plan plan′ r ↔ by.AnsweredByWeight n s k l b c plan plan′ r
-  answered-same b c plan plan′ r = (to r, from r)
+  answered-same : (x b c : ℕ) (plan plan′ : List ℕ) (r : Searched)
+      → search.Answered (modelBy n s k l) x b c plan plan′ r ↔ by.AnsweredByWeight n s k l x b c plan plan′ r
+  answered-same x b c plan plan′ r = (to r, from r)
     where
-      to : (r : Searched) → search.Answered (modelBy n s k l) b c plan plan′ r → by.AnsweredByWeight n s k l b c plan plan′ r
+      to : (r : Searched) → search.Answered (modelBy n s k l) x b c plan plan′ r → by.AnsweredByWeight n s k l x b c plan plan′ r
       to r (search.none e) = by.none e
-      to r (search.found {p} {q} f) = by.found (found-same b c p q plan plan′ .0 f)
+      to r (search.found {p} {q} f) = by.found (found-same x b c p q plan plan′ .0 f)
 
-      from : (r : Searched) → by.AnsweredByWeight n s k l b c plan plan′ r → search.Answered (modelBy n s k l) b c plan plan′ r
+      from : (r : Searched) → by.AnsweredByWeight n s k l x b c plan plan′ r → search.Answered (modelBy n s k l) x b c plan plan′ r
       from r (by.none e) = search.none e
-      from r (by.found {p} {q} f) = search.found (found-same b c p q plan plan′ .1 f)
+      from r (by.found {p} {q} f) = search.found (found-same x b c p q plan plan′ .1 f)
 
   -- .. that there is one ..
-  some-same : (b c : ℕ) → (SomePlan (modelBy n s k l) b c → ⊥) ↔ (SomePlanByWeight n s k l b c → ⊥)
-  some-same b c = (λ f (p, h). f (p, serves-same l n s k b c p .1 h), λ f (p, h). f (p, serves-same l n s k b c p .0 h))
+  some-same : (x b c : ℕ) → (SomePlan (modelBy n s k l) x b c → ⊥) ↔ (SomePlanByWeight n s k l x b c → ⊥)
+  some-same x b c = (λ f (p, h). f (p, serves-same l n s k x b c p .1 h), λ f (p, h). f (p, serves-same l n s k x b c p .0 h))
 
-  decided-same : (b c : ℕ) (work plan work′ plan′ : List ℕ) (r : Searched)
-      → search.Decided (modelBy n s k l) b c work plan work′ plan′ r ↔ by.DecidedByWeight n s k l b c work plan work′ plan′ r
-  decided-same b c work plan work′ plan′ r =
-      let some = some-same b c in
-      let answered = answered-same b c plan plan′ r in (
+  decided-same : (x b c : ℕ) (work plan work′ plan′ : List ℕ) (r : Searched)
+      → search.Decided (modelBy n s k l) x b c work plan work′ plan′ r ↔ by.DecidedByWeight n s k l x b c work plan work′ plan′ r
+  decided-same x b c work plan work′ plan′ r =
+      let some = some-same x b c in
+      let answered = answered-same x b c plan plan′ r in (
         λ d. record {
           no-plan = (λ e. some .0 (d .no-plan .0 e), λ f. d .no-plan .1 (some .1 f));
           answered = answered .0 (d .answered);
@@ -135,16 +135,16 @@ module _ (n s k : ℕ) (l : WeightLists) where
       )
 
   -- .. and the call
-  pub search-same : (b c : ℕ) (work plan work′ plan′ : List ℕ) (r : Searched)
-      → search.SearchOf n s k (listsOf l) b c work plan work′ plan′ r ↔ by.SearchByWeight n s k l b c work plan work′ plan′ r
-  search-same b c work plan work′ plan′ r =
+  pub search-same : (x b c : ℕ) (work plan work′ plan′ : List ℕ) (r : Searched)
+      → search.SearchOf n s k (listsOf l) x b c work plan work′ plan′ r ↔ by.SearchByWeight n s k l x b c work plan work′ plan′ r
+  search-same x b c work plan work′ plan′ r =
       let v = searchable-same b c (length work) (length plan) in
-      let decided = decided-same b c work plan work′ plan′ r in (
-        λ h. record { refused = λ x e. h .refused x (v ∙ e); decided = λ e. decided .0 (h .decided (v ∙ e)) },
+      let decided = decided-same x b c work plan work′ plan′ r in (
+        λ h. record { refused = λ y e. h .refused y (v ∙ e); decided = λ e. decided .0 (h .decided (v ∙ e)) },
         λ h. record {
-          refused = λ x e. h .refused x (sym v ∙ e);
+          refused = λ y e. h .refused y (sym v ∙ e);
           decided = λ e. decided .1 (h .decided (sym v ∙ e));
-          by-number = in-numbers (λ x e. h .refused x (sym v ∙ e) .0) (λ e. decided .1 (h .decided (sym v ∙ e)));
+          by-number = in-numbers (λ y e. h .refused y (sym v ∙ e) .0) (λ e. decided .1 (h .decided (sym v ∙ e)));
         },
       )
 

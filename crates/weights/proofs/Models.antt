@@ -141,8 +141,8 @@ module _ (l : WeightLists) where
         feasible r = weights-feasible b (map (weightAt l) (run r)) c h
 
     -- a plan is feasible and accepted exactly where it is so by weights
-    pub serves-same : (b c : ℕ) (p : Plan) → Serves (modelBy n s k l) b c p ↔ ServesByWeight n s k l b c p
-    serves-same b c p = (
+    pub serves-same : (x b c : ℕ) (p : Plan) → Serves (modelBy n s k l) x b c p ↔ ServesByWeight n s k l x b c p
+    serves-same x b c p = (
       λ h. record { plan = h .plan; feasible = feasible-same b c p .0 (h .feasible); accepted = h .accepted },
       λ h. record { plan = h .plan; feasible = feasible-same b c p .1 (h .feasible); accepted = h .accepted },
     )

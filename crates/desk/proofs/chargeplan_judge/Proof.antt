@@ -12,7 +12,7 @@ answer-requires : tie.Need-answer-requires
 answer-requires c κs = search needs
 
 pack-alone-requires : tie.Need-pack-alone-requires
-pack-alone-requires c κs = rw (c .answer .ensures, c .before .judge .ensures .1) (judge-fields _ _ _ _ _ _ _ _ _)
+pack-alone-requires c κs = rw (c .answer .ensures, c .before .judge .ensures .1) (judge-fields _ _ _ _ _ _ _ _ _ _)
 
 returns : tie.Need-returns
 returns c = c .pack-alone .ensures ∙ rw (c .before .answer .ensures, c .before .before .judge .ensures .1) refl

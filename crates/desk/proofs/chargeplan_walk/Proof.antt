@@ -24,7 +24,7 @@ pack-requires c κs =
     let call = told .before in
     let start = call .before .before .before .before .before .before .before .before in
     rw (bit-met (told .answer .result .met), told .answer .ensures, call .walk .ensures .1)
-    (walk-fields _ _ _ _ _ _ _ _ _ _ _ (omega (arith, start .fits .allowance .fits)))
+    (walk-fields _ _ _ _ _ _ _ _ _ _ _ _ (omega (arith, start .fits .allowance .fits)))
 
 returns : tie.Need-returns
 returns c =

@@ -4,9 +4,12 @@ use borrow.Author.Needs.{needs}
 use Rattle.search.proofs.decide_model.Statement.{statement}
 use Rattle.search.proofs.decide_model.Tie as tie
 
--- from what the decision asks to the groups, and from these to the beginning
-abbrev groups-of : tie.After-decide-arg4 → tie.After-group
-groups-of c = c .before .before .before .before .before .before .before .before
+-- from what the decision asks to the number of duties, from there to the groups, and from these to the beginning
+abbrev duties-of : tie.After-decide-arg4 → tie.After-count-required
+duties-of c = c .before .before .before .before .before
+
+abbrev groups-of : tie.After-count-required → tie.After-group
+groups-of c = c .before .before .before .before
 
 abbrev start : tie.After-group → tie.Start
 start d = d .before .before .before
@@ -23,8 +26,17 @@ cast-start c = search needs
 cast-colours : tie.Need-cast-colours
 cast-colours c = search needs
 
+count-required-requires : tie.Need-count-required-requires
+count-required-requires c κs = start (c .before .before .before) .pre .holds .fit .few-colours
+
+cast-duties : tie.Need-cast-duties
+cast-duties c = search needs
+
 decide-requires : tie.Need-decide-requires
-decide-requires c κs = let d = groups-of c in solvable-searchable (start d .pre) (d .group .ensures)
+decide-requires c κs =
+    let k = duties-of c in
+    let d = groups-of k in
+    solvable-searchable (start d .args .barred) (start d .pre) (d .group .ensures) (k .count-required .ensures)
 
 same-length : tie.Need-same-length
 same-length c = search needs
@@ -35,10 +47,25 @@ same-length-2 c = search needs
 returns : tie.Need-returns
 returns c =
     let y = c .before .before .before .before in
-    let d = groups-of (y .before) in
-    let able = start d .pre in
-    (solved-none able (d .group .ensures) (y .decide .ensures .0), solved-answered able (d .group .ensures) (y .decide .ensures .1))
+    let k = duties-of (y .before) in
+    let d = groups-of k in
+    let x = start d .args .barred in
+    let able = start d .pre in (
+      solved-none x able (d .group .ensures) (k .count-required .ensures) (y .decide .ensures .0),
+      solved-answered x able (d .group .ensures) (k .count-required .ensures) (y .decide .ensures .1),
+    )
 
 pub decide-model-spec : {M : Type 1} → statement M
 decide-model-spec =
-    tie.close (tie.spec group-requires cast-modes cast-start cast-colours decide-requires same-length same-length-2 returns)
+    tie.close
+    (tie.spec
+    group-requires
+    cast-modes
+    cast-start
+    cast-colours
+    count-required-requires
+    cast-duties
+    decide-requires
+    same-length
+    same-length-2
+    returns)

@@ -1,10 +1,12 @@
 -- `pass::relax` meets its contract. Assumes nothing.
-use mathlib.Core.Path.{sym, _∙_}
+use mathlib.Core.Path.{_≡_, sym, _∙_}
+use mathlib.Core.Bool.{false, _&&_}
+use Rattle.groups.specs.Rows.{barredAt}
 use Rattle.groups.specs.Grouped.{arcPlaced}
 use Rattle.passes.specs.Pass.{Along}
 use Rattle.passes.specs.Queue.{nodeAt, chargeAt}
 use Rattle.search.specs.Tasks.{passOf}
-use Rattle.search.proofs.Trying.{Reads, relax-place, relax-arc, relax-target, relax-impossible, relax-along, relax-levels, relax-arrives, relax-arrived}
+use Rattle.search.proofs.Trying.{Reads, relax-place, relax-arc, relax-left-out, relax-target, relax-impossible, relax-along, relax-levels, relax-arrives, relax-arrived}
 use borrow.Author.Needs.{needs}
 use Rattle.search.proofs.pass.relax.Statement.{statement}
 use Rattle.search.proofs.pass.relax.Tie as tie
@@ -13,7 +15,12 @@ abbrev start : tie.After-arc-placed → tie.Start
 start d = d .before .before .before
 
 abbrev arc-of : tie.After-bounded-step → tie.After-arc-placed
-arc-of c = c .before .before .before
+arc-of c = c .before .before .before .before .before
+
+-- the pass may use the arc
+used : (c : tie.After-bounded-step)
+    → (start (arc-of c) .args .aim .lasting && barredAt (start (arc-of c) .args .rows .now) (arc-of c .arc-placed .result)) ≡ false
+used c = let e = c .before .before .before in sym (e .before .is-left-out .ensures) ∙ e .if1 .left
 
 reads : (c : tie.After-bounded-step)
     → Reads (start (arc-of c) .args .rows .now) (start (arc-of c) .args .places .now) (start (arc-of c) .args .i) (arc-of c .arc-placed .result)
@@ -34,17 +41,20 @@ along d =
     let b = step-of d in
     let colours = d .before .colours-of .ensures in
     let target = d .before .before .target-of .ensures in
-    relax-along (start (arc-of b) .pre) (reads b) (sym (b .bounded-step .ensures) ∙ d .before .before .before .before .step .given .1)
+    relax-along (start (arc-of b) .pre) (reads b) (used b) (sym (b .bounded-step .ensures) ∙ d .before .before .before .before .step .given .1)
     colours target (d .entered .ensures)
 
 arc-placed-requires : tie.Need-arc-placed-requires
 arc-placed-requires c κs = relax-place (c .before .before .pre)
 
+is-left-out-requires : tie.Need-is-left-out-requires
+is-left-out-requires c κs = relax-arc (start c .pre) (c .arc-placed .ensures)
+
 draw-of-requires : tie.Need-draw-of-requires
-draw-of-requires c κs = relax-arc (start c .pre) (c .arc-placed .ensures)
+draw-of-requires c κs = let b = c .before .before in relax-arc (start b .pre) (b .arc-placed .ensures)
 
 gain-of-requires : tie.Need-gain-of-requires
-gain-of-requires c κs = relax-arc (start (c .before) .pre) (c .before .arc-placed .ensures)
+gain-of-requires c κs = let b = c .before .before .before in relax-arc (start b .pre) (b .arc-placed .ensures)
 
 bounded-step-requires : tie.Need-bounded-step-requires
 bounded-step-requires c κs = search needs
@@ -82,13 +92,18 @@ same-length-2 c = search needs
 
 returns : tie.Need-returns
 returns c =
+    let b = c .before .before in
+    relax-left-out (start b .pre) (b .arc-placed .ensures) (sym (c .before .is-left-out .ensures) ∙ c .if1 .taken)
+
+returns-2 : tie.Need-returns-2
+returns-2 c =
     let r = c .before .before .before .before .arrive in
     let d = c .before .before .before .before .before .before .before in
     let b = arc-of (step-of d) in
     relax-arrived (start b .pre) (b .arc-placed .ensures) (along d) (r .ensures .0) (r .ensures .1)
 
-returns-2 : tie.Need-returns-2
-returns-2 c =
+returns-3 : tie.Need-returns-3
+returns-3 c =
     let b = c .before .before in
     relax-impossible (start (arc-of b) .pre) (reads b) (sym (b .bounded-step .ensures) ∙ c .enum-told .given .1)
 
@@ -97,6 +112,8 @@ relax-spec =
     tie.close
     (tie.spec
     arc-placed-requires
+    is-left-out-requires
+    returns
     draw-of-requires
     gain-of-requires
     bounded-step-requires

@@ -101,7 +101,7 @@ write-prefix-requires c κs =
       able-kept e,
       (
         first-peak (s .pre .0) (f .find-peaks .ensures) (f .find-peaks .kept .1 .1 .1 .0) (k .first-kept .ensures) (e .if1 .left),
-        prefix-held (t .colours) (t .modes) (t .bound) _ (s .pre .1),
+        prefix-held (t .duties) (t .modes) (t .bound) _ (s .pre .1),
       ),
     )
 
@@ -111,7 +111,7 @@ prefix-fits w =
     let s = whole (kept-of w) in
     let t = s .args .task in
     let p = w .write-prefix in
-    omega (arith, p .ensures .few, p .kept .1 .1 .1 .1 .1 .1 .0, prefix-held (t .colours) (t .modes) (t .bound) _ (s .pre .1))
+    omega (arith, p .ensures .few, p .kept .1 .1 .1 .1 .1 .1 .0, prefix-held (t .duties) (t .modes) (t .bound) _ (s .pre .1))
 
 sub-write-cycle : tie.Need-sub-write-cycle
 sub-write-cycle c = prefix-fits (c .before .before .before .before .before)
@@ -141,7 +141,7 @@ write-cycle-requires c κs =
           first-low able peaked size (k .first-kept .ensures) (e .if1 .left),
           first-cycle able peaked size (k .first-kept .ensures) (e .if1 .left),
         ),
-        cycle-held (t .colours) (t .modes) (t .bound) (p .result) (p .last .1 .1 .1 .1 .1 .1 .0) (p .ensures .few)
+        cycle-held (t .duties) (t .modes) (t .bound) (p .result) (p .last .1 .1 .1 .1 .1 .1 .0) (p .ensures .few)
             (omega (arith, p .kept .1 .1 .1 .1 .1 .1 .0, s .pre .1)),
       ),
     )
@@ -151,8 +151,8 @@ cast-prefix c =
     let w = prefix-of (c .before .before .before .before) in
     let s = whole (kept-of w) in
     let t = s .args .task in
-    let short = buffer-short (t .colours) (t .modes) (t .bound) (s .pre .0 .few-colours) (s .pre .0 .product) in
-    omega (arith, short, prefix-held (t .colours) (t .modes) (t .bound) _ short, w .write-prefix .ensures .few)
+    let short = buffer-short (t .duties) (t .modes) (t .bound) (s .pre .0 .few-duties) (s .pre .0 .product) in
+    omega (arith, short, prefix-held (t .duties) (t .modes) (t .bound) _ short, w .write-prefix .ensures .few)
 
 cast-cycle : tie.Need-cast-cycle
 cast-cycle c =
@@ -162,8 +162,8 @@ cast-cycle c =
     let t = s .args .task in
     let p = w .write-prefix in
     let q = y .write-cycle in
-    let held = plan-held (t .colours) (t .modes) (t .bound) (p .result) (q .result) (p .ensures .few) (q .ensures .few) in
-    omega (arith, held, buffer-short (t .colours) (t .modes) (t .bound) (s .pre .0 .few-colours) (s .pre .0 .product))
+    let held = plan-held (t .duties) (t .modes) (t .bound) (p .result) (q .result) (p .ensures .few) (q .ensures .few) in
+    omega (arith, held, buffer-short (t .duties) (t .modes) (t .bound) (s .pre .0 .few-duties) (s .pre .0 .product))
 
 same-length-2 : tie.Need-same-length-2
 same-length-2 c = search needs
@@ -180,7 +180,7 @@ returns-2 c =
     let q = y .write-cycle in
     let written =
     found
-    (plan-found (s .pre .0 .few-colours) (s .pre .0 .product) (s .pre .1) (p .ensures) (p .kept .1 .1 .1 .1 .1 .1 .0) (q .ensures)
+    (plan-found (s .pre .0 .few-duties) (s .pre .0 .product) (s .pre .1) (p .ensures) (p .kept .1 .1 .1 .1 .1 .1 .0) (q .ensures)
     (q .kept .1 .1 .1 .1 .1 .1 .0))
     in
     (written-lasso written (λ e. clash (cc)), written)

@@ -38,7 +38,7 @@ slice-aggregate-run c =
 run-requires : tie.Need-run-requires
 run-requires c κs =
     let s = lent (c .before) in
-    pass-asked (s .pre .0) (omega arith) refl (table-blank (s .pre .0)) (s .pre .1 .0) (s .pre .1 .1)
+    pass-asked (s .pre .0) (omega arith) refl (table-blank (s .pre .0)) true (s .pre .1 .0) (s .pre .1 .1)
 
 same-length : tie.Need-same-length
 same-length c = search needs

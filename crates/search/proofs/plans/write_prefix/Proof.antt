@@ -32,7 +32,7 @@ entry-of-requires c κs =
     let t = s .args .task in
     let size = f .kept .1 .1 .1 .1 .0 in (
       peak-entry (f .ensures) (s .pre .1 .0),
-      queue-held (t .colours) (t .modes) (t .bound) (f .result) _ (f .ensures .few) (omega (arith, size, s .pre .0 .space)),
+      queue-held (t .duties) (t .modes) (t .bound) (f .result) _ (f .ensures .few) (omega (arith, size, s .pre .0 .space)),
     )
 
 trace-requires : tie.Need-trace-requires
