@@ -3,7 +3,7 @@ use mathlib.Core.Path.{_≡_, refl, sym, ap, _∙_, subst}
 use mathlib.Core.Bool.{Bool, true, false}
 use mathlib.Core.List.{List, [], _∷_, _++_}
 use mathlib.Core.Logic.{_↔_, _⊎_, inl, inr, ⊎-elim}
-use Prim.Native.Nat.{ℕ, zero, suc, _+_, _≤_, _<_}
+use Prim.Native.Nat.{ℕ, zero, suc, _+_, _^_, _≤_, _<_}
 use native.Mathlib.Omega.{arith}
 use native.Mathlib.Decide.{decLe}
 use lib.ListN.{length, getD, length-append}
@@ -16,7 +16,7 @@ use Rattle.refusals.specs.declared.Verdict.the-variants.{Yes}
 use Rattle.refusals.specs.declared.Verdict.the-variants as verdict
 use Rattle.refusals.proofs.Verdicts.{clash}
 use Rattle.refusals.proofs.Scan.{FirstOf}
-use Rattle.model.specs.Automaton.{Automaton, meets}
+use Rattle.model.specs.Automaton.{Automaton, bit, meets}
 use Rattle.model.specs.Lists.{Lists, automatonOf}
 use Rattle.model.specs.Plans.{Plan, Meets}
 use Rattle.model.proofs.Plans.{times-length}
@@ -95,83 +95,85 @@ steps-length p t h =
     length-take-le t (p .prefix ++ times t (p .cycle))
     (omega (arith, times-length (p .cycle) h t, length-append (p .prefix) (times t (p .cycle))))
 
-module _ (n s k : ℕ) (l : Lists) (b c p q : ℕ) (w : List ℕ) (j t : ℕ) where
+module _ (n s k : ℕ) (l : Lists) (x b c p q : ℕ) (w : List ℕ) (j t : ℕ) where
   -- step a of the plan, counted from 0, meets colour j
   abbrev meetsAt : ℕ → Bool
   meetsAt a = meets (automatonOf n s k l) j (getD (stepsOfPlan (planOf p w) t) a 0)
 
   -- judging refuses the plan, or the model has no such colour, or the plan is walked
-  walk-cases : ((r : Refusal) × (judged n s k l b c p q w ≡ verdict.Refused r)) ⊎ (judged n s k l b c p q w ≡ Yes) × ((k ≤ j) ⊎ (j < k))
-  walk-cases = go (judged n s k l b c p q w) refl
+  walk-cases : ((r : Refusal) × (judged n s k l x b c p q w ≡ verdict.Refused r)) ⊎ (judged n s k l x b c p q w ≡ Yes) × ((k ≤ j) ⊎ (j < k))
+  walk-cases = go (judged n s k l x b c p q w) refl
     where
-      go : (v : Verdict) → judged n s k l b c p q w ≡ v
-          → ((r : Refusal) × (judged n s k l b c p q w ≡ verdict.Refused r)) ⊎ (judged n s k l b c p q w ≡ Yes) × ((k ≤ j) ⊎ (j < k))
+      go : (v : Verdict) → judged n s k l x b c p q w ≡ v
+          → ((r : Refusal) × (judged n s k l x b c p q w ≡ verdict.Refused r)) ⊎ (judged n s k l x b c p q w ≡ Yes) × ((k ≤ j) ⊎ (j < k))
       go (verdict.Refused r) e = inl (r, e)
       go Yes e = inr (e, elim (decLe k j) [ yes h ↦ inl h | no h ↦ inr (omega arith) ])
 
   -- a plan is walked only where judging accepts it and the model has the colour
-  walked-only : ((r : Refusal) → walkOf n s k l b c p q w j t ≡ Refused r → ⊥) → (judged n s k l b c p q w ≡ Yes) × (j < k)
+  walked-only : ((r : Refusal) → walkOf n s k l x b c p q w j t ≡ Refused r → ⊥) → (judged n s k l x b c p q w ≡ Yes) × (j < k)
   walked-only through =
       ⊎-elim
-      (λ (r, e). absurd (through r (walk-refused n s k l b c p q w j t r e)))
-      (λ (e, colour). (e, ⊎-elim (λ h. absurd (through NoSuchColour (walk-no-colour n s k l b c p q w j t e h))) (λ h. h) colour))
+      (λ (r, e). absurd (through r (walk-refused n s k l x b c p q w j t r e)))
+      (λ (e, colour). (e, ⊎-elim (λ h. absurd (through NoSuchColour (walk-no-colour n s k l x b c p q w j t e h))) (λ h. h) colour))
       walk-cases
 
-  -- the call is refused exactly by what judging refuses the plan by, or by 18 where judging accepts it
-  pub walk-refused-by : (r : Refusal) → (walkOf n s k l b c p q w j t ≡ Refused r)
-      ↔ ((judged n s k l b c p q w ≡ verdict.Refused r) ⊎ ((judged n s k l b c p q w ≡ Yes) × (k ≤ j) × (r ≡ NoSuchColour)))
-  walk-refused-by r = (
-    λ z.
-        ⊎-elim
-        (λ (x, e). let same : x ≡ r = cc (walk-refused n s k l b c p q w j t x e) in inl (e ∙ rw same refl))
-        (λ (e, colour).
-        ⊎-elim
-        (λ h. inr (e, h, cc (walk-no-colour n s k l b c p q w j t e h)))
-        (λ h. first-not-refused (automatonOf n s k l) j (stepsOfPlan (planOf p w) t) 0 r (sym (walk-least n s k l b c p q w e j t h) ∙ z))
-        colour)
-        walk-cases,
-    ⊎-elim (walk-refused n s k l b c p q w j t r) (λ (e, h, same). rw same (walk-no-colour n s k l b c p q w j t e h)),
-  )
+  -- an allowance of 16 bits, as every call has
+  module _ (few : t < 2 ^ 16) where
+    -- the call is refused exactly by what judging refuses the plan by, or by 18 where judging accepts it
+    pub walk-refused-by : (r : Refusal) → (walkOf n s k l x b c p q w j t ≡ Refused r)
+        ↔ ((judged n s k l x b c p q w ≡ verdict.Refused r) ⊎ ((judged n s k l x b c p q w ≡ Yes) × (k ≤ j) × (r ≡ NoSuchColour)))
+    walk-refused-by r = (
+      λ z.
+          ⊎-elim
+          (λ (y, e). let same : y ≡ r = cc (walk-refused n s k l x b c p q w j t y e) in inl (e ∙ rw same refl))
+          (λ (e, colour).
+          ⊎-elim
+          (λ h. inr (e, h, cc (walk-no-colour n s k l x b c p q w j t e h)))
+          (λ h. first-not-refused (automatonOf n s k l) j (stepsOfPlan (planOf p w) t) 0 r (sym (walk-least n s k l x b c p q w e j t h few) ∙ z))
+          colour)
+          walk-cases,
+      ⊎-elim (walk-refused n s k l x b c p q w j t r) (λ (e, h, same). rw same (walk-no-colour n s k l x b c p q w j t e h)),
+    )
 
-  module _ (accepted : judged n s k l b c p q w ≡ Yes) where
-    -- the walk of a plan has as many steps as the allowance
-    long : length (stepsOfPlan (planOf p w) t) ≡ t
-    long = steps-length (planOf p w) t (judged-yes n s k l b c p q w .0 accepted .serves .plan .some-arc)
+    module _ (accepted : judged n s k l x b c p q w ≡ Yes) where
+      -- the walk of a plan has as many steps as the allowance
+      long : length (stepsOfPlan (planOf p w) t) ≡ t
+      long = steps-length (planOf p w) t (judged-yes n s k l x b c p q w .0 accepted .serves .plan .some-arc)
 
-  -- The call answers "met" with x exactly where judging accepts the plan, the model has colour j, and of the allowance's steps x, counted from
-  -- 1 on, is the first that meets colour j.
-  pub walk-met : (x : ℕ) → (walkOf n s k l b c p q w j t ≡ Met x)
-      ↔ ((judged n s k l b c p q w ≡ Yes) × (j < k) × ((a : ℕ) × (x ≡ suc a) × FirstOf meetsAt t a))
-  walk-met x =
-      let first = first-met (automatonOf n s k l) j (stepsOfPlan (planOf p w) t) 0 x in (
-        λ e.
-            let (accepted, h) = walked-only (λ r q. clash (cc)) in
-            let (a, i, f) = first .0 (sym (walk-least n s k l b c p q w accepted j t h) ∙ e) in
-            (accepted, h, (a, omega arith, subst (λ (u : ℕ). FirstOf meetsAt u a) (long accepted) f)),
-        λ (accepted, h, (a, i, f)).
-            walk-least n s k l b c p q w accepted j t h
-            ∙ first .1 (a, omega arith, subst (λ (u : ℕ). FirstOf meetsAt u a) (sym (long accepted)) f),
-      )
+    -- The call answers "met" with d exactly where judging accepts the plan, the model has colour j, and of the allowance's steps d, counted from
+    -- 1 on, is the first that meets colour j.
+    pub walk-met : (d : ℕ) → (walkOf n s k l x b c p q w j t ≡ Met d)
+        ↔ ((judged n s k l x b c p q w ≡ Yes) × (j < k) × ((a : ℕ) × (d ≡ suc a) × FirstOf meetsAt t a))
+    walk-met d =
+        let first = first-met (automatonOf n s k l) j (stepsOfPlan (planOf p w) t) 0 d in (
+          λ e.
+              let (accepted, h) = walked-only (λ r q. clash (cc)) in
+              let (a, i, f) = first .0 (sym (walk-least n s k l x b c p q w accepted j t h few) ∙ e) in
+              (accepted, h, (a, omega arith, subst (λ (u : ℕ). FirstOf meetsAt u a) (long accepted) f)),
+          λ (accepted, h, (a, i, f)).
+              walk-least n s k l x b c p q w accepted j t h few
+              ∙ first .1 (a, omega arith, subst (λ (u : ℕ). FirstOf meetsAt u a) (sym (long accepted)) f),
+        )
 
-  -- "'Spent' is the answer only when exactly the allowance has been walked without meeting j."
-  pub walk-spent : (x : ℕ) → (walkOf n s k l b c p q w j t ≡ Spent x)
-      ↔ ((judged n s k l b c p q w ≡ Yes) × (j < k) × (x ≡ t) × ((a : ℕ) → a < t → meetsAt a ≡ false))
-  walk-spent x =
-      let first = first-spent (automatonOf n s k l) j (stepsOfPlan (planOf p w) t) 0 x in (
-        λ e.
-            let (accepted, h) = walked-only (λ r q. clash (cc)) in
-            let (i, none) = first .0 (sym (walk-least n s k l b c p q w accepted j t h) ∙ e) in
-            (accepted, h, omega (arith, long accepted), λ a f. none a (omega (arith, long accepted))),
-        λ (accepted, h, i, none).
-            walk-least n s k l b c p q w accepted j t h ∙ first .1 (omega (arith, long accepted), λ a f. none a (omega (arith, long accepted))),
-      )
+    -- "'Spent' is the answer only when exactly the allowance has been walked without meeting j."
+    pub walk-spent : (d : ℕ) → (walkOf n s k l x b c p q w j t ≡ Spent d)
+        ↔ ((judged n s k l x b c p q w ≡ Yes) × (j < k) × (d ≡ t) × ((a : ℕ) → a < t → meetsAt a ≡ false))
+    walk-spent d =
+        let first = first-spent (automatonOf n s k l) j (stepsOfPlan (planOf p w) t) 0 d in (
+          λ e.
+              let (accepted, h) = walked-only (λ r q. clash (cc)) in
+              let (i, none) = first .0 (sym (walk-least n s k l x b c p q w accepted j t h few) ∙ e) in
+              (accepted, h, omega (arith, long accepted), λ a f. none a (omega (arith, long accepted))),
+          λ (accepted, h, i, none).
+              walk-least n s k l x b c p q w accepted j t h few ∙ first .1 (omega (arith, long accepted), λ a f. none a (omega (arith, long accepted))),
+        )
 
-  -- An allowance of p + q steps or more meets the colour: an accepted plan has it on some arc of its cycle.
-  pub walk-meets : judged n s k l b c p q w ≡ Yes → j < k → p + q ≤ t → (x : ℕ) × (walkOf n s k l b c p q w j t ≡ Met x)
-  walk-meets accepted h enough =
-      let right = judged-yes n s k l b c p q w .0 accepted in
-      let lengths = right .lengths in
-      let g = automatonOf n s k l in
-      let (v, e) = steps-begin p w (omega (arith, lengths .parts, lengths .some-arc)) t (omega (arith, lengths .parts)) in
-      let (x, met) = meets-met g j w v 0 (bytes-meet g b c p w (right .serves) j h) in
-      (x, walk-least n s k l b c p q w accepted j t h ∙ ap (λ (u : List ℕ). firstMet g j u 0) e ∙ met)
+    -- An allowance of p + q steps or more meets a required colour: an accepted plan has it on some arc of its cycle.
+    pub walk-meets : judged n s k l x b c p q w ≡ Yes → j < k → bit x j ≡ false → p + q ≤ t → (d : ℕ) × (walkOf n s k l x b c p q w j t ≡ Met d)
+    walk-meets accepted h required enough =
+        let right = judged-yes n s k l x b c p q w .0 accepted in
+        let lengths = right .lengths in
+        let g = automatonOf n s k l in
+        let (v, e) = steps-begin p w (omega (arith, lengths .parts, lengths .some-arc)) t (omega (arith, lengths .parts)) in
+        let (d, met) = meets-met g j w v 0 (bytes-meet g x b c p w (right .serves) j h required) in
+        (d, walk-least n s k l x b c p q w accepted j t h few ∙ ap (λ (u : List ℕ). firstMet g j u 0) e ∙ met)

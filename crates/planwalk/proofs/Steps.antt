@@ -4,7 +4,7 @@ use mathlib.Core.Path.{_≡_, refl, sym, ap, _∙_, subst}
 use mathlib.Core.Bool.{Bool, true, false, true≢false}
 use mathlib.Core.List.{List, [], _∷_, _++_, append-nil}
 use mathlib.Core.Logic.{_⊎_, inl, inr}
-use Prim.Native.Nat.{ℕ, suc, _+_, _-_, _≤_, _<_}
+use Prim.Native.Nat.{ℕ, suc, _+_, _-_, _^_, _≤_, _<_}
 use native.Mathlib.Omega.{arith}
 use native.Mathlib.Decide.{decLe}
 use lib.ListN.{length, take, drop, length-take, take-append-drop}
@@ -18,7 +18,7 @@ use Rattle.walks.proofs.Charges.{stepped-bound}
 use Rattle.walks.proofs.Spill.{spilled-cons}
 use Rattle.refusals.specs.declared.Verdict.the-variants.{Yes}
 use Rattle.model.specs.declared.Model.{Model}
-use Rattle.model.specs.Automaton.{Automaton, arcAt, meets, moveOf, movesOf}
+use Rattle.model.specs.Automaton.{Automaton, arcAt, bit, meets, moveOf, movesOf}
 use Rattle.model.specs.Lists.{Lists, automatonOf, held}
 use Rattle.model.specs.Fitness.{fitness}
 use Rattle.model.specs.Plans.{Leads, walkedArcs, Meets, Serves}
@@ -37,17 +37,11 @@ use Rattle.planwalk.specs.declared.Walked.{Walked}
 use Rattle.planwalk.specs.Walked.{stepsOfPlan, metOr, walkOn, gaugeWalk, walkOf, firstMet}
 use Rattle.planwalk.proofs.Walking.{steps-whole}
 
--- two walks that go on alike where the step does not meet the colour, and one later does or there is no more
-met-or : {A B : Walked} (m : Bool) (Later End : Type 0) (i : ℕ) → ((m ≡ true) ⊎ Later) ⊎ End → (Later ⊎ End → A ≡ B) → metOr m i A ≡ metOr m i B
-met-or true Later End i last rest = refl
-met-or false Later End i (inl (inl met)) rest = absurd (true≢false (sym met))
-met-or false Later End i (inl (inr met)) rest = rest (inl met)
-met-or false Later End i (inr end) rest = rest (inr end)
-
--- the bytes of a plan that serves meet every colour: some arc of its cycle does
-pub bytes-meet : (g : Automaton) (b c p : ℕ) (w : List ℕ) → Serves g b c (planOf p w) → (j : ℕ) → j < g .colours → Meets g j w
-bytes-meet g b c p w serves j h =
-    subst (Meets g j) (take-append-drop p w) (some-right (meets g j) (take p w) (drop p w) (serves .accepted j h))
+-- the bytes of a plan that serves meet every required colour: some arc of its cycle does
+pub bytes-meet : (g : Automaton) (x b c p : ℕ) (w : List ℕ) → Serves g x b c (planOf p w) → (j : ℕ) → j < g .colours → bit x j ≡ false
+    → Meets g j w
+bytes-meet g x b c p w serves j h e =
+    subst (Meets g j) (take-append-drop p w) (some-right (meets g j) (take p w) (drop p w) (serves .accepted .required j h e))
 
 -- at least as many steps of a plan as it has bytes begin with all of them
 pub steps-begin : (p : ℕ) (w : List ℕ) → p < length w → (t : ℕ) → length w ≤ t → (v : List ℕ) × (stepsOfPlan (planOf p w) t ≡ w ++ v)
@@ -58,15 +52,14 @@ steps-begin p w cycle t h =
 
 module _ (n s k : ℕ) (l : Lists) (b : ℕ) (fit : fitness n s k l ≡ Yes) (low : b ≤ boundMost) (j : ℕ) where
   -- Along arcs w that lead on, whose walk ends and for whose losses the total has room, a matching gauge z walks to the least step that meets
-  -- the colour, whatever arcs v stand behind them, if one of w meets it or v has none.
-  pub gauge-least : (w v : List ℕ) (z : Gauge) (t x : ℕ) → Matches (automatonOf n s k l) b z → z .charge ≤ b
+  -- the colour.
+  pub gauge-least : (w : List ℕ) (z : Gauge) (t x : ℕ) → Matches (automatonOf n s k l) b z → z .charge ≤ b
       → z .spill + spilled b (movesOf (automatonOf n s k l) w) (z .charge) ≤ spillMost → Leads (automatonOf n s k l) (z .mode) w t
-      → walkedArcs (automatonOf n s k l) b w (z .charge) ≡ Ends x → Meets (automatonOf n s k l) j w ⊎ (v ≡ []) → (i : ℕ)
-      → gaugeWalk n s k l b j (w ++ v) i z ≡ firstMet (automatonOf n s k l) j (w ++ v) i
+      → walkedArcs (automatonOf n s k l) b w (z .charge) ≡ Ends x → (i : ℕ)
+      → gaugeWalk n s k l b j w i z ≡ firstMet (automatonOf n s k l) j w i
   unfolding gaugeWalk firstMet
-  gauge-least [] v z t x match h room leads q (inl none) i = absurd none
-  gauge-least [] v z t x match h room leads q (inr end) i = rw end refl
-  gauge-least (a ∷ w) v z t x match h room (below, source, leads) q last i =
+  gauge-least [] z t x match h room leads q i = refl
+  gauge-least (a ∷ w) z t x match h room (below, source, leads) q i =
       let g = automatonOf n s k l in
       let f = moveOf (arcAt g a) in
       let (e, lost, to, r) = walked-cons b f (movesOf g w) (z .charge) x .0 q in
@@ -77,47 +70,30 @@ module _ (n s k : ℕ) (l : Lists) (b : ℕ) (fit : fitness n s k l ≡ Yes) (lo
       ∙ moved-yes g b a z (u .mode) e (u .spill) .1 (below, source, refl, (lost, to, refl, omega (arith, sum)))
       in
       rw step
-      (met-or (meets g j a) (Meets g j w) (v ≡ []) (suc i) last
-      (λ rest.
-      gauge-least w v u t x (kept-matches z u refl g b .0 match) (stepped-bound b f (z .charge) e lost h to) (omega (arith, sum)) leads r rest
-      (suc i)))
+      (ap (metOr (meets g j a) (suc i))
+      (gauge-least w u t x (kept-matches z u refl g b .0 match) (stepped-bound b f (z .charge) e lost h to) (omega (arith, sum)) leads r (suc i)))
 
-  -- the same of the first steps of a plan that serves, from the start: its bytes, prefix and one round, meet every colour, and lose far less
-  -- than the total takes
-  plan-least : (c p : ℕ) (w : List ℕ) → c ≤ b → Serves (automatonOf n s k l) b c (planOf p w) → p < length w → length w ≤ planMost → j < k → (t : ℕ)
+  -- the same of the steps of a plan that serves, from the start: as many as a call may ask for lose far less than the total takes
+  plan-least : (x c p : ℕ) (w : List ℕ) → c ≤ b → Serves (automatonOf n s k l) x b c (planOf p w) → (t : ℕ) → t < 2 ^ 16
       → walkOn (startedOf n s k l b c) (gaugeWalk n s k l b j (stepsOfPlan (planOf p w) t) 0) ≡ firstMet (automatonOf n s k l) j (stepsOfPlan (planOf p w) t) 0
-  plan-least c p w h serves cycle short hj t =
+  plan-least x c p w h serves t few =
       let g = automatonOf n s k l in
+      let u = stepsOfPlan (planOf p w) t in
+      let (m, y, leads, ends) = serves-walked g x b c (planOf p w) serves t t in
+      let short = length-take t (take p w ++ times t (drop p w)) in
+      let room : 0 + spilled b (movesOf g u) c ≤ spillMost = omega (arith, short, spilled-most n s k l b fit u s c m y h leads ends) in
       rw (started-yes n s k l b c fit (levels-yes b c .1 (low, h)))
-      (elim (decLe t (length w)) [
-        | yes q ↦
-            let (m, x, leads, ends) = serves-walked g b c (planOf p w) serves t t in
-            let u = stepsOfPlan (planOf p w) t in
-            subst (λ (u : List ℕ). gaugeWalk n s k l b j u 0 (newGauge g b c) ≡ firstMet g j u 0) (append-nil u)
-            (gauge-least u [] (newGauge g b c) m x (new-matches g b c) h (room u m x (omega (arith, length-take t (take p w ++ times t (drop p w)))) leads ends) leads ends (inr refl) 0)
-        | no q ↦
-            let (v, e) = steps-begin p w cycle t (omega arith) in
-            let bytes = steps-whole p w cycle (length w) ∙ take-append-seam w (times (length w) (drop p w)) in
-            let (m, x, leads, ends) = rw bytes at (serves-walked g b c (planOf p w) serves (length w) (length w)) in
-            subst (λ (u : List ℕ). gaugeWalk n s k l b j u 0 (newGauge g b c) ≡ firstMet g j u 0) (sym e)
-            (gauge-least w v (newGauge g b c) m x (new-matches g b c) h (room w m x short leads ends) leads ends (inl (bytes-meet g b c p w serves j hj)) 0)
-      ])
-    where
-      room : (u : List ℕ) (m x : ℕ) → length u ≤ planMost → Leads (automatonOf n s k l) s u m → walkedArcs (automatonOf n s k l) b u c ≡ Ends x
-          → 0 + spilled b (movesOf (automatonOf n s k l) u) c ≤ spillMost
-      room u m x few leads ends = omega (arith, spilled-most n s k l b fit u s c m x h leads ends)
+      (gauge-least u (newGauge g b c) m y (new-matches g b c) h room leads ends 0)
 
-module _ (n s k : ℕ) (l : Lists) (b c p q : ℕ) (w : List ℕ) (yes : judged n s k l b c p q w ≡ Yes) (j t : ℕ) (h : j < k) where
-  -- the call, for a plan that judging accepts and a colour of the model
-  pub walk-least : walkOf n s k l b c p q w j t ≡ firstMet (automatonOf n s k l) j (stepsOfPlan (planOf p w) t) 0
+module _ (n s k : ℕ) (l : Lists) (x b c p q : ℕ) (w : List ℕ) (yes : judged n s k l x b c p q w ≡ Yes) (j t : ℕ) (h : j < k) (few : t < 2 ^ 16) where
+  -- the call, for a plan that judging accepts, a colour of the model and an allowance of 16 bits: a barred colour may be met by no step at all
+  pub walk-least : walkOf n s k l x b c p q w j t ≡ firstMet (automatonOf n s k l) j (stepsOfPlan (planOf p w) t) 0
   unfolding walkOf
   walk-least =
-      let right = judged-yes n s k l b c p q w .0 yes in
+      let right = judged-yes n s k l x b c p q w .0 yes in
       let fit = fitness-yes n s k l .1 (right .equal, right .fit) in
-      rw (yes, lt-leb k j h)
-      (plan-least n s k l b fit (right .bound) j c p w (right .credit) (right .serves)
-      (omega (arith, right .lengths .parts, right .lengths .some-arc)) (right .lengths .short) h t)
+      rw (yes, lt-leb k j h) (plan-least n s k l b fit (right .bound) j x c p w (right .credit) (right .serves) t few)
 
   -- the same of the model as the code holds it
-  pub held-least : (g : Model) → held g ≡ automatonOf n s k l → firstMet (held g) j (stepsOfPlan (planOf p w) t) 0 ≡ walkOf n s k l b c p q w j t
+  pub held-least : (g : Model) → held g ≡ automatonOf n s k l → firstMet (held g) j (stepsOfPlan (planOf p w) t) 0 ≡ walkOf n s k l x b c p q w j t
   held-least g e = rw (e, walk-least) refl

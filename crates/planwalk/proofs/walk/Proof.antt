@@ -33,8 +33,8 @@ returns c =
     let a = start r .args in
     let l = lists-of (start r) in
     let w = a .plan .now in
-    let judged = told-judged (a .n) (a .start) (a .k) l (a .b) (a .c) (a .p) (a .q) w _ (r .judge-model .ensures) _ (c .before .enum-told .given .1) in
-    in-number walkAnswer (sym (walk-no-colour (a .n) (a .start) (a .k) l (a .b) (a .c) (a .p) (a .q) w (a .j) (a .allowance) judged (c .if1 .taken)))
+    let judged = told-judged (a .n) (a .start) (a .k) l (a .barred) (a .b) (a .c) (a .p) (a .q) w _ (r .judge-model .ensures) _ (c .before .enum-told .given .1) in
+    in-number walkAnswer (sym (walk-no-colour (a .n) (a .start) (a .k) l (a .barred) (a .b) (a .c) (a .p) (a .q) w (a .j) (a .allowance) judged (c .if1 .taken)))
 
 step-until-requires : tie.Need-step-until-requires
 step-until-requires c κs =
@@ -59,11 +59,12 @@ returns-2 c =
     let l = lists-of (start r) in
     let w = a .plan .now in
     let e = c .before .before .enum-told .given .1 in
-    let judged = told-judged (a .n) (a .start) (a .k) l (a .b) (a .c) (a .p) (a .q) w _ (r .judge-model .ensures) _ e in
+    let judged = told-judged (a .n) (a .start) (a .k) l (a .barred) (a .b) (a .c) (a .p) (a .q) w _ (r .judge-model .ensures) _ e in
     in-number walkAnswer
     (c .step-until .ensures
-    ∙ held-least (a .n) (a .start) (a .k) l (a .b) (a .c) (a .p) (a .q) w judged (a .j) (a .allowance) (c .before .if1 .left) (r .judge-model .result .model)
-    (told-model (a .n) (a .start) (a .k) l (a .b) (a .c) (a .p) (a .q) w _ (r .judge-model .ensures) e))
+    ∙ held-least (a .n) (a .start) (a .k) l (a .barred) (a .b) (a .c) (a .p) (a .q) w judged (a .j) (a .allowance) (c .before .if1 .left)
+    (omega (arith, start r .fits .allowance .fits)) (r .judge-model .result .model)
+    (told-model (a .n) (a .start) (a .k) l (a .barred) (a .b) (a .c) (a .p) (a .q) w _ (r .judge-model .ensures) e))
 
 returns-3 : tie.Need-returns-3
 returns-3 c =
@@ -71,8 +72,8 @@ returns-3 c =
     let a = start r .args in
     let l = lists-of (start r) in
     let w = a .plan .now in
-    let judged = told-judged (a .n) (a .start) (a .k) l (a .b) (a .c) (a .p) (a .q) w _ (r .judge-model .ensures) _ (c .before .verdict .given .1) in
-    in-number walkAnswer (sym (walk-refused (a .n) (a .start) (a .k) l (a .b) (a .c) (a .p) (a .q) w (a .j) (a .allowance) _ judged))
+    let judged = told-judged (a .n) (a .start) (a .k) l (a .barred) (a .b) (a .c) (a .p) (a .q) w _ (r .judge-model .ensures) _ (c .before .verdict .given .1) in
+    in-number walkAnswer (sym (walk-refused (a .n) (a .start) (a .k) l (a .barred) (a .b) (a .c) (a .p) (a .q) w (a .j) (a .allowance) _ judged))
 
 pub walk-spec : {M : Type 1} → statement M
 walk-spec =
