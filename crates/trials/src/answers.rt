@@ -144,7 +144,7 @@ fn compare(
     )
 }
 
-// The same, and where the barred byte is not 0 also with every bit of it at or above k turned, which changes no answer.
+// Searches and compares with the barred byte; where that is not 0, also with every bit of it at or above k turned, which changes no answer.
 fn compare_turned(
     sources: &[u8],
     targets: &[u8],

@@ -1,7 +1,7 @@
 // A plain search over pairs of a mode and a charge, which shares no code with the real one. At first every pair is a candidate. A pair is
 // removed where, for some required colour, no walk over candidates leads from it to an arc with the colour (where there is none, to any arc);
 // these walks use no arc with a barred colour. When none is removed any more, the candidates are the pairs from which every required colour can
-// be met again and again, and no barred one is met. A plan exists where a walk over any arcs leads from the start mode with the credit to one.
+// be met again and again, and no barred one is met. A plan exists where a prefix, over any arcs, leads from the start mode with the credit to one.
 use crate::lists::byte;
 use crate::lists::fill;
 use crate::lists::put;
@@ -9,7 +9,7 @@ use crate::models::Numbers;
 use crate::pairs::pair_after;
 use crate::pairs::pair_of;
 
-// The mask of no arc, as no model has eight colours.
+// A mask that no arc has a colour of, as no model has eight colours.
 const NEVER: u8 = 128;
 
 // What a walk is to come to, and by which arcs: an arc with a colour of the mask (where that is 0, any arc), by arcs with no colour of `barred`.
@@ -26,8 +26,8 @@ fn counts(colours: &[u8], a: usize, mask: u8) -> bool {
     byte(colours, a) & mask != 0
 }
 
-// Whether an arc, which leads to a pair (as pair_after has it), is not barred, leads to a candidate, and either counts or leads to a pair that is
-// marked.
+// Whether an arc, which leads to a pair (as pair_after has it), has no barred colour, leads to a candidate, and either counts or leads to a pair
+// that is marked.
 fn leads_by(
     colours: &[u8],
     a: usize,
@@ -313,8 +313,8 @@ fn remove_all(
     }
 }
 
-// Marks the pairs from which a walk over any pairs and arcs leads to one that is marked; the candidates are not needed any more.
-fn mark_run_in(
+// Marks the pairs from which a prefix, over any pairs and arcs, leads to one that is marked. The candidates are not needed any more.
+fn mark_prefixes(
     sources: &[u8],
     targets: &[u8],
     draws: &[u16],
@@ -363,7 +363,7 @@ pub fn has_plan(
         candidates,
         marked,
     );
-    mark_run_in(
+    mark_prefixes(
         sources,
         targets,
         draws,
