@@ -175,10 +175,10 @@ judged-within n s k l x b c p q w =
     colours-within g x (m .cycle) (omega (arith, fitness-yes n s k l .0 fit .1 .few-colours))
 
 -- the walk: what judging refuses, and 18
-pub walked-within : (n s k : ℕ) (l : Lists) (x b c p q : ℕ) (w : List ℕ) (j t : ℕ) (r : Refusal)
+pub walked-within : (n s k : ℕ) (l : Lists) (x b c p q : ℕ) (w : List ℕ) (j t : ℕ) → t < 2 ^ 16 → (r : Refusal)
     → walkOf n s k l x b c p q w j t ≡ outcome.Refused r → Within (2 * planMost) (Refused r)
-walked-within n s k l x b c p q w j t r e =
-    ⊎-elim (λ z. rw z at (judged-within n s k l x b c p q w)) (λ (_, _, z). rw z (omega arith)) (walk-refused-by n s k l x b c p q w j t r .0 e)
+walked-within n s k l x b c p q w j t low r e =
+    ⊎-elim (λ z. rw z at (judged-within n s k l x b c p q w)) (λ (_, _, z). rw z (omega arith)) (walk-refused-by n s k l x b c p q w j t low r .0 e)
 
 -- a gauge: the largest are those of 5, an arc
 pub started-within : (n s k : ℕ) (l : Lists) (b c : ℕ) → Within arcsMost (startedOf n s k l b c .verdict)

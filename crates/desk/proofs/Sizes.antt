@@ -58,9 +58,9 @@ pub walk-fields : (n s k : ℕ) (l : Lists) (x b c p q : ℕ) (w : List ℕ) (j 
 walk-fields n s k l x b c p q w j t low = go (walkOf n s k l x b c p q w j t) refl
   where
     go : (y : Walked) → walkOf n s k l x b c p q w j t ≡ y → WalkFields y
-    go (outcome.Met u) e = let (_, _, (a, z, f)) = walk-met n s k l x b c p q w j t u .0 e in omega (arith, f .within)
-    go (outcome.Spent u) e = let (_, _, z, _) = walk-spent n s k l x b c p q w j t u .0 e in omega arith
-    go (outcome.Refused r) e = omega (arith, refusal-number r, walked-within n s k l x b c p q w j t r e .detail)
+    go (outcome.Met u) e = let (_, _, (a, z, f)) = walk-met n s k l x b c p q w j t low u .0 e in omega (arith, f .within)
+    go (outcome.Spent u) e = let (_, _, z, _) = walk-spent n s k l x b c p q w j t low u .0 e in omega arith
+    go (outcome.Refused r) e = omega (arith, refusal-number r, walked-within n s k l x b c p q w j t low r e .detail)
 
 -- what search answers
 abbrev SearchFields : Searched → Type 0

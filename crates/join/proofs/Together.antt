@@ -46,8 +46,8 @@ module _ (p q : ℕ → Bool) (f : ℕ → ℕ) (P : ℕ → Type 0) (same : (z 
   some-from (z ∷ w) h (inl m) = inl (same z (h .0) ∙ m)
   some-from (z ∷ w) h (inr m) = inr (some-from w (h .1) m)
 
-  some-same : (w : List ℕ) → Every P w → SomeArc p w ↔ SomeArc q (map f w)
-  some-same w h = (some-to w h, some-from w h)
+  some-parts : (w : List ℕ) → Every P w → SomeArc p w ↔ SomeArc q (map f w)
+  some-parts w h = (some-to w h, some-from w h)
 
 -- moves go together as long as both last
 pub together-length : (ms ns : List Move) → length (movesTogether ms ns) ≡ min (length ms) (length ns)
@@ -126,10 +126,10 @@ module _ (g h : Automaton) where
 
     -- so do lists of joined arcs
     knee-meets : (j : ℕ) → j < g .colours → (w : List ℕ) → AllJoined w → Meets J j w ↔ Meets g j (knees w)
-    knee-meets j i = some-same (meets J j) (meets g j) (kneeArc g h) (IsJoined g h) (λ z l. knee-colour j z i l)
+    knee-meets j i = some-parts (meets J j) (meets g j) (kneeArc g h) (IsJoined g h) (λ z l. knee-colour j z i l)
 
     habit-meets : (j : ℕ) (w : List ℕ) → AllJoined w → Meets J (g .colours + j) w ↔ Meets h j (habits w)
-    habit-meets j = some-same (meets J (g .colours + j)) (meets h j) (habitArc g h) (IsJoined g h) (habit-colour j)
+    habit-meets j = some-parts (meets J (g .colours + j)) (meets h j) (habitArc g h) (IsJoined g h) (habit-colour j)
 
     -- a colour of the joined model is one of the knee, or one of the habit above them
     each-colour : (P : ℕ → Type 0) → ((j : ℕ) → j < g .colours → P j) → ((j : ℕ) → j < h .colours → P (g .colours + j))

@@ -73,11 +73,16 @@ judged-zero n s k l x b c p q w =
     let right = judged-yes n s k l x b c p q w in
     (λ e. right .0 (zero .0 e), λ r. zero .1 (right .1 r))
 
+-- judging by document 01 alone: 1 to 6, 11 to 16, and then 17 of the lowest-numbered colour that is missing from the round
+abbrev pub judgedPlain : ℕ → ℕ → ℕ → Lists → ℕ → ℕ → ℕ → ℕ → List ℕ → Verdict
+judgedPlain n s k l b c p q w =
+    let g = automatonOf n s k l in
+    andThen (fitness n s k l) (andThen (levelsOf b c) (andThen (shape g p q w) (andThen (charges g b c (planOf p w))
+    (missingFrom (λ j. someArc (meets g j) (drop p w)) k 0))))
+
 module _ (n s k : ℕ) (l : Lists) where
-  -- With nothing barred every answer is the one of document 01: 1 to 6, 11 to 16, and 17 of the lowest-numbered colour that is missing.
-  pub judged-unbarred : (b c p q : ℕ) (w : List ℕ) → judged n s k l 0 b c p q w
-      ≡ andThen (fitness n s k l) (andThen (levelsOf b c) (andThen (shape (automatonOf n s k l) p q w) (andThen
-      (charges (automatonOf n s k l) b c (planOf p w)) (missingFrom (λ j. someArc (meets (automatonOf n s k l) j) (drop p w)) k 0))))
+  -- with nothing barred every answer is the old one
+  pub judged-unbarred : (b c p q : ℕ) (w : List ℕ) → judged n s k l 0 b c p q w ≡ judgedPlain n s k l b c p q w
   unfolding judged judgedLevels judgedPlan servesOf
   judged-unbarred b c p q w =
       let g = automatonOf n s k l in

@@ -3,11 +3,11 @@ use mathlib.Core.Path.{_≡_, refl, sym, ap, _∙_, subst}
 use mathlib.Core.Bool.{Bool, true, false}
 use mathlib.Core.List.{List, [], _∷_, _++_}
 use mathlib.Core.Logic.{_↔_, _⊎_, inl, inr, ⊎-elim}
-use Prim.Native.Nat.{ℕ, zero, suc, _+_, _^_, _≤_, _<_}
+use Prim.Native.Nat.{ℕ, zero, suc, _+_, _-_, _^_, _≤_, _<_}
 use native.Mathlib.Omega.{arith}
 use native.Mathlib.Decide.{decLe}
-use lib.ListN.{length, getD, length-append}
-use lib.Seq.{length-take-le}
+use lib.ListN.{length, getD, take, drop, length-append, take-append-drop}
+use lib.Seq.{length-take-le, take-append-add, getD-take, getD-append-add}
 use Rattle.walks.specs.Walk.{times}
 use Rattle.refusals.specs.declared.Refusal.{Refusal}
 use Rattle.refusals.specs.declared.Refusal.the-variants.{NoSuchColour}
@@ -18,14 +18,16 @@ use Rattle.refusals.proofs.Verdicts.{clash}
 use Rattle.refusals.proofs.Scan.{FirstOf}
 use Rattle.model.specs.Automaton.{Automaton, bit, meets}
 use Rattle.model.specs.Lists.{Lists, automatonOf}
-use Rattle.model.specs.Plans.{Plan, Meets}
+use Rattle.model.specs.Plans.{Plan, Meets, Serves}
 use Rattle.model.proofs.Plans.{times-length}
+use Rattle.model.proofs.SomeArc.{some-at, some-right, some-times}
 use Rattle.judge.specs.Shape.{planOf}
 use Rattle.judge.specs.Judged.{judged}
 use Rattle.judge.proofs.Judged.{judged-yes}
 use Rattle.planwalk.specs.declared.Walked.the-variants.{Met, Spent, Refused}
 use Rattle.planwalk.specs.Walked.{stepsOfPlan, metOr, walkOf, firstMet}
-use Rattle.planwalk.proofs.Steps.{bytes-meet, steps-begin, walk-least}
+use Rattle.planwalk.proofs.Steps.{walk-least}
+use Rattle.planwalk.proofs.Walking.{steps-whole}
 use Rattle.planwalk.proofs.Refused.{walk-refused, walk-no-colour}
 
 -- of n places one is the first that passes the test, or none passes
@@ -95,6 +97,31 @@ steps-length p t h =
     length-take-le t (p .prefix ++ times t (p .cycle))
     (omega (arith, times-length (p .cycle) h t, length-append (p .prefix) (times t (p .cycle))))
 
+-- the bytes of a plan that serves meet every required colour: some arc of its cycle does
+bytes-meet : (g : Automaton) (x b c p : ℕ) (w : List ℕ) → Serves g x b c (planOf p w) → (j : ℕ) → j < g .colours → bit x j ≡ false → Meets g j w
+bytes-meet g x b c p w serves j h free =
+    subst (Meets g j) (take-append-drop p w) (some-right (meets g j) (take p w) (drop p w) (serves .accepted .required j h free))
+
+-- at least as many steps of a plan as it has bytes begin with all of them
+steps-begin : (p : ℕ) (w : List ℕ) → p < length w → (t : ℕ) → length w ≤ t → (v : List ℕ) × (stepsOfPlan (planOf p w) t ≡ w ++ v)
+steps-begin p w cycle t h =
+    let rest = times t (drop p w) in
+    let sum : t ≡ length w + (t - length w) = omega arith in
+    (take (t - length w) rest, steps-whole p w cycle t ∙ ap (λ (i : ℕ). take i (w ++ rest)) sum ∙ take-append-add w rest (t - length w))
+
+-- a step behind the prefix is on an arc of the cycle
+cycle-meets : (g : Automaton) (j p : ℕ) (w : List ℕ) → 0 < length (drop p w) → p ≤ length w → (t a : ℕ) → p ≤ a → a < t
+    → meets g j (getD (stepsOfPlan (planOf p w) t) a 0) ≡ true → Meets g j (drop p w)
+cycle-meets g j p w some h t a far few met =
+    let c = drop p w in
+    let place : a ≡ length (take p w) + (a - p) = omega (arith, length-take-le p w h) in
+    let there : getD (stepsOfPlan (planOf p w) t) a 0 ≡ getD (times t c) (a - p) 0 =
+    getD-take t (take p w ++ times t c) a 0 few ∙ ap {B = ℕ} (λ (i : ℕ). getD (take p w ++ times t c) i 0) place
+    ∙ getD-append-add (take p w) (times t c) (a - p) 0
+    in
+    some-times (meets g j) t c
+    (some-at (meets g j) (times t c) .1 (a - p, omega (arith, times-length c some t), ap {B = Bool} (meets g j) (sym there) ∙ met))
+
 module _ (n s k : ℕ) (l : Lists) (x b c p q : ℕ) (w : List ℕ) (j t : ℕ) where
   -- step a of the plan, counted from 0, meets colour j
   abbrev meetsAt : ℕ → Bool
@@ -117,9 +144,15 @@ module _ (n s k : ℕ) (l : Lists) (x b c p q : ℕ) (w : List ℕ) (j t : ℕ) 
       (λ (e, colour). (e, ⊎-elim (λ h. absurd (through NoSuchColour (walk-no-colour n s k l x b c p q w j t e h))) (λ h. h) colour))
       walk-cases
 
-  -- an allowance of 16 bits, as every call has
+  module _ (accepted : judged n s k l x b c p q w ≡ Yes) where
+    -- the walk of a plan has as many steps as the allowance
+    long : length (stepsOfPlan (planOf p w) t) ≡ t
+    long = steps-length (planOf p w) t (judged-yes n s k l x b c p q w .0 accepted .serves .plan .some-arc)
+
+  -- "the allowance .. (a 16-bit number, 0 to 65,535)"
   module _ (few : t < 2 ^ 16) where
-    -- the call is refused exactly by what judging refuses the plan by, or by 18 where judging accepts it
+    -- The call is refused exactly by what judging refuses the plan by, or by 18 where judging accepts it. "The walk may still be given a barred
+    -- colour": 18 is answered by k alone.
     pub walk-refused-by : (r : Refusal) → (walkOf n s k l x b c p q w j t ≡ Refused r)
         ↔ ((judged n s k l x b c p q w ≡ verdict.Refused r) ⊎ ((judged n s k l x b c p q w ≡ Yes) × (k ≤ j) × (r ≡ NoSuchColour)))
     walk-refused-by r = (
@@ -135,17 +168,12 @@ module _ (n s k : ℕ) (l : Lists) (x b c p q : ℕ) (w : List ℕ) (j t : ℕ) 
       ⊎-elim (walk-refused n s k l x b c p q w j t r) (λ (e, h, same). rw same (walk-no-colour n s k l x b c p q w j t e h)),
     )
 
-    module _ (accepted : judged n s k l x b c p q w ≡ Yes) where
-      -- the walk of a plan has as many steps as the allowance
-      long : length (stepsOfPlan (planOf p w) t) ≡ t
-      long = steps-length (planOf p w) t (judged-yes n s k l x b c p q w .0 accepted .serves .plan .some-arc)
-
-    -- The call answers "met" with d exactly where judging accepts the plan, the model has colour j, and of the allowance's steps d, counted from
+    -- The call answers "met" with y exactly where judging accepts the plan, the model has colour j, and of the allowance's steps y, counted from
     -- 1 on, is the first that meets colour j.
-    pub walk-met : (d : ℕ) → (walkOf n s k l x b c p q w j t ≡ Met d)
-        ↔ ((judged n s k l x b c p q w ≡ Yes) × (j < k) × ((a : ℕ) × (d ≡ suc a) × FirstOf meetsAt t a))
-    walk-met d =
-        let first = first-met (automatonOf n s k l) j (stepsOfPlan (planOf p w) t) 0 d in (
+    pub walk-met : (y : ℕ) → (walkOf n s k l x b c p q w j t ≡ Met y)
+        ↔ ((judged n s k l x b c p q w ≡ Yes) × (j < k) × ((a : ℕ) × (y ≡ suc a) × FirstOf meetsAt t a))
+    walk-met y =
+        let first = first-met (automatonOf n s k l) j (stepsOfPlan (planOf p w) t) 0 y in (
           λ e.
               let (accepted, h) = walked-only (λ r q. clash (cc)) in
               let (a, i, f) = first .0 (sym (walk-least n s k l x b c p q w accepted j t h few) ∙ e) in
@@ -156,10 +184,10 @@ module _ (n s k : ℕ) (l : Lists) (x b c p q : ℕ) (w : List ℕ) (j t : ℕ) 
         )
 
     -- "'Spent' is the answer only when exactly the allowance has been walked without meeting j."
-    pub walk-spent : (d : ℕ) → (walkOf n s k l x b c p q w j t ≡ Spent d)
-        ↔ ((judged n s k l x b c p q w ≡ Yes) × (j < k) × (d ≡ t) × ((a : ℕ) → a < t → meetsAt a ≡ false))
-    walk-spent d =
-        let first = first-spent (automatonOf n s k l) j (stepsOfPlan (planOf p w) t) 0 d in (
+    pub walk-spent : (y : ℕ) → (walkOf n s k l x b c p q w j t ≡ Spent y)
+        ↔ ((judged n s k l x b c p q w ≡ Yes) × (j < k) × (y ≡ t) × ((a : ℕ) → a < t → meetsAt a ≡ false))
+    walk-spent y =
+        let first = first-spent (automatonOf n s k l) j (stepsOfPlan (planOf p w) t) 0 y in (
           λ e.
               let (accepted, h) = walked-only (λ r q. clash (cc)) in
               let (i, none) = first .0 (sym (walk-least n s k l x b c p q w accepted j t h few) ∙ e) in
@@ -169,11 +197,23 @@ module _ (n s k : ℕ) (l : Lists) (x b c p q : ℕ) (w : List ℕ) (j t : ℕ) 
         )
 
     -- An allowance of p + q steps or more meets a required colour: an accepted plan has it on some arc of its cycle.
-    pub walk-meets : judged n s k l x b c p q w ≡ Yes → j < k → bit x j ≡ false → p + q ≤ t → (d : ℕ) × (walkOf n s k l x b c p q w j t ≡ Met d)
-    walk-meets accepted h required enough =
+    pub walk-meets : judged n s k l x b c p q w ≡ Yes → j < k → bit x j ≡ false → p + q ≤ t → (y : ℕ) × (walkOf n s k l x b c p q w j t ≡ Met y)
+    walk-meets accepted h free enough =
         let right = judged-yes n s k l x b c p q w .0 accepted in
         let lengths = right .lengths in
         let g = automatonOf n s k l in
         let (v, e) = steps-begin p w (omega (arith, lengths .parts, lengths .some-arc)) t (omega (arith, lengths .parts)) in
-        let (d, met) = meets-met g j w v 0 (bytes-meet g x b c p w (right .serves) j h required) in
-        (d, walk-least n s k l x b c p q w accepted j t h few ∙ ap (λ (u : List ℕ). firstMet g j u 0) e ∙ met)
+        let (y, met) = meets-met g j w v 0 (bytes-meet g x b c p w (right .serves) j h free) in
+        (y, walk-least n s k l x b c p q w accepted j t h few ∙ ap (λ (u : List ℕ). firstMet g j u 0) e ∙ met)
+
+    -- A barred colour is met in the run-in, or not at all: no arc of the round has it.
+    pub walk-barred : bit x j ≡ true → (y : ℕ) → walkOf n s k l x b c p q w j t ≡ Met y → y ≤ p
+    walk-barred barred y e =
+        let (accepted, h, (a, i, f)) = walk-met y .0 e in
+        let right = judged-yes n s k l x b c p q w .0 accepted in
+        elim (decLe p a) [
+          | yes far ↦
+              absurd (right .serves .accepted .barred j h barred
+              (cycle-meets (automatonOf n s k l) j p w (right .serves .plan .some-arc) (omega (arith, right .lengths .parts)) t a far (f .within) (f .passes)))
+          | no near ↦ omega arith
+        ]

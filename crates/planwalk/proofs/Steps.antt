@@ -1,16 +1,12 @@
--- The gauge that walks a judged plan is never refused: its walk ends at the least step that meets the colour, or after all of them.
--- Assumes nothing.
-use mathlib.Core.Path.{_≡_, refl, sym, ap, _∙_, subst}
-use mathlib.Core.Bool.{Bool, true, false, true≢false}
-use mathlib.Core.List.{List, [], _∷_, _++_, append-nil}
-use mathlib.Core.Logic.{_⊎_, inl, inr}
-use Prim.Native.Nat.{ℕ, suc, _+_, _-_, _^_, _≤_, _<_}
+-- The gauge that walks a judged plan, with an allowance of 16 bits, is never refused: its walk ends at the least step that meets the colour, or
+-- after all of them. Assumes nothing.
+use mathlib.Core.Path.{_≡_, refl, ap, _∙_}
+use mathlib.Core.List.{List, [], _∷_, _++_}
+use Prim.Native.Nat.{ℕ, suc, _+_, _^_, _≤_, _<_}
 use native.Mathlib.Omega.{arith}
-use native.Mathlib.Decide.{decLe}
-use lib.ListN.{length, take, drop, length-take, take-append-drop}
-use lib.Seq.{take-append-seam, take-append-add}
+use lib.ListN.{length-take}
 use borrow.Author.Tests.{lt-leb}
-use Rattle.limits.specs.Ceilings.{boundMost, planMost, spillMost}
+use Rattle.limits.specs.Ceilings.{boundMost, spillMost}
 use Rattle.walks.specs.Walk.{Ends, times}
 use Rattle.walks.specs.Spill.{spilled}
 use Rattle.walks.proofs.Walks.{walked-cons}
@@ -18,13 +14,12 @@ use Rattle.walks.proofs.Charges.{stepped-bound}
 use Rattle.walks.proofs.Spill.{spilled-cons}
 use Rattle.refusals.specs.declared.Verdict.the-variants.{Yes}
 use Rattle.model.specs.declared.Model.{Model}
-use Rattle.model.specs.Automaton.{Automaton, arcAt, bit, meets, moveOf, movesOf}
+use Rattle.model.specs.Automaton.{arcAt, meets, moveOf, movesOf}
 use Rattle.model.specs.Lists.{Lists, automatonOf, held}
 use Rattle.model.specs.Fitness.{fitness}
-use Rattle.model.specs.Plans.{Leads, walkedArcs, Meets, Serves}
+use Rattle.model.specs.Plans.{Plan, Leads, walkedArcs, Serves}
 use Rattle.model.proofs.Fitness.{fitness-yes, levels-yes}
 use Rattle.model.proofs.Plans.{serves-walked}
-use Rattle.model.proofs.SomeArc.{some-right}
 use Rattle.judge.specs.Shape.{planOf}
 use Rattle.judge.specs.Judged.{judged}
 use Rattle.judge.proofs.Judged.{judged-yes}
@@ -35,20 +30,6 @@ use Rattle.gauge.proofs.Matching.{kept-matches, new-matches}
 use Rattle.gauge.proofs.Follows.{moved-yes, step-moved, started-yes}
 use Rattle.planwalk.specs.declared.Walked.{Walked}
 use Rattle.planwalk.specs.Walked.{stepsOfPlan, metOr, walkOn, gaugeWalk, walkOf, firstMet}
-use Rattle.planwalk.proofs.Walking.{steps-whole}
-
--- the bytes of a plan that serves meet every required colour: some arc of its cycle does
-pub bytes-meet : (g : Automaton) (x b c p : ℕ) (w : List ℕ) → Serves g x b c (planOf p w) → (j : ℕ) → j < g .colours → bit x j ≡ false
-    → Meets g j w
-bytes-meet g x b c p w serves j h e =
-    subst (Meets g j) (take-append-drop p w) (some-right (meets g j) (take p w) (drop p w) (serves .accepted .required j h e))
-
--- at least as many steps of a plan as it has bytes begin with all of them
-pub steps-begin : (p : ℕ) (w : List ℕ) → p < length w → (t : ℕ) → length w ≤ t → (v : List ℕ) × (stepsOfPlan (planOf p w) t ≡ w ++ v)
-steps-begin p w cycle t h =
-    let rest = times t (drop p w) in
-    let sum : t ≡ length w + (t - length w) = omega arith in
-    (take (t - length w) rest, steps-whole p w cycle t ∙ ap (λ (i : ℕ). take i (w ++ rest)) sum ∙ take-append-add w rest (t - length w))
 
 module _ (n s k : ℕ) (l : Lists) (b : ℕ) (fit : fitness n s k l ≡ Yes) (low : b ≤ boundMost) (j : ℕ) where
   -- Along arcs w that lead on, whose walk ends and for whose losses the total has room, a matching gauge z walks to the least step that meets
@@ -69,30 +50,28 @@ module _ (n s k : ℕ) (l : Lists) (b : ℕ) (fit : fitness n s k l ≡ Yes) (lo
       step-moved n s k l b a z fit (levels-yes b (z .charge) .1 (low, h)) match
       ∙ moved-yes g b a z (u .mode) e (u .spill) .1 (below, source, refl, (lost, to, refl, omega (arith, sum)))
       in
-      rw step
-      (ap (metOr (meets g j a) (suc i))
-      (gauge-least w u t x (kept-matches z u refl g b .0 match) (stepped-bound b f (z .charge) e lost h to) (omega (arith, sum)) leads r (suc i)))
+      let rest =
+      gauge-least w u t x (kept-matches z u refl g b .0 match) (stepped-bound b f (z .charge) e lost h to) (omega (arith, sum)) leads r (suc i) in
+      rw step (ap {B = Walked} (metOr (meets g j a) (suc i)) rest)
 
-  -- the same of the steps of a plan that serves, from the start: as many as a call may ask for lose far less than the total takes
-  plan-least : (x c p : ℕ) (w : List ℕ) → c ≤ b → Serves (automatonOf n s k l) x b c (planOf p w) → (t : ℕ) → t < 2 ^ 16
-      → walkOn (startedOf n s k l b c) (gaugeWalk n s k l b j (stepsOfPlan (planOf p w) t) 0) ≡ firstMet (automatonOf n s k l) j (stepsOfPlan (planOf p w) t) 0
-  plan-least x c p w h serves t few =
+  -- the same of the first steps of a plan that serves, from the start: as many as an allowance of 16 bits lose far less than the total takes
+  plan-least : (x c : ℕ) (p : Plan) → c ≤ b → Serves (automatonOf n s k l) x b c p → (t : ℕ) → t < 2 ^ 16
+      → walkOn (startedOf n s k l b c) (gaugeWalk n s k l b j (stepsOfPlan p t) 0) ≡ firstMet (automatonOf n s k l) j (stepsOfPlan p t) 0
+  plan-least x c p h serves t few =
       let g = automatonOf n s k l in
-      let u = stepsOfPlan (planOf p w) t in
-      let (m, y, leads, ends) = serves-walked g x b c (planOf p w) serves t t in
-      let short = length-take t (take p w ++ times t (drop p w)) in
-      let room : 0 + spilled b (movesOf g u) c ≤ spillMost = omega (arith, short, spilled-most n s k l b fit u s c m y h leads ends) in
+      let (m, e, leads, ends) = serves-walked g x b c p serves t t in
+      let lost = spilled-most n s k l b fit (stepsOfPlan p t) s c m e h leads ends in
       rw (started-yes n s k l b c fit (levels-yes b c .1 (low, h)))
-      (gauge-least u (newGauge g b c) m y (new-matches g b c) h room leads ends 0)
+      (gauge-least (stepsOfPlan p t) (newGauge g b c) m e (new-matches g b c) h (omega (arith, lost, length-take t (p .prefix ++ times t (p .cycle)))) leads ends 0)
 
 module _ (n s k : ℕ) (l : Lists) (x b c p q : ℕ) (w : List ℕ) (yes : judged n s k l x b c p q w ≡ Yes) (j t : ℕ) (h : j < k) (few : t < 2 ^ 16) where
-  -- the call, for a plan that judging accepts, a colour of the model and an allowance of 16 bits: a barred colour may be met by no step at all
+  -- the call, for a plan that judging accepts, a colour of the model, barred or not, and an allowance of 16 bits
   pub walk-least : walkOf n s k l x b c p q w j t ≡ firstMet (automatonOf n s k l) j (stepsOfPlan (planOf p w) t) 0
   unfolding walkOf
   walk-least =
       let right = judged-yes n s k l x b c p q w .0 yes in
       let fit = fitness-yes n s k l .1 (right .equal, right .fit) in
-      rw (yes, lt-leb k j h) (plan-least n s k l b fit (right .bound) j x c p w (right .credit) (right .serves) t few)
+      rw (yes, lt-leb k j h) (plan-least n s k l b fit (right .bound) j x c (planOf p w) (right .credit) (right .serves) t few)
 
   -- the same of the model as the code holds it
   pub held-least : (g : Model) → held g ≡ automatonOf n s k l → firstMet (held g) j (stepsOfPlan (planOf p w) t) 0 ≡ walkOf n s k l x b c p q w j t

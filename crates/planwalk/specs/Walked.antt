@@ -42,7 +42,8 @@ abbrev pub walkIf : Verdict → Walked → Walked
 walkIf Yes f = f
 walkIf (Refused r) f = outcome.Refused r
 
--- what follows a start or a step goes on from its gauge; neither is refused where the plan is judged (theorem walk-least)
+-- what follows a start or a step goes on from its gauge; neither is refused where judging accepts the plan and the allowance is a 16-bit number
+-- (theorem walk-least)
 abbrev pub walkOn : Gauged → (Gauge → Walked) → Walked
 walkOn y f = walkIf (y .verdict) (f (y .gauge))
 

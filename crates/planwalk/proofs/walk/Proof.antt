@@ -62,8 +62,7 @@ returns-2 c =
     let judged = told-judged (a .n) (a .start) (a .k) l (a .barred) (a .b) (a .c) (a .p) (a .q) w _ (r .judge-model .ensures) _ e in
     in-number walkAnswer
     (c .step-until .ensures
-    ∙ held-least (a .n) (a .start) (a .k) l (a .barred) (a .b) (a .c) (a .p) (a .q) w judged (a .j) (a .allowance) (c .before .if1 .left)
-    (omega (arith, start r .fits .allowance .fits)) (r .judge-model .result .model)
+    ∙ held-least (a .n) (a .start) (a .k) l (a .barred) (a .b) (a .c) (a .p) (a .q) w judged (a .j) (a .allowance) (c .before .if1 .left) (omega (arith, start r .fits .allowance .fits)) (r .judge-model .result .model)
     (told-model (a .n) (a .start) (a .k) l (a .barred) (a .b) (a .c) (a .p) (a .q) w _ (r .judge-model .ensures) e))
 
 returns-3 : tie.Need-returns-3
