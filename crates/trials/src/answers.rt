@@ -12,6 +12,7 @@ use crate::models::Numbers;
 use crate::models::numbers_of;
 use crate::models::put_arcs;
 use crate::models::skip;
+use crate::models::turned;
 use limits::Limits;
 use search::Searched;
 use search::search;
@@ -35,6 +36,14 @@ pub enum Outcome {
 pub struct Tried {
     pub outcome: Outcome,
     pub state: u32,
+}
+
+// Whether a model is answered wrongly.
+fn is_difference(outcome: Outcome) -> bool {
+    match outcome {
+        Outcome::Difference => true,
+        _ => false,
+    }
 }
 
 // The answer compared with the expected one.
@@ -114,6 +123,7 @@ fn compare(
         actions,
         numbers.credit,
         numbers.bound,
+        numbers.barred,
         work,
         plan,
     );
@@ -130,6 +140,48 @@ fn compare(
         numbers,
         searched,
         expected,
+        plan,
+    )
+}
+
+// Searches and compares with the barred byte; where that is not 0, also with every bit of it at or above k turned, which changes no answer.
+fn compare_turned(
+    sources: &[u8],
+    targets: &[u8],
+    draws: &[u16],
+    gains: &[u16],
+    colours: &[u8],
+    actions: &[u8],
+    numbers: Numbers,
+    expected: bool,
+    work: &mut [u16],
+    plan: &mut [u8],
+) -> Outcome {
+    let outcome = compare(
+        sources,
+        targets,
+        draws,
+        gains,
+        colours,
+        actions,
+        numbers,
+        expected,
+        work,
+        plan,
+    );
+    if numbers.barred == 0 || is_difference(outcome) {
+        return outcome;
+    }
+    compare(
+        sources,
+        targets,
+        draws,
+        gains,
+        colours,
+        actions,
+        turned(numbers),
+        expected,
+        work,
         plan,
     )
 }
@@ -184,7 +236,7 @@ fn lend(
     let mut plan = [0u8; BYTES];
     let words = Limits::WORK_WORDS * room + extra % 4;
     let bytes = room + pairs + extra % 4;
-    compare(
+    compare_turned(
         sources,
         targets,
         draws,

@@ -1,13 +1,22 @@
 // A plain search over pairs of a mode and a charge, which shares no code with the real one. At first every pair is a candidate. A pair is
-// removed where, for some colour, no walk over candidates leads from it to an arc with the colour (where there is no colour, to any arc). When
-// none is removed any more, the candidates are the pairs from which every colour can be met again and again; a plan exists where the start
-// mode with the credit is one of them.
+// removed where, for some required colour, no walk over candidates leads from it to an arc with the colour (where there is none, to any arc);
+// these walks use no arc with a barred colour. When none is removed any more, the candidates are the pairs from which every required colour can
+// be met again and again, and no barred one is met. A plan exists where a prefix, over any arcs, leads from the start mode with the credit to one.
 use crate::lists::byte;
 use crate::lists::fill;
 use crate::lists::put;
 use crate::models::Numbers;
 use crate::pairs::pair_after;
 use crate::pairs::pair_of;
+
+// A mask that no arc has a colour of, as no model has eight colours.
+const NEVER: u8 = 128;
+
+// What a walk is to come to, and by which arcs: an arc with a colour of the mask (where that is 0, any arc), by arcs with no colour of `barred`.
+struct Sought {
+    mask: u8,
+    barred: u8,
+}
 
 // Whether an arc counts: it has a colour of the mask, or the mask is 0, which asks for no colour.
 fn counts(colours: &[u8], a: usize, mask: u8) -> bool {
@@ -17,11 +26,12 @@ fn counts(colours: &[u8], a: usize, mask: u8) -> bool {
     byte(colours, a) & mask != 0
 }
 
-// Whether an arc, which leads to a pair (as pair_after has it), leads to a candidate, and either counts or leads to a pair that is marked.
+// Whether an arc, which leads to a pair (as pair_after has it), has no barred colour, leads to a candidate, and either counts or leads to a pair
+// that is marked.
 fn leads_by(
     colours: &[u8],
     a: usize,
-    mask: u8,
+    sought: Sought,
     after: usize,
     candidates: &[u8],
     marked: &[u8],
@@ -32,7 +42,10 @@ fn leads_by(
     if byte(candidates, after - 1) != 1 {
         return false;
     }
-    if counts(colours, a, mask) {
+    if byte(colours, a) & sought.barred != 0 {
+        return false;
+    }
+    if counts(colours, a, sought.mask) {
         return true;
     }
     byte(marked, after - 1) == 1
@@ -46,7 +59,7 @@ fn leads_on(
     gains: &[u16],
     colours: &[u8],
     bound: u32,
-    mask: u8,
+    sought: Sought,
     pair: usize,
     candidates: &[u8],
     marked: &[u8],
@@ -54,7 +67,7 @@ fn leads_on(
     let mut a = 0;
     while a < sources.len() {
         let after = pair_after(sources, targets, draws, gains, bound, pair, a);
-        if leads_by(colours, a, mask, after, candidates, marked) {
+        if leads_by(colours, a, sought, after, candidates, marked) {
             return true;
         }
         a += 1;
@@ -70,7 +83,7 @@ fn is_next(
     gains: &[u16],
     colours: &[u8],
     bound: u32,
-    mask: u8,
+    sought: Sought,
     pair: usize,
     candidates: &[u8],
     marked: &[u8],
@@ -88,7 +101,7 @@ fn is_next(
         gains,
         colours,
         bound,
-        mask,
+        sought,
         pair,
         candidates,
         marked,
@@ -111,7 +124,7 @@ fn sweep(
     gains: &[u16],
     colours: &[u8],
     bound: u32,
-    mask: u8,
+    sought: Sought,
     candidates: &[u8],
     marked: &mut [u8],
 ) -> bool {
@@ -125,7 +138,7 @@ fn sweep(
             gains,
             colours,
             bound,
-            mask,
+            sought,
             pair,
             candidates,
             marked,
@@ -138,19 +151,19 @@ fn sweep(
     more
 }
 
-// Marks the pairs from which a walk over candidates leads to an arc that counts. Each sweep but the last marks one more.
-fn mark(
+// Marks, beyond the pairs that are marked, those from which a walk over candidates leads to one or to an arc that counts. Each sweep but the last
+// marks one more.
+fn spread(
     sources: &[u8],
     targets: &[u8],
     draws: &[u16],
     gains: &[u16],
     colours: &[u8],
     bound: u32,
-    mask: u8,
+    sought: Sought,
     candidates: &[u8],
     marked: &mut [u8],
 ) {
-    fill(marked, 0);
     let mut sweeps = 0;
     let mut more = true;
     while sweeps < candidates.len() {
@@ -164,12 +177,38 @@ fn mark(
             gains,
             colours,
             bound,
-            mask,
+            sought,
             candidates,
             marked,
         );
         sweeps += 1;
     }
+}
+
+// Marks the pairs from which a walk over candidates leads to an arc that counts, and no other.
+fn mark(
+    sources: &[u8],
+    targets: &[u8],
+    draws: &[u16],
+    gains: &[u16],
+    colours: &[u8],
+    bound: u32,
+    sought: Sought,
+    candidates: &[u8],
+    marked: &mut [u8],
+) {
+    fill(marked, 0);
+    spread(
+        sources,
+        targets,
+        draws,
+        gains,
+        colours,
+        bound,
+        sought,
+        candidates,
+        marked,
+    );
 }
 
 // Removes the candidates that are not marked; whether there was one.
@@ -186,12 +225,16 @@ fn keep_marked(candidates: &mut [u8], marked: &[u8]) -> bool {
     removed
 }
 
-// The mask of a colour; 0, for no colour, where there is none.
-fn mask_of(k: u32, colour: u32) -> u8 {
-    if k == 0 {
+// The mask of a colour; 0, for no colour, where there is none or it is barred.
+fn mask_of(numbers: Numbers, colour: u32) -> u8 {
+    if numbers.colours == 0 {
         return 0;
     }
-    1u8 << (colour % 8)
+    let mask = 1u8 << (colour % 8);
+    if mask & numbers.barred != 0 {
+        return 0;
+    }
+    mask
 }
 
 // How many masks are asked for: one for each colour, and one for none.
@@ -202,30 +245,33 @@ fn masks(k: u32) -> u32 {
     k
 }
 
-// Removes the candidates that cannot meet one of the colours; whether there was one.
+// Removes the candidates that cannot meet one of the required colours; whether there was one.
 fn remove(
     sources: &[u8],
     targets: &[u8],
     draws: &[u16],
     gains: &[u16],
     colours: &[u8],
-    bound: u32,
-    k: u32,
+    numbers: Numbers,
     candidates: &mut [u8],
     marked: &mut [u8],
 ) -> bool {
-    let count = masks(k);
+    let count = masks(numbers.colours);
     let mut removed = false;
     let mut colour = 0;
     while colour < count {
+        let sought = Sought {
+            mask: mask_of(numbers, colour),
+            barred: numbers.barred,
+        };
         mark(
             sources,
             targets,
             draws,
             gains,
             colours,
-            bound,
-            mask_of(k, colour),
+            numbers.bound,
+            sought,
             candidates,
             marked,
         );
@@ -237,15 +283,14 @@ fn remove(
     removed
 }
 
-// Removes candidates until none is removed any more. Each round but the last removes one.
+// Removes candidates until none is removed any more. Each round but the last removes one, and after the last the marked pairs are the candidates.
 fn remove_all(
     sources: &[u8],
     targets: &[u8],
     draws: &[u16],
     gains: &[u16],
     colours: &[u8],
-    bound: u32,
-    k: u32,
+    numbers: Numbers,
     candidates: &mut [u8],
     marked: &mut [u8],
 ) {
@@ -258,8 +303,7 @@ fn remove_all(
             draws,
             gains,
             colours,
-            bound,
-            k,
+            numbers,
             candidates,
             marked,
         ) {
@@ -267,6 +311,35 @@ fn remove_all(
         }
         rounds += 1;
     }
+}
+
+// Marks the pairs from which a prefix, over any pairs and arcs, leads to one that is marked. The candidates are not needed any more.
+fn mark_prefixes(
+    sources: &[u8],
+    targets: &[u8],
+    draws: &[u16],
+    gains: &[u16],
+    colours: &[u8],
+    bound: u32,
+    candidates: &mut [u8],
+    marked: &mut [u8],
+) {
+    fill(candidates, 1);
+    let sought = Sought {
+        mask: NEVER,
+        barred: 0,
+    };
+    spread(
+        sources,
+        targets,
+        draws,
+        gains,
+        colours,
+        bound,
+        sought,
+        candidates,
+        marked,
+    );
 }
 
 // Whether a plan exists.
@@ -286,11 +359,20 @@ pub fn has_plan(
         draws,
         gains,
         colours,
+        numbers,
+        candidates,
+        marked,
+    );
+    mark_prefixes(
+        sources,
+        targets,
+        draws,
+        gains,
+        colours,
         numbers.bound,
-        numbers.colours,
         candidates,
         marked,
     );
     let first = pair_of(numbers.start, numbers.credit, numbers.bound);
-    byte(candidates, first) == 1
+    byte(marked, first) == 1
 }

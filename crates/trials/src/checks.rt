@@ -7,6 +7,7 @@ use crate::models::Numbers;
 use crate::rounds::is_right;
 use judge::judge;
 use limits::Limits;
+use planwalk::WalkAnswer;
 use planwalk::walk;
 
 // Whether judging says yes to a plan.
@@ -34,6 +35,7 @@ fn is_judged(
         actions,
         numbers.credit,
         numbers.bound,
+        numbers.barred,
         p,
         q,
         plan,
@@ -42,7 +44,28 @@ fn is_judged(
     answer.number == 0
 }
 
-// Whether the walk of a plan for a number is right: a colour is met within prefix and cycle, a number that is no colour is refused by 18.
+// Whether a colour is barred.
+fn is_barred(barred: u8, colour: u32) -> bool {
+    ((barred as u32) >> (colour % 8)) % 2 == 1
+}
+
+// Whether the answer of a walk for a number is right: a required colour is met, a barred one within the prefix or not at all, and a number that
+// is no colour is refused by 18.
+fn is_answer_right(result: WalkAnswer, numbers: Numbers, p: u32, colour: u32) -> bool {
+    let answer = result.answer;
+    if colour >= numbers.colours {
+        return answer.number == 18;
+    }
+    if !is_barred(numbers.barred, colour) {
+        return result.met;
+    }
+    if result.met {
+        return (result.steps as u32) <= p;
+    }
+    answer.number == 0
+}
+
+// Whether the walk of a plan for a number, with the plan's length as its allowance, is right.
 fn is_walked_for(
     sources: &[u8],
     targets: &[u8],
@@ -70,18 +93,14 @@ fn is_walked_for(
         actions,
         numbers.credit,
         numbers.bound,
+        numbers.barred,
         p,
         q,
         plan,
         colour,
         plan.len() as u16,
     );
-    let result = walked.answer();
-    let answer = result.answer;
-    if colour < numbers.colours {
-        return result.met;
-    }
-    answer.number == 18
+    is_answer_right(walked.answer(), numbers, p, colour)
 }
 
 // Whether it is so for each colour and for the first number that is no colour.

@@ -34,6 +34,7 @@ fn print_walk(allowance: u16) {
         &actions,
         0,
         5,
+        0,
         6,
         1,
         &plan,
@@ -90,6 +91,7 @@ fn print_search(n: u32, start: u32, k: u32, b: u32) {
         &actions[..none],
         0,
         b,
+        0,
         &mut work,
         &mut plan,
     );

@@ -46,6 +46,7 @@ fn small(models: u16) -> Family {
         net_low: 5,
         both_span: 1,
         repeats: false,
+        bars: false,
     }
 }
 
@@ -74,6 +75,22 @@ fn all_modes(models: u16) -> Family {
     family.bound_span = 1;
     family.net_span = 121;
     family.net_low = 101;
+    family
+}
+
+// The family with all four colours over as many pairs as there is space for.
+fn all_colours(models: u16) -> Family {
+    let mut family = small(models);
+    family.modes_least = 8;
+    family.modes_span = 1;
+    family.colours_least = COLOURS;
+    family.colours_span = 1;
+    family.arcs_least = 24;
+    family.arcs_span = 24;
+    family.bound_least = 203;
+    family.bound_span = 1;
+    family.net_span = 201;
+    family.net_low = 175;
     family
 }
 
@@ -146,24 +163,13 @@ fn try_large(first: u32) -> u32 {
     bound.bound_span = 1;
     bound.net_span = 8001;
     bound.net_low = 6000;
-    let mut colours = small(64);
-    colours.modes_least = 8;
-    colours.modes_span = 1;
-    colours.colours_least = COLOURS;
-    colours.colours_span = 1;
-    colours.arcs_least = 24;
-    colours.arcs_span = 24;
-    colours.bound_least = 203;
-    colours.bound_span = 1;
-    colours.net_span = 201;
-    colours.net_low = 175;
     let second = try_family(b"64-modes", all_modes(64), first);
     let third = try_family(b"bound-8191", bound, second);
-    try_family(b"4-colours", colours, third)
+    try_family(b"4-colours", all_colours(64), third)
 }
 
 // Families whose arcs draw and gain: with small and with medium numbers, with every arc's gain equal to its draw, and with 64 modes.
-fn try_two_parts(first: u32) {
+fn try_two_parts(first: u32) -> u32 {
     let mut few = small(4000);
     few.both_span = 6;
     let mut more = medium(1000);
@@ -178,10 +184,32 @@ fn try_two_parts(first: u32) {
     let second = try_family(b"two-parts", few, first);
     let third = try_family(b"medium-two-parts", more, second);
     let fourth = try_family(b"level-two-parts", level, third);
-    try_family(b"64-modes-two-parts", modes, fourth);
+    try_family(b"64-modes-two-parts", modes, fourth)
+}
+
+// Families with barred colours: with small numbers, with medium numbers whose arcs draw and gain, and with all four colours.
+fn try_barred(first: u32) {
+    let mut few = small(2000);
+    few.modes_least = 2;
+    few.modes_span = 5;
+    few.colours_span = COLOURS + 1;
+    few.arcs_least = 4;
+    few.arcs_span = 12;
+    few.net_low = 3;
+    few.bars = true;
+    let mut more = medium(1000);
+    more.net_low = 8;
+    more.both_span = 12;
+    more.bars = true;
+    let mut colours = all_colours(32);
+    colours.net_low = 125;
+    colours.bars = true;
+    let second = try_family(b"barred", few, first);
+    let third = try_family(b"medium-barred", more, second);
+    try_family(b"4-colours-barred", colours, third);
 }
 
 fn main() {
     examples::print_examples();
-    try_two_parts(try_large(try_small(20261115)));
+    try_barred(try_two_parts(try_large(try_small(20261115))));
 }

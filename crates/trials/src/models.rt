@@ -12,7 +12,7 @@ const GAINS: u32 = (Limits::GAIN as u32) + 1;
 // The actions that an arc may have.
 const ACTIONS: usize = (Limits::ACTION as usize) + 1;
 
-// The numbers of a model, with credit and bound; arcs: how many it has.
+// The numbers of a model, with credit, bound and barred colours; arcs: how many it has.
 pub struct Numbers {
     pub modes: u32,
     pub start: u32,
@@ -20,11 +20,12 @@ pub struct Numbers {
     pub arcs: u32,
     pub credit: u32,
     pub bound: u32,
+    pub barred: u8,
 }
 
 // A family of models: from `least` on, `span` values of each number. An arc's gain less its draw is a number below net_span less net_low; beyond
 // that it draws and gains a number below both_span, the same, so that with 1 no arc has both parts. Where `repeats`, an arc is as likely as not
-// equal in all fields to the one before.
+// equal in all fields to the one before. Where `bars`, the barred byte is any byte, also with bits at or above k; else it is 0.
 pub struct Family {
     pub models: u16,
     pub modes_least: u16,
@@ -39,6 +40,7 @@ pub struct Family {
     pub net_low: u16,
     pub both_span: u16,
     pub repeats: bool,
+    pub bars: bool,
 }
 
 // The generator: x ↦ 48271·x modulo 2³¹ − 1.
@@ -92,13 +94,29 @@ fn number(state: u32, least: u16, span: u16) -> u32
     (least as u32) + pick(state, span as u32)
 }
 
-// The numbers of a model of a family, by the six states after a state.
+// The barred byte of a model of a family, by the state after a state.
+fn barred_of(family: Family, state: u32) -> u8 {
+    if !family.bars {
+        return 0;
+    }
+    low_byte(pick(next(state), 256))
+}
+
+// The numbers with every bit of the barred byte at or above k turned.
+pub fn turned(numbers: Numbers) -> Numbers {
+    let mut other = numbers;
+    other.barred = numbers.barred ^ (255u8 << (numbers.colours % 8));
+    other
+}
+
+// The numbers of a model of a family, by the seven states after a state. Its first arc is picked by later ones.
 pub fn numbers_of(family: Family, state: u32) -> Numbers {
     let first = next(state);
     let second = next(first);
     let third = next(second);
     let fourth = next(third);
     let fifth = next(fourth);
+    let sixth = next(fifth);
     let modes = number(first, family.modes_least, family.modes_span);
     let bound = number(fourth, family.bound_least, family.bound_span);
     Numbers {
@@ -106,8 +124,9 @@ pub fn numbers_of(family: Family, state: u32) -> Numbers {
         start: pick(fifth, modes),
         colours: number(second, family.colours_least, family.colours_span),
         arcs: number(third, family.arcs_least, family.arcs_span),
-        credit: pick(next(fifth), bound + 1),
+        credit: pick(sixth, bound + 1),
         bound,
+        barred: barred_of(family, sixth),
     }
 }
 

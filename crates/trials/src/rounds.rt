@@ -1,4 +1,4 @@
-// A plan tested plainly: its arcs are known, its prefix and three rounds can be walked, and its cycle has all colours.
+// A plan tested plainly: its arcs are known, its prefix and three rounds can be walked, and its cycle has all required colours and no barred one.
 use crate::lists::byte;
 use crate::models::Numbers;
 use crate::pairs::pair_after;
@@ -92,15 +92,19 @@ fn gathered(colours: &[u8], arcs: &[u8]) -> u8 {
     mask
 }
 
-// Whether a cycle has an arc, and all k colours.
-fn has_all(colours: &[u8], k: u32, cycle: &[u8]) -> bool {
+// Whether a cycle has an arc, all of k colours that are not barred, and none that is.
+fn has_required(colours: &[u8], k: u32, barred: u8, cycle: &[u8]) -> bool {
     if cycle.len() == 0 {
         return false;
     }
-    (gathered(colours, cycle) as u32) + 1 == 1u32 << (k % 8)
+    let mask = gathered(colours, cycle);
+    if mask & barred != 0 {
+        return false;
+    }
+    mask | barred | (255u8 << (k % 8)) == 255
 }
 
-// Whether a plan is one, plainly: known arcs, a prefix from the start mode, rounds that hold, and a cycle with all colours.
+// Whether a plan is one, plainly: known arcs, a prefix from the start mode, rounds that hold, and a cycle with the right colours.
 pub fn is_right(
     sources: &[u8],
     targets: &[u8],
@@ -120,7 +124,7 @@ pub fn is_right(
     if !are_known(sources.len(), plan) {
         return false;
     }
-    if !has_all(colours, numbers.colours, &plan[p..]) {
+    if !has_required(colours, numbers.colours, numbers.barred, &plan[p..]) {
         return false;
     }
     let bound = numbers.bound;

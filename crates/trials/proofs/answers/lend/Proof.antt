@@ -15,11 +15,11 @@ mul-pairs c = fits-le (mul-le-mul {n₂ = 4294967295} {m₂ = 4294967296} (omega
 mul-room : tie.Need-mul-room
 mul-room c = fits-le (mul-le-mul {n₂ = 8192} {m₂ = 5} (omega arith) (omega (arith, ltb-false))) (fits-lit tt)
 
-slice-aggregate-compare : tie.Need-slice-aggregate-compare
-slice-aggregate-compare c = simp length-take (omega arith)
+slice-aggregate-compare-turned : tie.Need-slice-aggregate-compare-turned
+slice-aggregate-compare-turned c = simp length-take (omega arith)
 
-slice-aggregate-compare-2 : tie.Need-slice-aggregate-compare-2
-slice-aggregate-compare-2 c = simp length-take (omega arith)
+slice-aggregate-compare-turned-2 : tie.Need-slice-aggregate-compare-turned-2
+slice-aggregate-compare-turned-2 c = simp length-take (omega arith)
 
 pub lend-spec : {M : Type 1} → statement M
 lend-spec =
@@ -40,8 +40,8 @@ lend-spec =
     (search needs)
     (search needs)
     (search needs)
-    slice-aggregate-compare
+    slice-aggregate-compare-turned
     (search needs)
-    slice-aggregate-compare-2
+    slice-aggregate-compare-turned-2
     (search needs)
     (search needs))

@@ -10,8 +10,8 @@ pub remove-spec : {M : Type 1} → statement M
 remove-spec =
     tie.close
     (tie.spec
-    (λ _ _ _ _ _ _ _ candidates₀ marked₀ _ _ _ candidates marked _ _. (length candidates ≡ length candidates₀) × (length marked ≡ length marked₀))
-    (λ _ _ _ _ _ _ _ _ _ count _ _ _ _ _ colour. count - colour)
+    (λ _ _ _ _ _ _ candidates₀ marked₀ _ _ _ candidates marked _ _. (length candidates ≡ length candidates₀) × (length marked ≡ length marked₀))
+    (λ _ _ _ _ _ _ _ _ count _ _ _ _ _ colour. count - colour)
     (search needs)
     (search needs)
     (search needs)

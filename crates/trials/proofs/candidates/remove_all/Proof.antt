@@ -10,8 +10,8 @@ pub remove-all-spec : {M : Type 1} → statement M
 remove-all-spec =
     tie.close
     (tie.spec
-    (λ _ _ _ _ _ _ _ candidates₀ marked₀ _ candidates marked _. (length candidates ≡ length candidates₀) × (length marked ≡ length marked₀))
-    (λ _ _ _ _ _ _ _ candidates₀ _ _ _ _ rounds. length candidates₀ + 1 - rounds)
+    (λ _ _ _ _ _ _ candidates₀ marked₀ _ candidates marked _. (length candidates ≡ length candidates₀) × (length marked ≡ length marked₀))
+    (λ _ _ _ _ _ _ candidates₀ _ _ _ _ rounds. length candidates₀ + 1 - rounds)
     (search needs)
     (search needs)
     (search needs)
