@@ -152,13 +152,16 @@ struct model reordered(const struct model *m, const uint8_t *order, struct lists
 /* A random number below n; the same numbers in every run. */
 uint32_t below(uint32_t n);
 
+/* A byte of barred colours; of two, one is 0. */
+uint8_t random_barred(void);
+
 /* The most arcs of a small random model, and the greatest draw and gain. */
 enum { SMALL_ARCS_MOST = 8, SMALL_MOVE_MOST = 6 };
 
-/* A small model in these lists, with 4 modes or fewer. */
+/* A small model in these lists, with 4 modes or fewer, and random barred colours. */
 struct model random_fit_model(struct lists *lists);
 
-/* A small model in these lists; one in five has something unfit. Lists of another length have elements enough. */
+/* The same; one in five has something unfit. Lists of another length have elements enough. */
 struct model random_model(struct lists *lists);
 
 /* Gives the first arcs of the lists random draws and gains up to these; of three, one draws, one gains, and one does both. */

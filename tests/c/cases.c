@@ -13,7 +13,7 @@ static const uint8_t j_colours[] = {1, 2};
 struct model model(uint32_t n, uint32_t k, size_t arcs, const uint8_t *sources, const uint8_t *targets, const uint16_t *draws,
     const uint16_t *gains, const uint8_t *colours)
 {
-    struct model m = {n, 0, k, sources, arcs, targets, arcs, draws, arcs, gains, arcs, colours, arcs, zeros, arcs, NULL};
+    struct model m = {n, 0, k, sources, arcs, targets, arcs, draws, arcs, gains, arcs, colours, arcs, zeros, arcs, NULL, 0};
     return m;
 }
 
@@ -47,6 +47,7 @@ struct model without_last(const struct model *m)
 
     r.start = m->start;
     r.actions = m->actions;
+    r.barred = m->barred;
     return r;
 }
 

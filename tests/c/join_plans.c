@@ -62,19 +62,26 @@ static void judged_together(const struct model *knee, const struct model *habit,
     }
 }
 
-/* A small model with up to so many modes, so many colours, of which an arc meets half, and few actions. */
+/* A small model with up to so many modes, so many colours, of which an arc meets half, random barred ones, and few actions. */
 static struct model random_part(struct lists *to, uint32_t modes, uint32_t k, uint32_t actions)
 {
     uint32_t n = 1 + below(modes), arcs = 1 + below(PLAIN_TRIPLES_ARCS_MOST), a;
     struct model m = listed(n, k, to, arcs);
 
     m.start = below(n);
+    m.barred = random_barred();
     for (a = 0; a < arcs; a++) {
         struct arc arc = {below(n), below(n), below(2) * below(6), below(5), below(1u << k), below(actions)};
 
         put(to, a, arc);
     }
     return m;
+}
+
+/* The barred colours of knee and habit as those of the joined model. */
+static uint8_t joined_barred(const struct model *knee, const struct model *habit)
+{
+    return (uint8_t)((knee->barred & ((1u << knee->k) - 1)) | (uint32_t)habit->barred << knee->k);
 }
 
 /* Small knees and habits joined; of many there are enough with plans, and enough without. */
@@ -91,6 +98,7 @@ void test_random_joined_plans(unsigned long models)
 
         check(r.number == CHARGEPLAN_YES, "a joined plan");
         joined = joined_model(r, &lists);
+        joined.barred = joined_barred(&knee, &habit);
         with_plans += (unsigned long)searched_together("a joined plan", &knee, &habit, &joined, c, b);
         judged_together(&knee, &habit, &joined, c, b);
     }
