@@ -35,6 +35,15 @@ void put(struct lists *to, size_t at, struct arc arc)
     to->actions[at] = (uint8_t)arc.action;
 }
 
+struct model of_arcs(struct lists *to, uint32_t n, uint32_t k, const struct arc *arcs, size_t count)
+{
+    size_t a;
+
+    for (a = 0; a < count; a++)
+        put(to, a, arcs[a]);
+    return listed(n, k, to, count);
+}
+
 struct model without_arcs(uint32_t n, uint32_t k)
 {
     return model(n, k, 0, NULL, NULL, NULL, NULL, NULL);

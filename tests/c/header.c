@@ -146,11 +146,18 @@ static void same_gauge(const char *what, const struct model *m, uint32_t c, uint
     take_back(m, l, what);
 }
 
-/* Every function over a struct chargeplan_model does what its entry does. */
+/* Every function over a struct chargeplan_model does what its entry does, with nothing barred and with these colours. */
 static void same_calls(const char *what, const struct model *m, uint32_t c, uint32_t b, uint32_t p, uint32_t q, const uint8_t *plan)
 {
-    same_plan(what, m, c, b, p, q, plan);
-    same_searches(what, m, c, b);
+    static const uint8_t barred[] = {0, 1, 2, 3, 254, 255};
+    struct model r = *m;
+    size_t i;
+
+    for (i = 0; i < sizeof barred; i++) {
+        r.barred = barred[i];
+        same_plan(what, &r, c, b, p, q, plan);
+        same_searches(what, &r, c, b);
+    }
     same_gauge(what, m, c, b);
 }
 

@@ -136,10 +136,14 @@ static unsigned arcs_walked(const char *what, const struct model *knee, const st
     uint8_t plan[FOUND_MOST], of_knee[FOUND_MOST], of_habit[FOUND_MOST];
     struct lists lists;
     struct model joined = joined_model(join_models(what, knee, habit, equal_rooms(CHARGEPLAN_ARCS_MOST), &lists), &lists);
-    uint64_t answer = search_exactly(what, &joined, c, b, plan);
-    uint32_t p = chargeplan_prefix(answer), q = chargeplan_cycle(answer), i;
+    uint64_t answer;
+    uint32_t p, q, i;
     unsigned arcs = 0;
 
+    joined.barred = joined_barred(knee, habit);
+    answer = search_exactly(what, &joined, c, b, plan);
+    p = chargeplan_prefix(answer);
+    q = chargeplan_cycle(answer);
     check(p + q <= FOUND_MOST, what);
     if (chargeplan_number(answer) != CHARGEPLAN_YES || p + q > FOUND_MOST)
         return 0;
@@ -165,4 +169,32 @@ void test_two_wearers(void)
     check(arcs_walked("a longer way", &knee, &never, 8, 9) == 0, "a longer way");
     of_never.gains[1] = 1;
     check(arcs_walked("a longer way, and a better charger", &knee, &never, 8, 9) == (WORN | CHARGED), "a longer way");
+}
+
+/* A wearer who in the evening retunes, which is a duty, and then charges, or charges at once. */
+static struct model free_wearer(struct lists *to)
+{
+    static const struct arc arcs[] = {{0, 1, 0, 0, 0, WALK}, {1, 2, 0, 0, 1, RETUNE}, {2, 0, 0, 0, 0, CHARGE}, {1, 0, 0, 0, 0, CHARGE}};
+
+    return of_arcs(to, 3, 1, arcs, 4);
+}
+
+/* Barred duties of the habit, of the knee and of both, and bits that are none of theirs. */
+void test_barred_duties(void)
+{
+    enum { TUNED = 1 << 0, WORN = 1 << 1, CHARGED_TUNED = 1 << 2, CHARGED = 1 << 3, RETUNED = 1 << 4 };
+    struct lists of_knee, of_habit;
+    struct model knee = wearing_knee(&of_knee), habit = free_wearer(&of_habit);
+
+    check(arcs_walked("retuning is required", &knee, &habit, 6, 9) == (TUNED | RETUNED | CHARGED_TUNED), "retuning is required");
+    habit.barred = 1;
+    check(arcs_walked("retuning is barred", &knee, &habit, 6, 9) == (WORN | CHARGED), "retuning is barred");
+    check(arcs_walked("retuning is barred, a small bound", &knee, &habit, 5, 5) == 0, "retuning is barred, a small bound");
+    habit.barred = 0xff;
+    knee.barred = 0xfe;
+    check(arcs_walked("ignored bits of both", &knee, &habit, 6, 9) == (WORN | CHARGED), "ignored bits of both");
+    knee.barred = 1;
+    check(arcs_walked("walking is barred, too", &knee, &habit, 6, 9) == 0, "walking is barred, too");
+    habit.barred = 0;
+    check(arcs_walked("walking alone is barred", &knee, &habit, 6, 9) == 0, "walking alone is barred");
 }
