@@ -701,10 +701,10 @@ static void print_colour(const struct task *task, uint32_t j)
         printf("the habit's colour %u", (unsigned)(j - task->knee->k));
 }
 
-/* Whether a colour is barred, where the model has it. */
+/* Whether the model has a colour and it is barred. */
 static int is_barred(const struct task *task, uint32_t j)
 {
-    return j <= COLOUR_BIT_MOST && (task->barred >> j & 1) != 0;
+    return j < task->model.k && j <= COLOUR_BIT_MOST && (task->barred >> j & 1) != 0;
 }
 
 /*
@@ -738,7 +738,7 @@ static int print_barred(const struct task *task)
     uint32_t j;
     int any = 0;
 
-    for (j = 0; j < task->model.k; j++)
+    for (j = 0; j <= COLOUR_BIT_MOST; j++)
         if (is_barred(task, j)) {
             printf("%s", before);
             print_colour(task, j);
