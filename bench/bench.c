@@ -87,15 +87,15 @@ static void fail(const struct family *family, const char *what)
 static uint64_t call_search(const struct version *version, const struct input *in)
 {
     return version->search(in->n, in->start, in->k, in->sources, in->arcs, in->targets, in->arcs, in->draws, in->arcs,
-                           in->gains, in->arcs, in->colours, in->arcs, in->actions, in->arcs, in->c, in->b, work,
+                           in->gains, in->arcs, in->colours, in->arcs, in->actions, in->arcs, in->c, in->b, in->barred, work,
                            chargeplan_work_words(in->n, in->k, in->b), plan, chargeplan_plan_bytes(in->n, in->k, in->b));
 }
 
 static uint64_t call_judge(const struct version *version, const struct input *in)
 {
     return version->judge(in->n, in->start, in->k, in->sources, in->arcs, in->targets, in->arcs, in->draws, in->arcs,
-                          in->gains, in->arcs, in->colours, in->arcs, in->actions, in->arcs, in->c, in->b, in->p, in->q,
-                          in->plan, (size_t)in->p + in->q);
+                          in->gains, in->arcs, in->colours, in->arcs, in->actions, in->arcs, in->c, in->b, in->barred, in->p,
+                          in->q, in->plan, (size_t)in->p + in->q);
 }
 
 /* Keeps the numbers that a call which fills lists answers, and returns its number and detail as the other calls have them. */
@@ -149,6 +149,8 @@ static const struct family families[] = {
     {"search, 64 modes, 255 arcs with both parts, with a plan", call_search, make_64_modes_both, 16, 0, 0, 0, 0},
     {"judging, 65,000 arcs with both parts", call_judge, make_plan_both, 16, 0, 65000, 0, 0},
     {"judging, 65,000 arcs, below, exactly and above the bound", call_judge, make_low_bound_plan, 16, 0, 65000, 0, 0},
+    {"search, 64 modes, 255 arcs, a colour barred, with a plan", call_search, make_64_modes_barred, 16, 0, 0, 0, 0},
+    {"judging, 65,000 arcs, a colour barred", call_judge, make_plan_barred, 16, 0, 65000, 0, 0},
     {"reading, 64 modes, 255 arcs, sources ascending", call_read, make_model_with_texts, 16, 0, 0, 0, 1},
     {"reading, the same with 1,000 comments of 64 bytes", call_read, make_model_with_texts, 4, 0, 0, 1000, 1},
     {"reading, the same with 2,000 comments", call_read, make_model_with_texts, 4, 0, 0, 2000, 1},

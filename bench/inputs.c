@@ -42,6 +42,7 @@ static void set_numbers(struct input *in, uint32_t n, uint32_t k, uint32_t c, ui
     in->arcs = 0;
     in->c = c;
     in->b = b;
+    in->barred = 0;
 }
 
 static void add_move(struct input *in, uint32_t source, uint32_t target, uint16_t draw, uint16_t gain, uint8_t colours)
@@ -226,6 +227,22 @@ void make_plan_both(struct input *in)
         set_numbers(in, 8, 4, 4095, 8191);
         add_random_moves(in, 255, 1000, 1000, 2);
     } while (!make_arcs(in));
+}
+
+enum { BARRED = 1 << 3 };
+
+void make_64_modes_barred(struct input *in)
+{
+    make_64_modes(in);
+    in->barred = BARRED;
+}
+
+void make_plan_barred(struct input *in)
+{
+    make_plan(in);
+    in->barred = BARRED;
+    for (uint32_t i = in->p; i < in->p + in->q; i++)
+        in->colours[in->plan[i]] &= (uint8_t)~BARRED;
 }
 
 void make_model_with_texts(struct input *in)

@@ -24,6 +24,7 @@ struct input {
     uint8_t actions[CHARGEPLAN_ARCS_MOST]; /* 0 where the model is not to be joined */
     uint32_t c;
     uint32_t b;
+    uint8_t barred; /* 0 but where a kind of input says so */
     uint32_t p;
     uint32_t q;
     uint8_t *plan; /* p + q arcs to be judged */
@@ -92,6 +93,12 @@ void make_64_modes_both(struct input *in);
 
 /* As make_plan; each arc draws up to 1,000 and then gains up to 1,000. */
 void make_plan_both(struct input *in);
+
+/* As make_64_modes; colour 3 is barred. */
+void make_64_modes_barred(struct input *in);
+
+/* As make_plan; colour 3 is barred, and stands on no arc of the cycle, so that each is looked at for it. */
+void make_plan_barred(struct input *in);
 
 /* 64 modes, 255 arcs of any weight, k 4, a colour on one arc in 2, the arcs of one source together, the sources ascending. */
 void make_model_with_texts(struct input *in);

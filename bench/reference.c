@@ -16,7 +16,7 @@
 
 enum { NODES_MOST = (CHARGEPLAN_COLOURS_MOST + 1) * CHARGEPLAN_MODES_MOST };
 
-/* A model, the bound and the credit. */
+/* A model, the bound, the credit and the barred colours. */
 struct model {
     uint32_t modes;
     uint32_t start;
@@ -30,6 +30,7 @@ struct model {
     const uint8_t *actions;
     int32_t bound;
     int32_t credit;
+    uint8_t barred;
 };
 
 /* An arc as a pass reads it, with its number. */
@@ -37,8 +38,9 @@ struct row {
     uint16_t draw;
     uint16_t gain;
     uint8_t target;
-    uint8_t colours;
+    uint8_t colours; /* the required ones, close together */
     uint8_t arc;
+    bool barred; /* whether it has a barred one */
 };
 
 /* The arcs sorted by source, equal sources in their given order: the rows of mode s stand from first[s] up to first[s + 1]. */
@@ -50,9 +52,14 @@ struct groups {
 /* An entry of the queue in the working space: its words. */
 enum { NODE, CHARGE, PARENT, ARC, ENTRY_WORDS };
 
-/* A pass over the levels 0 to last; a node is a level and a mode. It stops at the node goal with the charge least or more. */
+/*
+ * A pass over the levels 0 to last; a node is a level and a mode. It stops at the node goal with the charge least or more. One for a cycle
+ * leaves out the arcs with a barred colour.
+ */
 struct pass {
     struct groups groups;
+    uint32_t duties; /* the number of required colours */
+    bool lasting;
     uint32_t last;
     uint32_t goal;
     int32_t least;
@@ -121,6 +128,33 @@ static uint64_t check_spaces(uint32_t n, uint32_t k, uint32_t b, size_t work_len
     return CHARGEPLAN_YES;
 }
 
+/* The required colours of a colour byte, close together. */
+static uint8_t compress(uint32_t colours, uint32_t barred)
+{
+    uint32_t close = 0;
+
+    for (uint32_t j = CHARGEPLAN_COLOURS_MOST; j-- > 0;)
+        if ((barred >> j & 1) == 0)
+            close = 2 * close + (colours >> j & 1);
+    return (uint8_t)close;
+}
+
+static uint32_t count_required(const struct model *m)
+{
+    uint32_t count = 0;
+
+    for (uint32_t j = 0; j < m->levels; j++)
+        count += (m->barred >> j & 1) == 0;
+    return count;
+}
+
+/* The row of an arc. No arc of a fit model has a colour at or above k, so that these bits of the barred colours do not matter. */
+static struct row row_of(const struct model *m, size_t a)
+{
+    return (struct row){m->draws[a], m->gains[a], m->targets[a], compress(m->colours[a], m->barred), (uint8_t)a,
+                        (m->colours[a] & m->barred) != 0};
+}
+
 /* A counting sort by source. */
 static void group(const struct model *m, struct groups *groups)
 {
@@ -132,8 +166,7 @@ static void group(const struct model *m, struct groups *groups)
         next[s + 1] = (uint8_t)(next[s + 1] + next[s]);
     memcpy(groups->first, next, sizeof next);
     for (size_t a = 0; a < m->arcs; a++)
-        groups->rows[next[m->sources[a]]++] =
-            (struct row){m->draws[a], m->gains[a], m->targets[a], m->colours[a], (uint8_t)a};
+        groups->rows[next[m->sources[a]]++] = row_of(m, a);
 }
 
 static void push(struct pass *pass, uint32_t node, int32_t charge, size_t parent, uint8_t arc)
@@ -164,6 +197,8 @@ static bool expand(const struct model *m, struct pass *pass, size_t head)
     const struct row *end = pass->groups.rows + pass->groups.first[mode + 1];
 
     for (; row < end; row++) {
+        if (pass->lasting && row->barred)
+            continue;
         int32_t charge = step(from, row->draw, row->gain, m->bound);
         if (charge < 0)
             continue;
@@ -196,17 +231,22 @@ static bool run_pass(const struct model *m, struct pass *pass, uint32_t node, in
 /* The pass for the peaks, the greatest charges of the modes: over one level, and no charge stops it. */
 static void find_peaks(const struct model *m, struct pass *pass)
 {
+    pass->lasting = false;
     pass->last = 0;
     pass->goal = 0;
     pass->least = m->bound + 1;
     run_pass(m, pass, m->start, m->credit);
 }
 
-/* The pass from a mode with a charge that stops where an arc comes back to the mode in the last level with that charge or more. */
+/*
+ * The pass from a mode with a charge, over a level for each required colour and one more, that stops where an arc comes back to the mode in
+ * the last level with that charge or more.
+ */
 static bool find_cycle(const struct model *m, struct pass *pass, uint32_t mode, int32_t charge)
 {
-    pass->last = m->levels;
-    pass->goal = m->levels * m->modes + mode;
+    pass->lasting = true;
+    pass->last = pass->duties;
+    pass->goal = pass->duties * m->modes + mode;
     pass->least = charge;
     return run_pass(m, pass, mode, charge);
 }
@@ -248,6 +288,7 @@ static uint64_t decide(const struct model *m, uint16_t *work, uint8_t *plan)
     struct pass pass;
 
     group(m, &pass.groups);
+    pass.duties = count_required(m);
     pass.queue = work;
     find_peaks(m, &pass);
     memcpy(peaks, pass.best, m->modes * sizeof peaks[0]);
@@ -265,10 +306,10 @@ static uint64_t decide(const struct model *m, uint16_t *work, uint8_t *plan)
 uint64_t PASTE(REFERENCE, _search)(uint32_t n, uint32_t start, uint32_t k, const uint8_t *sources, size_t sources_len,
                                    const uint8_t *targets, size_t targets_len, const uint16_t *draws, size_t draws_len,
                                    const uint16_t *gains, size_t gains_len, const uint8_t *colours, size_t colours_len,
-                                   const uint8_t *actions, size_t actions_len, uint32_t c, uint32_t b, uint16_t *work,
-                                   size_t work_len, uint8_t *plan, size_t plan_len)
+                                   const uint8_t *actions, size_t actions_len, uint32_t c, uint32_t b, uint8_t barred,
+                                   uint16_t *work, size_t work_len, uint8_t *plan, size_t plan_len)
 {
-    struct model m = {n, start, k, sources_len, sources, targets, draws, gains, colours, actions, (int32_t)b, (int32_t)c};
+    struct model m = {n, start, k, sources_len, sources, targets, draws, gains, colours, actions, (int32_t)b, (int32_t)c, barred};
     uint64_t answer = check_model(&m, targets_len, draws_len, gains_len, colours_len, actions_len);
 
     if (answer == CHARGEPLAN_YES)
@@ -345,16 +386,27 @@ static uint64_t check_charges(const struct model *m, const uint8_t *plan, size_t
     return CHARGEPLAN_FALLING_CYCLE;
 }
 
-/* Refusal 17. */
+/* Refusal 24. Where nothing is barred no arc is looked at. */
+static uint64_t check_barred(const struct model *m, const uint8_t *plan, size_t p, size_t q)
+{
+    if (m->barred == 0)
+        return CHARGEPLAN_YES;
+    for (size_t i = p; i < p + q; i++)
+        if ((m->colours[plan[i]] & m->barred) != 0)
+            return refused(CHARGEPLAN_BARRED_COLOUR, i);
+    return CHARGEPLAN_YES;
+}
+
+/* Refusal 17. The barred colours are passed over: they count as met from the beginning. */
 static uint64_t check_colours(const struct model *m, const uint8_t *cycle, size_t q)
 {
-    uint32_t required = (1U << m->levels) - 1;
-    uint32_t met = 0;
+    uint32_t all = (1U << m->levels) - 1;
+    uint32_t met = m->barred & all;
     uint32_t missing = 0;
 
-    for (size_t i = 0; i < q && met != required; i++)
+    for (size_t i = 0; i < q && met != all; i++)
         met |= m->colours[cycle[i]];
-    if (met == required)
+    if (met == all)
         return CHARGEPLAN_YES;
     while ((met >> missing & 1) != 0)
         missing++;
@@ -364,10 +416,10 @@ static uint64_t check_colours(const struct model *m, const uint8_t *cycle, size_
 uint64_t PASTE(REFERENCE, _judge)(uint32_t n, uint32_t start, uint32_t k, const uint8_t *sources, size_t sources_len,
                                   const uint8_t *targets, size_t targets_len, const uint16_t *draws, size_t draws_len,
                                   const uint16_t *gains, size_t gains_len, const uint8_t *colours, size_t colours_len,
-                                  const uint8_t *actions, size_t actions_len, uint32_t c, uint32_t b, uint32_t p, uint32_t q,
-                                  const uint8_t *plan, size_t plan_len)
+                                  const uint8_t *actions, size_t actions_len, uint32_t c, uint32_t b, uint8_t barred, uint32_t p,
+                                  uint32_t q, const uint8_t *plan, size_t plan_len)
 {
-    struct model m = {n, start, k, sources_len, sources, targets, draws, gains, colours, actions, (int32_t)b, (int32_t)c};
+    struct model m = {n, start, k, sources_len, sources, targets, draws, gains, colours, actions, (int32_t)b, (int32_t)c, barred};
     uint64_t answer = check_model(&m, targets_len, draws_len, gains_len, colours_len, actions_len);
 
     if (answer == CHARGEPLAN_YES)
@@ -378,6 +430,8 @@ uint64_t PASTE(REFERENCE, _judge)(uint32_t n, uint32_t start, uint32_t k, const 
         answer = check_path(&m, plan, plan_len, p);
     if (answer == CHARGEPLAN_YES)
         answer = check_charges(&m, plan, p, q);
+    if (answer == CHARGEPLAN_YES)
+        answer = check_barred(&m, plan, p, q);
     if (answer == CHARGEPLAN_YES)
         answer = check_colours(&m, plan + p, q);
     return answer;
@@ -460,8 +514,8 @@ struct chargeplan_reading PASTE(REFERENCE, _join)(
     size_t targets_len, uint16_t *draws, size_t draws_len, uint16_t *gains, size_t gains_len, uint8_t *colours,
     size_t colours_len, uint8_t *actions, size_t actions_len)
 {
-    struct model knee = {n1, start1, k1, sources1_len, sources1, targets1, draws1, gains1, colours1, actions1, 0, 0};
-    struct model habit = {n2, start2, k2, sources2_len, sources2, targets2, draws2, gains2, colours2, actions2, 0, 0};
+    struct model knee = {n1, start1, k1, sources1_len, sources1, targets1, draws1, gains1, colours1, actions1, 0, 0, 0};
+    struct model habit = {n2, start2, k2, sources2_len, sources2, targets2, draws2, gains2, colours2, actions2, 0, 0, 0};
     struct joined to = {sources, targets, draws, gains, colours, actions};
     struct chargeplan_reading reading = {CHARGEPLAN_YES, 0, 0, 0, 0, 0};
     size_t room = smaller(smaller(sources_len, targets_len), smaller(smaller(draws_len, gains_len), smaller(colours_len, actions_len)));

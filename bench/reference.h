@@ -10,14 +10,14 @@
 typedef uint64_t search_entry(uint32_t n, uint32_t start, uint32_t k, const uint8_t *sources, size_t sources_len,
                               const uint8_t *targets, size_t targets_len, const uint16_t *draws, size_t draws_len,
                               const uint16_t *gains, size_t gains_len, const uint8_t *colours, size_t colours_len,
-                              const uint8_t *actions, size_t actions_len, uint32_t c, uint32_t b, uint16_t *work,
-                              size_t work_len, uint8_t *plan, size_t plan_len);
+                              const uint8_t *actions, size_t actions_len, uint32_t c, uint32_t b, uint8_t barred,
+                              uint16_t *work, size_t work_len, uint8_t *plan, size_t plan_len);
 
 typedef uint64_t judge_entry(uint32_t n, uint32_t start, uint32_t k, const uint8_t *sources, size_t sources_len,
                              const uint8_t *targets, size_t targets_len, const uint16_t *draws, size_t draws_len,
                              const uint16_t *gains, size_t gains_len, const uint8_t *colours, size_t colours_len,
-                             const uint8_t *actions, size_t actions_len, uint32_t c, uint32_t b, uint32_t p, uint32_t q,
-                             const uint8_t *plan, size_t plan_len);
+                             const uint8_t *actions, size_t actions_len, uint32_t c, uint32_t b, uint8_t barred, uint32_t p,
+                             uint32_t q, const uint8_t *plan, size_t plan_len);
 
 typedef struct chargeplan_reading read_entry(const uint8_t *hoa, size_t hoa_len, const uint8_t *dimacs, size_t dimacs_len,
                                              uint8_t *sources, size_t sources_len, uint8_t *targets, size_t targets_len,

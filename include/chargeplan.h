@@ -24,7 +24,12 @@
  * THE PLAN. Arc numbers, a byte each: p of them are the prefix (run-in) and then q, at least 1, the cycle (round), which is
  * repeated for ever. It begins in the start mode with charge c, each arc leaves the mode that the one before entered, and the
  * cycle ends in the mode where it began. It is feasible where every step is possible in any number of rounds, and accepted
- * where each of the k colours stands on some arc of the cycle.
+ * where each required colour stands on some arc of the cycle and no barred colour stands on any.
+ *
+ * BARRED COLOURS. A duty may have to die out: it may be met in the prefix, and never again in the cycle. Judging, search and the walk
+ * take a byte `barred` that names such colours: of the k colours, j is barred where bit j is set, and required where it is not. Bits
+ * at or above k are ignored, so that no byte is refused. The prefix is free: an arc with a barred colour may stand there, and need
+ * not. With barred 0 each of the k colours is required; with all of them barred any cycle without colours is accepted.
  *
  * THE TEXTS. A model can be read from two texts: one in HOA, version 1, and one in the DIMACS shortest-path form. Their lines, in this
  * order, are
@@ -54,8 +59,9 @@
  * An arc with an action that the other model has on no arc is in no pair, and cannot be walked. For any c and b, the joined model has a
  * feasible and accepted plan exactly where the two models have plans with prefixes of one length, cycles of one length and the same
  * action at each step, such that every step is possible, in any number of rounds, on a charge that both share, with both draws first
- * and then both gains, and each colour of either model stands on some arc of that model's cycle. The joined model goes into every other
- * call as any model does, and chargeplan_model_pair tells of which two arcs a joined arc is made.
+ * and then both gains, and each colour of either model stands on some arc of that model's cycle. (With barred colours: each required
+ * colour does, and no barred one; bit j of `barred` is the knee's colour j, bit k1 + j the habit's colour j.) The joined model goes
+ * into every other call as any model does, and chargeplan_model_pair tells of which two arcs a joined arc is made.
  *
  * LISTS, BUFFERS AND THE GAUGE. A list, buffer or text is a pointer, and a call is told the number of its elements. The caller sees to
  * three things: the memory is as long as the call is told, it is aligned as its type asks, and no two lists, buffers or texts of one
@@ -73,11 +79,11 @@
  *
  * COST. Stack, with the arguments on it: up to 12,900 bytes for judging, 8,900 for search, 200 for starting a gauge, 4,400 for a step of
  * one, 14,900 for the walk, 600 for reading, 8,700 for the join. Every call but reading reads the six lists of a model once. Judging
- * then looks at 2 * p + 4 * q places of the plan at most, and the walk at p + q more. Search tries arcs at most
- * m * (b + 1) * ((k + 1) * (n + 1) + 2) times, where there are m of them: 25 million times at the ceilings. The slowest search that was
- * found takes some 35 ms, one of a random model of 64 modes 0.1 ms. The time of reading grows in proportion to the texts, where the
- * model is fit. The join looks at each pair of arcs twice, 65,025 pairs at most, in some 80 us. docs/C-API.md says how this was counted
- * and measured.
+ * then looks at 2 * p + 4 * q places of the plan at most, at q more where barred is not 0, and the walk at p + q more, or at as many as
+ * the allowance for a barred colour that is not met. Search tries arcs at most m * (b + 1) * ((k + 1) * (n + 1) + 2) times, where there
+ * are m of them and k colours are required: 25 million times at the ceilings. The slowest search that was found takes some 40 ms, one of
+ * a random model of 64 modes 0.2 ms. The time of reading grows in proportion to the texts, where the model is fit. The join looks at each
+ * pair of arcs twice, 65,025 pairs at most, in some 80 us. docs/C-API.md says how this was counted and measured.
  */
 #ifndef CHARGEPLAN_H
 #define CHARGEPLAN_H
@@ -90,10 +96,11 @@ extern "C" {
 #endif
 
 /*
- * The version of the entries' signatures, raised whenever one changes. 3: a sixth list, the actions; zeros in it make the model of
- * before. 2: draws and gains. A header without this macro is version 1, with one list of weights in their place.
+ * The version of the entries' signatures, raised whenever one changes. 4: a byte of barred colours, behind c and b of judging, search
+ * and the walk; with 0 they answer as before. 3: a sixth list, the actions; zeros in it make the model of before. 2: draws and gains. A
+ * header without this macro is version 1, with one list of weights in their place.
  */
-#define CHARGEPLAN_VERSION 3
+#define CHARGEPLAN_VERSION 4
 
 /* The ceilings. */
 #define CHARGEPLAN_MODES_MOST 64u
@@ -114,8 +121,9 @@ extern "C" {
 #define CHARGEPLAN_PLAN_BYTES_MOST ((CHARGEPLAN_COLOURS_MOST + 2u) * CHARGEPLAN_PRODUCT_MOST)
 
 /*
- * The numbers. Search answers 0 to 10; judging 0 to 6 and 11 to 17; starting a gauge 0 to 6; a step of a gauge 0 to 6, 22, 12, 13
- * and 15, the last four with detail 0; the walk 0 to 6 and 11 to 18; reading 0, 19 to 21 and 1 to 5; the join 0 to 5 and 23.
+ * The numbers. Search answers 0 to 10; judging 0 to 6, 11 to 16, 24 and 17; starting a gauge 0 to 6; a step of a gauge 0 to 6, 22, 12,
+ * 13 and 15, the last four with detail 0; the walk 0 to 6, 11 to 16, 24, 17 and 18; reading 0, 19 to 21 and 1 to 5; the join 0 to 5
+ * and 23.
  */
 enum {
     CHARGEPLAN_YES = 0,              /* judging: the plan is feasible and accepted; search: a plan is in the buffer; gauge: it is
@@ -139,7 +147,7 @@ enum {
     CHARGEPLAN_PRODUCT = 7,          /* n * (b + 1) is above 8,192 */
     CHARGEPLAN_WORKING_SPACE = 8,    /* the working space is too short */
     CHARGEPLAN_PLAN_BUFFER = 9,      /* the plan buffer is too short */
-    CHARGEPLAN_NO_PLAN = 10,         /* no plan of any length is feasible and accepted */
+    CHARGEPLAN_NO_PLAN = 10,         /* no plan of any length is feasible and accepted: none keeps both rules on colours */
     CHARGEPLAN_PLAN_LENGTH = 11,     /* q is 0, p + q is not the plan's length, or that length is above 65,535 */
     CHARGEPLAN_ARC_NUMBER = 12,      /* an arc number is not below the number of arcs; detail: its first position */
     CHARGEPLAN_OTHER_MODE = 13,      /* an arc leaves another mode than the current one; detail: its first position */
@@ -148,7 +156,9 @@ enum {
                                         from 0 over the prefix, the first and the second round of the cycle. A step of a
                                         gauge: also where it would carry the spill past 64 bits */
     CHARGEPLAN_FALLING_CYCLE = 16,   /* the first and the second round each end lower than they began */
-    CHARGEPLAN_MISSING_COLOUR = 17,  /* a colour stands on no arc of the cycle; detail: the lowest such colour */
+    CHARGEPLAN_BARRED_COLOUR = 24,   /* an arc of the cycle has a barred colour; detail: the position in the plan, the prefix
+                                        counted, of the cycle's first such arc */
+    CHARGEPLAN_MISSING_COLOUR = 17,  /* a required colour stands on no arc of the cycle; detail: the lowest such colour */
     CHARGEPLAN_NO_SUCH_COLOUR = 18   /* j is not below k; looked at after the plan */
 };
 
@@ -210,30 +220,32 @@ struct chargeplan_pair {
 /*
  * Judging: whether a plan, of any origin, is feasible and accepted for the model.
  *
- * c, b   the credit and the bound
- * p, q   lengths of the plan's prefix and cycle
- * plan   p + q arc numbers
+ * c, b     the credit and the bound
+ * barred   the barred colours, bit j for colour j; 0 where there are none
+ * p, q     lengths of the plan's prefix and cycle
+ * plan     p + q arc numbers
  *
- * Answers 0 for yes, else the first of 1 to 6 and 11 to 17 that applies. Any number may be given: none is cut down before it is
- * looked at.
+ * Answers 0 for yes, else the first of 1 to 6, 11 to 16, 24 and 17, in this order, that applies. Any number may be given: none is cut
+ * down before it is looked at.
  */
-static inline uint64_t chargeplan_model_judge(const struct chargeplan_model *m, uint32_t c, uint32_t b, uint32_t p, uint32_t q,
-    const uint8_t *plan);
+static inline uint64_t chargeplan_model_judge(const struct chargeplan_model *m, uint32_t c, uint32_t b, uint8_t barred, uint32_t p,
+    uint32_t q, const uint8_t *plan);
 
 /*
  * Search: a plan for the model, or that there is none.
  *
- * c, b   the credit and the bound
- * work   working space: at least chargeplan_work_words(n, k, b) words; what stands in it does not matter
- * plan   plan buffer: at least chargeplan_plan_bytes(n, k, b) bytes; what stands in it does not matter
+ * c, b     the credit and the bound
+ * barred   the barred colours, as in judging
+ * work     working space: at least chargeplan_work_words(n, k, b) words, whatever is barred; what stands in it does not matter
+ * plan     plan buffer: at least chargeplan_plan_bytes(n, k, b) bytes, whatever is barred; what stands in it does not matter
  *
  * Answers 0 with p and q: the prefix is in plan[0] to plan[p - 1] and the cycle in plan[p] to plan[p + q - 1]; later bytes are
- * as they were. Which feasible and accepted plan it is, is free; equal n, start, k, lists, c and b give an equal plan, whatever the
- * buffers are (docs/C-API.md says on what that rests). Answers 10 where no plan of any length is feasible and accepted: a larger b
- * may help, another buffer will not. After either, every word of work is 0, and after 10 plan is as it was. Else answers the first of
- * 1 to 9 that applies; work and plan are then as they were.
+ * as they were. Which feasible and accepted plan it is, is free; equal n, start, k, lists, c, b and barred colours give an equal plan,
+ * whatever the buffers are (docs/C-API.md says on what that rests). Answers 10 where no plan of any length is feasible and accepted: a
+ * larger b may help, or fewer barred colours, but no other buffer. After either, every word of work is 0, and after 10 plan is as it
+ * was. Else answers the first of 1 to 9 that applies; work and plan are then as they were.
  */
-static inline uint64_t chargeplan_model_search(const struct chargeplan_model *m, uint32_t c, uint32_t b, uint16_t *work,
+static inline uint64_t chargeplan_model_search(const struct chargeplan_model *m, uint32_t c, uint32_t b, uint8_t barred, uint16_t *work,
     size_t work_length, uint8_t *plan, size_t plan_length);
 
 /*
@@ -263,16 +275,16 @@ static inline uint64_t chargeplan_model_gauge_step(struct chargeplan_gauge *gaug
  * The walk: judges a plan, then steps it from its beginning, the cycle repeating, until colour j is first met or the allowance is
  * spent.
  *
- * c, b, p, q, plan   as in judging
- * j                  the colour
- * allowance          the steps that may be made, 0 to 65,535
+ * c, b, barred, p, q, plan   as in judging
+ * j                          the colour, which may be a barred one
+ * allowance                  the steps that may be made, 0 to 65,535
  *
  * Answers 0 with the steps made: where the colour was met (chargeplan_met), the step that meets it counted; where it was not, the
- * whole allowance. An allowance of p + q steps or more meets the colour. Else answers the first of 1 to 6 and 11 to 18 that
- * applies, with 0 steps.
+ * whole allowance. An allowance of p + q steps or more meets a required colour. A barred one is met in the prefix or not at all. Else
+ * answers the first of 1 to 6, 11 to 16, 24, 17 and 18, in this order, that applies, with 0 steps.
  */
-static inline uint64_t chargeplan_model_walk(const struct chargeplan_model *m, uint32_t c, uint32_t b, uint32_t p, uint32_t q,
-    const uint8_t *plan, uint32_t j, uint16_t allowance);
+static inline uint64_t chargeplan_model_walk(const struct chargeplan_model *m, uint32_t c, uint32_t b, uint8_t barred, uint32_t p,
+    uint32_t q, const uint8_t *plan, uint32_t j, uint16_t allowance);
 
 /*
  * Reading: the model that two texts define (THE TEXTS, above).
@@ -327,7 +339,7 @@ uint64_t chargeplan_judge(
     const uint16_t *gains, size_t gains_length,
     const uint8_t *colours, size_t colours_length,
     const uint8_t *actions, size_t actions_length,
-    uint32_t c, uint32_t b,
+    uint32_t c, uint32_t b, uint8_t barred,
     uint32_t p, uint32_t q,
     const uint8_t *plan, size_t plan_length);
 
@@ -340,7 +352,7 @@ uint64_t chargeplan_search(
     const uint16_t *gains, size_t gains_length,
     const uint8_t *colours, size_t colours_length,
     const uint8_t *actions, size_t actions_length,
-    uint32_t c, uint32_t b,
+    uint32_t c, uint32_t b, uint8_t barred,
     uint16_t *work, size_t work_length,
     uint8_t *plan, size_t plan_length);
 
@@ -376,7 +388,7 @@ uint64_t chargeplan_walk(
     const uint16_t *gains, size_t gains_length,
     const uint8_t *colours, size_t colours_length,
     const uint8_t *actions, size_t actions_length,
-    uint32_t c, uint32_t b,
+    uint32_t c, uint32_t b, uint8_t barred,
     uint32_t p, uint32_t q,
     const uint8_t *plan, size_t plan_length,
     uint32_t j, uint16_t allowance);
@@ -500,18 +512,18 @@ static inline size_t chargeplan_lists_actions(const struct chargeplan_lists *lis
     return lists->actions == NULL ? 0 : lists->room;
 }
 
-static inline uint64_t chargeplan_model_judge(const struct chargeplan_model *m, uint32_t c, uint32_t b, uint32_t p, uint32_t q,
-    const uint8_t *plan)
+static inline uint64_t chargeplan_model_judge(const struct chargeplan_model *m, uint32_t c, uint32_t b, uint8_t barred, uint32_t p,
+    uint32_t q, const uint8_t *plan)
 {
     return chargeplan_judge(m->n, m->start, m->k, m->sources, m->arcs, m->targets, m->arcs, m->draws, m->arcs, m->gains, m->arcs,
-        m->colours, m->arcs, m->actions, chargeplan_model_actions(m), c, b, p, q, plan, (size_t)p + q);
+        m->colours, m->arcs, m->actions, chargeplan_model_actions(m), c, b, barred, p, q, plan, (size_t)p + q);
 }
 
-static inline uint64_t chargeplan_model_search(const struct chargeplan_model *m, uint32_t c, uint32_t b, uint16_t *work,
+static inline uint64_t chargeplan_model_search(const struct chargeplan_model *m, uint32_t c, uint32_t b, uint8_t barred, uint16_t *work,
     size_t work_length, uint8_t *plan, size_t plan_length)
 {
     return chargeplan_search(m->n, m->start, m->k, m->sources, m->arcs, m->targets, m->arcs, m->draws, m->arcs, m->gains, m->arcs,
-        m->colours, m->arcs, m->actions, chargeplan_model_actions(m), c, b, work, work_length, plan, plan_length);
+        m->colours, m->arcs, m->actions, chargeplan_model_actions(m), c, b, barred, work, work_length, plan, plan_length);
 }
 
 static inline struct chargeplan_started chargeplan_model_gauge_start(const struct chargeplan_model *m, uint32_t c, uint32_t b)
@@ -527,11 +539,11 @@ static inline uint64_t chargeplan_model_gauge_step(struct chargeplan_gauge *gaug
         m->arcs, m->colours, m->arcs, m->actions, chargeplan_model_actions(m), b, arc);
 }
 
-static inline uint64_t chargeplan_model_walk(const struct chargeplan_model *m, uint32_t c, uint32_t b, uint32_t p, uint32_t q,
-    const uint8_t *plan, uint32_t j, uint16_t allowance)
+static inline uint64_t chargeplan_model_walk(const struct chargeplan_model *m, uint32_t c, uint32_t b, uint8_t barred, uint32_t p,
+    uint32_t q, const uint8_t *plan, uint32_t j, uint16_t allowance)
 {
     return chargeplan_walk(m->n, m->start, m->k, m->sources, m->arcs, m->targets, m->arcs, m->draws, m->arcs, m->gains, m->arcs,
-        m->colours, m->arcs, m->actions, chargeplan_model_actions(m), c, b, p, q, plan, (size_t)p + q, j, allowance);
+        m->colours, m->arcs, m->actions, chargeplan_model_actions(m), c, b, barred, p, q, plan, (size_t)p + q, j, allowance);
 }
 
 /* The model of which a call has filled the lists. */

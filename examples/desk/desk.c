@@ -5,7 +5,7 @@
  *
  *     desk MISSION
  *     desk MISSION HABIT
- *     desk NAME.hoa BOUND CREDIT
+ *     desk NAME.hoa BOUND CREDIT [barred COLOUR..]
  *     desk -h
  *
  * A mission is a text of lines, in any order: "modes N", "start MODE", "colours K", "bound B" and "credit C", each once, and for
@@ -15,13 +15,17 @@
  * 3. What follows a '#' is a comment. A line has at most 250 characters and ends with LF, with CR LF or with the file. A NUL byte cannot
  * be read, nor a CR elsewhere, not even in a comment. Of the first line that cannot be read stderr has the number and what is wrong in it.
  *
- * A habit is written as a mission is, without "bound" and "credit". The planner joins the mission's knee with it, and the joined model is
- * planned with the mission's bound and credit: each step is an arc of the knee and an arc of the habit with the same action. A refused
- * join is told as the knee's, as the habit's, or by the size of both together.
+ * One line more, "barred COLOUR..", may name colours that have to die out: the plan may meet them in its prefix, and its cycle does not.
+ * The answer then tells what is barred, and what becomes of the plan with nothing barred, where there is one: judging refuses it by 24.
+ * A colour that the model has not is ignored, and told.
+ *
+ * A habit is written as a mission is, without "bound" and "credit"; "barred" has its own colours there. The planner joins the mission's
+ * knee with it, and the joined model is planned with the mission's bound and credit: each step is an arc of the knee and an arc of the
+ * habit with the same action. A refused join is told as the knee's, as the habit's, or by the size of both together.
  *
  * In place of a mission the model may stand in two texts, NAME.hoa and beside it NAME.dimacs, with the battery size BOUND and the charge
- * on arrival CREDIT. The planner reads them, and include/chargeplan.h has their forms (THE TEXTS). A damaged text is refused with its
- * name and its line. All arcs have action 0 there, so no habit can be given with it.
+ * on arrival CREDIT, and with barred colours, if there are any. The planner reads them, and include/chargeplan.h has their forms (THE
+ * TEXTS). A damaged text is refused with its name and its line. All arcs have action 0 there, so no habit can be given with it.
  * Exit status: 0 a plan, or -h; 1 no plan exists; 2 refused; 3 the mission or the habit cannot be read, the answer cannot be written, or
  * there is no memory.
  */
@@ -54,10 +58,14 @@ enum { MODES, START, COLOURS, BOUND, CREDIT, NUMBERS, HABIT_NUMBERS = BOUND };
 
 static const char *const number_words[NUMBERS] = {"modes", "start", "colours", "bound", "credit"};
 
+static const char barred_word[] = "barred";
+
 /* A mission, or a habit, whose bound and credit are 0. */
 struct mission {
     uint32_t numbers[NUMBERS];
     unsigned lines[NUMBERS]; /* where each number stands; 0 where it has not been read */
+    uint8_t barred;          /* a bit for each barred colour */
+    unsigned barred_line;    /* where they stand; 0 where they have not been read */
     size_t arcs;
     uint8_t sources[ARCS_KEPT];
     uint8_t targets[ARCS_KEPT];
@@ -96,6 +104,7 @@ static const struct {
     [CHARGEPLAN_OPEN_CYCLE] = {"the cycle ends in another mode than it began", NULL},
     [CHARGEPLAN_IMPOSSIBLE_STEP] = {"a step is impossible", "step"},
     [CHARGEPLAN_FALLING_CYCLE] = {"the first and the second round each end lower than they began", NULL},
+    [CHARGEPLAN_BARRED_COLOUR] = {"an arc of the cycle has a barred colour", "position"},
     [CHARGEPLAN_MISSING_COLOUR] = {"a colour is missing from the cycle", "colour"},
     [CHARGEPLAN_NO_SUCH_COLOUR] = {"there is no such colour", NULL},
 };
@@ -291,20 +300,42 @@ static int read_action(const struct text *t, char *word, char *line, uint8_t *ac
     return 1;
 }
 
+/* A word as one colour more, by its bit; what is its name. */
+static int add_colour(const struct text *t, const char *what, char *word, uint8_t *colours)
+{
+    uint32_t colour = 0;
+
+    if (!read_value(t, what, word, COLOUR_BIT_MOST, &colour))
+        return 0;
+    *colours = (uint8_t)(*colours | 1u << colour);
+    return 1;
+}
+
 /* The colours that an arc meets, a bit each, and its action, if there is one, to the end of its line. */
 static int read_colours(const struct text *t, char *line, uint8_t *met, uint8_t *action)
 {
-    unsigned bits = 0;
-    uint32_t colour = 0;
     char *word;
 
-    while ((word = next_word(&line)) != NULL && *word != '@') {
-        if (!read_value(t, "colour", word, COLOUR_BIT_MOST, &colour))
+    while ((word = next_word(&line)) != NULL && *word != '@')
+        if (!add_colour(t, "colour", word, met))
             return 0;
-        bits |= 1u << colour;
-    }
-    *met = (uint8_t)bits;
     return word == NULL || read_action(t, word + 1, line, action);
+}
+
+/* The barred colours, a bit each, one or more, to the end of the line; once. */
+static int read_barred(const struct text *t, struct mission *m, char *line)
+{
+    char *word = next_word(&line);
+
+    if (m->barred_line > 0)
+        return wrong(t, "\"%s\" a second time, after line %u", barred_word, m->barred_line);
+    if (word == NULL)
+        return wrong(t, "no colour after \"%s\"", barred_word);
+    for (; word != NULL; word = next_word(&line))
+        if (!add_colour(t, "barred colour", word, &m->barred))
+            return 0;
+    m->barred_line = t->line;
+    return 1;
 }
 
 /* One arc, to the end of the line. A number that its list can hold is left to the planner. */
@@ -340,6 +371,8 @@ static int read_line(const struct text *t, struct mission *m, char *line)
         return 1;
     if (strcmp(word, "arc") == 0)
         return read_arc(t, m, line);
+    if (strcmp(word, barred_word) == 0)
+        return read_barred(t, m, line);
     for (which = 0; which < NUMBERS; which++)
         if (strcmp(word, number_words[which]) == 0)
             return read_number(t, m, which, line);
@@ -503,18 +536,35 @@ static int is_hoa(const char *name)
     return length >= end && strcmp(name + length - end, hoa_end) == 0;
 }
 
-/* The mission of a HOA text, the DIMACS text beside it, a bound and a credit. The answer is an exit status, as before. */
-static int read_pair(const char *hoa, char *bound, char *credit, struct mission *m)
+/* The bound, the credit and then, if there is more, "barred" and the barred colours; the answer is 0 where a word is wrong. */
+static int read_levels(char **words, int count, struct mission *m)
+{
+    struct text arguments = {"desk", NULL, 0, NUMBERS};
+    int i;
+
+    if (!read_value(&arguments, number_words[BOUND], words[0], UINT32_MAX, &m->numbers[BOUND])
+        || !read_value(&arguments, number_words[CREDIT], words[1], UINT32_MAX, &m->numbers[CREDIT]))
+        return 0;
+    if (count > 2 && strcmp(words[2], barred_word) != 0)
+        return wrong(&arguments, "\"%s\" where \"%s\" or nothing should stand", shown(words[2]), barred_word);
+    if (count == 3)
+        return wrong(&arguments, "no colour after \"%s\"", barred_word);
+    for (i = 3; i < count; i++)
+        if (!add_colour(&arguments, "barred colour", words[i], &m->barred))
+            return 0;
+    return 1;
+}
+
+/* The mission of a HOA text, the DIMACS text beside it, and the words behind its name. The answer is an exit status, as before. */
+static int read_pair(const char *hoa, char **words, int count, struct mission *m)
 {
     static const char dimacs_end[] = ".dimacs";
-    struct text arguments = {"desk", NULL, 0, NUMBERS};
     size_t stem = strlen(hoa) - strlen(hoa_end);
     char *dimacs;
     int status;
 
     memset(m, 0, sizeof *m);
-    if (!read_value(&arguments, number_words[BOUND], bound, UINT32_MAX, &m->numbers[BOUND])
-        || !read_value(&arguments, number_words[CREDIT], credit, UINT32_MAX, &m->numbers[CREDIT]))
+    if (!read_levels(words, count, m))
         return FAILED;
     dimacs = malloc(stem + sizeof dimacs_end);
     if (dimacs == NULL) {
@@ -537,10 +587,14 @@ static struct chargeplan_model model_of(const struct mission *m)
     return model;
 }
 
-/* What is planned: a model with its credit and bound and, where the model is joined, the knee and the habit; else they are null. */
+/*
+ * What is planned: a model with its credit, bound and barred colours and, where the model is joined, the knee and the habit; else they
+ * are null.
+ */
 struct task {
     struct chargeplan_model model;
     uint32_t c, b;
+    uint8_t barred;
     const struct chargeplan_model *knee, *habit;
 };
 
@@ -578,17 +632,25 @@ static void print_arc(const struct task *task, uint8_t arc)
     printf("  knee %3u  habit %3u  action %2u", (unsigned)pair.knee, (unsigned)pair.habit, (unsigned)task->model.actions[arc]);
 }
 
+/* Prints an arc and its move. */
+static void print_arc_and_move(const struct task *task, uint8_t arc)
+{
+    char move[MOVE];
+
+    write_move(move, task->model.draws[arc], task->model.gains[arc]);
+    print_arc(task, arc);
+    printf("  move %6s", move);
+}
+
 /* Steps the gauge on an arc, and prints the arc, its move, the gauge and the step's spill. The answer is 0 where the step is refused. */
 static int run_arc(const struct task *task, uint8_t arc, struct chargeplan_gauge *gauge)
 {
     uint64_t before = gauge->spill;
-    char move[MOVE];
 
     if (!is_yes("the gauge refuses", chargeplan_model_gauge_step(gauge, &task->model, task->b, arc)))
         return 0;
-    write_move(move, task->model.draws[arc], task->model.gains[arc]);
-    print_arc(task, arc);
-    printf("  move %6s  ", move);
+    print_arc_and_move(task, arc);
+    printf("  ");
     print_mode(task, 2, gauge->mode);
     printf("  charge %4u  spill %4" PRIu64 "\n", (unsigned)gauge->charge, gauge->spill - before);
     return 1;
@@ -639,32 +701,87 @@ static void print_colour(const struct task *task, uint32_t j)
         printf("the habit's colour %u", (unsigned)(j - task->knee->k));
 }
 
-/* The step, counted from 1, at which each colour is first met. The answer is 0 where the walk refuses. */
+/* Whether the model has a colour and it is barred. */
+static int is_barred(const struct task *task, uint32_t j)
+{
+    return j < task->model.k && j <= COLOUR_BIT_MOST && (task->barred >> j & 1) != 0;
+}
+
+/*
+ * The step, counted from 1, at which each colour is first met. A barred one may be met at none: the cycle does not meet it, and the prefix
+ * is shorter than the allowance. The answer is 0 where the walk refuses.
+ */
 static int print_colours(const struct task *task, const uint8_t *plan, uint32_t p, uint32_t q)
 {
     uint32_t j;
 
     for (j = 0; j < task->model.k; j++) {
-        uint64_t answer = chargeplan_model_walk(&task->model, task->c, task->b, p, q, plan, j, UINT16_MAX);
+        uint64_t answer = chargeplan_model_walk(&task->model, task->c, task->b, task->barred, p, q, plan, j, UINT16_MAX);
 
         if (!is_yes("the walk refuses", answer))
             return 0;
         print_colour(task, j);
         if (chargeplan_met(answer))
-            printf(" is first met at step %u\n", (unsigned)chargeplan_steps(answer));
+            printf(" is first met at step %u%s\n", (unsigned)chargeplan_steps(answer), is_barred(task, j) ? ", not in the cycle" : "");
+        else if (is_barred(task, j))
+            printf(" is never met\n");
         else
             printf(" is not met in %u steps\n", (unsigned)chargeplan_steps(answer));
     }
     return 1;
 }
 
+/* Prints the barred colours that the model has. The answer is whether there are any. */
+static int print_barred(const struct task *task)
+{
+    const char *before = "barred from the cycle: ";
+    uint32_t j;
+    int any = 0;
+
+    for (j = 0; j <= COLOUR_BIT_MOST; j++)
+        if (is_barred(task, j)) {
+            printf("%s", before);
+            print_colour(task, j);
+            before = ", ";
+            any = 1;
+        }
+    if (any)
+        printf("\n");
+    return any;
+}
+
+/*
+ * Tells what barring changes: searches with nothing barred, and judges that plan with the barred colours. All colours are met in its
+ * cycle, so that judging refuses it by 24, at the first arc with a barred one.
+ */
+static void print_unbarred(const struct task *task, uint16_t *work, size_t words, uint8_t *plan, size_t bytes)
+{
+    uint64_t answer = chargeplan_model_search(&task->model, task->c, task->b, 0, work, words, plan, bytes);
+    uint32_t p = chargeplan_prefix(answer), q = chargeplan_cycle(answer);
+
+    if (chargeplan_number(answer) == CHARGEPLAN_NO_PLAN)
+        printf("with nothing barred: no plan exists\n");
+    if (chargeplan_number(answer) != CHARGEPLAN_YES)
+        return;
+    printf("with nothing barred: prefix %u, cycle %u\n", (unsigned)p, (unsigned)q);
+    answer = chargeplan_model_judge(&task->model, task->c, task->b, task->barred, p, q, plan);
+    if (is_yes("judging refuses that plan", answer) || chargeplan_number(answer) != CHARGEPLAN_BARRED_COLOUR)
+        return;
+    print_arc_and_move(task, plan[chargeplan_detail(answer)]);
+    printf("\n");
+}
+
 /* Searches, and tells what came of it. */
 static int search_plan(const struct task *task, uint16_t *work, size_t words, uint8_t *plan, size_t bytes)
 {
-    uint64_t answer = chargeplan_model_search(&task->model, task->c, task->b, work, words, plan, bytes);
-    uint32_t p = chargeplan_prefix(answer);
-    uint32_t q = chargeplan_cycle(answer);
+    uint64_t answer;
+    uint32_t p, q;
 
+    if (print_barred(task))
+        print_unbarred(task, work, words, plan, bytes);
+    answer = chargeplan_model_search(&task->model, task->c, task->b, task->barred, work, words, plan, bytes);
+    p = chargeplan_prefix(answer);
+    q = chargeplan_cycle(answer);
     if (chargeplan_number(answer) == CHARGEPLAN_NO_PLAN) {
         printf("no plan exists for this %s with bound %u and credit %u\n", task->knee == NULL ? "model" : "knee and habit",
             (unsigned)task->b, (unsigned)task->c);
@@ -675,7 +792,7 @@ static int search_plan(const struct task *task, uint16_t *work, size_t words, ui
     printf("plan: prefix %u, cycle %u; from ", (unsigned)p, (unsigned)q);
     print_mode(task, 1, task->model.start);
     printf(" with charge %u\n", (unsigned)task->c);
-    if (!is_yes("judging refuses", chargeplan_model_judge(&task->model, task->c, task->b, p, q, plan)))
+    if (!is_yes("judging refuses", chargeplan_model_judge(&task->model, task->c, task->b, task->barred, p, q, plan)))
         return REFUSED;
     printf("judged: feasible and accepted\n");
     /* A plan so judged is refused neither by the gauge nor by the walk. */
@@ -701,12 +818,31 @@ static int answer_task(const struct task *task)
     return status;
 }
 
+/* Prints the barred colours that a model has not; what it is: "model", "knee" or "habit". The planner ignores them. */
+static void print_ignored(const struct mission *m, const char *what)
+{
+    uint32_t j;
+
+    for (j = 0; j <= COLOUR_BIT_MOST; j++)
+        if ((m->barred >> j & 1) != 0 && j >= m->numbers[COLOURS])
+            printf("ignored: barred colour %u, which the %s has not\n", (unsigned)j, what);
+}
+
 /* Plans a mission. */
 static int answer_mission(const struct mission *m)
 {
-    struct task task = {model_of(m), m->numbers[CREDIT], m->numbers[BOUND], NULL, NULL};
+    struct task task = {model_of(m), m->numbers[CREDIT], m->numbers[BOUND], m->barred, NULL, NULL};
 
+    print_ignored(m, "model");
     return answer_task(&task);
+}
+
+/* The barred colours of a knee and a habit that can be joined, as the joined model has them: the habit's come behind the knee's. */
+static uint8_t joined_barred(const struct mission *m, const struct mission *h)
+{
+    uint32_t k = m->numbers[COLOURS];
+
+    return (uint8_t)((m->barred & ((1u << k) - 1)) | (unsigned)h->barred << k);
 }
 
 /* What two fit models would have together, so that the fitter sees which size 23 refuses. */
@@ -755,13 +891,16 @@ static int answer_joined(const struct mission *m, const struct mission *h)
         joined.sources, joined.targets, joined.draws, joined.gains, joined.met, joined.actions, CHARGEPLAN_ARCS_MOST};
     struct chargeplan_model knee = model_of(m), habit = model_of(h), model;
     struct chargeplan_reading reading = chargeplan_model_join(&model, &lists, &knee, &habit);
-    struct task task = {model, m->numbers[CREDIT], m->numbers[BOUND], &knee, &habit};
+    struct task task = {model, m->numbers[CREDIT], m->numbers[BOUND], 0, &knee, &habit};
 
     if (reading.number != CHARGEPLAN_YES) {
         print_unjoined(&reading, &knee, &habit);
         return REFUSED;
     }
     printf("joined: modes %u, colours %u, arcs %u\n", (unsigned)reading.n, (unsigned)reading.k, (unsigned)reading.m);
+    print_ignored(m, "knee");
+    print_ignored(h, "habit");
+    task.barred = joined_barred(m, h);
     return answer_task(&task);
 }
 
@@ -769,7 +908,7 @@ static void print_help(void)
 {
     printf("usage: desk MISSION\n"
            "       desk MISSION HABIT\n"
-           "       desk NAME.hoa BOUND CREDIT\n"
+           "       desk NAME.hoa BOUND CREDIT [barred COLOUR..]\n"
            "\n"
            "Searches a plan for a mission, judges it and runs it on the bench. A mission is a text of lines, in any order:\n"
            "\n"
@@ -778,14 +917,15 @@ static void print_help(void)
            "    colours K                          how many colours (duties), numbered from 0\n"
            "    bound B                            the battery size\n"
            "    credit C                           the charge on arrival\n"
+           "    barred COLOUR..                    colours that may be met in the prefix, and not in the cycle; may be left out\n"
            "    arc SOURCE TARGET MOVE COLOUR.. @ACTION\n"
            "                                       one for each arc, with the numbers of the colours that it meets, and its action\n"
            "\n"
            "MOVE is -DRAW, GAIN, +GAIN or -DRAW+GAIN. An arc without @ACTION has action 0. What follows a '#' is a comment. A line has\n"
            "at most %d characters.\n"
            "\n"
-           "HABIT is a text of the same lines without bound and credit: what the wearer of the knee does. The knee is joined with it:\n"
-           "each step of the plan is an arc of the knee and an arc of the habit with the same action.\n"
+           "HABIT is a text of the same lines without bound and credit: what the wearer of the knee does; colours are its own. The knee\n"
+           "is joined with it: each step of the plan is an arc of the knee and an arc of the habit with the same action.\n"
            "\n"
            "In place of a mission the model may stand in two texts: NAME.hoa, in HOA version 1, and beside it NAME.dimacs, in the DIMACS\n"
            "shortest-path form. include/chargeplan.h says which lines they have.\n"
@@ -817,8 +957,8 @@ static int answer_arguments(int argc, char **argv)
     if (argc == 3 && !is_hoa(argv[1]) && !is_hoa(argv[2]))
         return read_mission(argv[1], NUMBERS, &m) && read_mission(argv[2], HABIT_NUMBERS, &habit) ? answer_joined(&m, &habit)
                                                                                                   : FAILED;
-    if (argc == 4 && is_hoa(argv[1])) {
-        status = read_pair(argv[1], argv[2], argv[3], &m);
+    if (argc >= 4 && is_hoa(argv[1])) {
+        status = read_pair(argv[1], argv + 2, argc - 2, &m);
         return status == PLAN ? answer_mission(&m) : status;
     }
     fprintf(stderr, "usage: desk MISSION, desk MISSION HABIT, or desk NAME.hoa BOUND CREDIT (desk -h says what they are)\n");

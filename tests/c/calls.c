@@ -113,8 +113,8 @@ uint64_t judge(const char *what, const struct model *m, uint32_t c, uint32_t b, 
     struct lent l = lend(m);
     uint8_t *bytes = copied(plan, length);
     uint64_t answer = chargeplan_judge(m->n, m->start, m->k, l.sources, m->sources_length, l.targets, m->targets_length,
-        l.draws, m->draws_length, l.gains, m->gains_length, l.colours, m->colours_length, l.actions, m->actions_length, c, b, p, q,
-        bytes, length);
+        l.draws, m->draws_length, l.gains, m->gains_length, l.colours, m->colours_length, l.actions, m->actions_length, c, b,
+        m->barred, p, q, bytes, length);
 
     check(same(bytes, plan, length), what);
     free(bytes);
@@ -194,8 +194,8 @@ static uint64_t search_to(const char *what, const struct model *m, uint32_t c, u
     struct lent l = lend(m);
     struct buffers s = lend_buffers(words, bytes, junk);
     uint64_t answer = chargeplan_search(m->n, m->start, m->k, l.sources, m->sources_length, l.targets, m->targets_length,
-        l.draws, m->draws_length, l.gains, m->gains_length, l.colours, m->colours_length, l.actions, m->actions_length, c, b, s.work,
-        words, s.plan, bytes);
+        l.draws, m->draws_length, l.gains, m->gains_length, l.colours, m->colours_length, l.actions, m->actions_length, c, b,
+        m->barred, s.work, words, s.plan, bytes);
     uint32_t number = chargeplan_number(answer);
 
     if (number == CHARGEPLAN_YES) {
@@ -344,8 +344,8 @@ uint64_t walk(const char *what, const struct model *m, uint32_t c, uint32_t b, u
     struct lent l = lend(m);
     uint8_t *bytes = copied(plan, length);
     uint64_t answer = chargeplan_walk(m->n, m->start, m->k, l.sources, m->sources_length, l.targets, m->targets_length,
-        l.draws, m->draws_length, l.gains, m->gains_length, l.colours, m->colours_length, l.actions, m->actions_length, c, b, p, q,
-        bytes, length, j, allowance);
+        l.draws, m->draws_length, l.gains, m->gains_length, l.colours, m->colours_length, l.actions, m->actions_length, c, b,
+        m->barred, p, q, bytes, length, j, allowance);
 
     check(same(bytes, plan, length), what);
     free(bytes);

@@ -146,19 +146,28 @@ void put(struct lists *to, size_t at, struct arc arc);
 /* A model with start mode 0 and the first arcs of these lists. */
 struct model listed(uint32_t n, uint32_t k, const struct lists *lists, size_t arcs);
 
+/* A model with start mode 0 and these arcs, in these lists. */
+struct model of_arcs(struct lists *to, uint32_t n, uint32_t k, const struct arc *arcs, size_t count);
+
+/* One mode, and an arc for each set of k colours, whose number has their bits; no arc changes the charge. */
+struct model every_colouring(struct lists *to, uint32_t k);
+
 /* The model, which has lists of one length, with its arcs in another order: arc order[i] comes to place i. */
 struct model reordered(const struct model *m, const uint8_t *order, struct lists *to);
 
 /* A random number below n; the same numbers in every run. */
 uint32_t below(uint32_t n);
 
+/* A byte of barred colours; of two, one is 0. */
+uint8_t random_barred(void);
+
 /* The most arcs of a small random model, and the greatest draw and gain. */
 enum { SMALL_ARCS_MOST = 8, SMALL_MOVE_MOST = 6 };
 
-/* A small model in these lists, with 4 modes or fewer. */
+/* A small model in these lists, with 4 modes or fewer, and random barred colours. */
 struct model random_fit_model(struct lists *lists);
 
-/* A small model in these lists; one in five has something unfit. Lists of another length have elements enough. */
+/* The same; one in five has something unfit. Lists of another length have elements enough. */
 struct model random_model(struct lists *lists);
 
 /* Gives the first arcs of the lists random draws and gains up to these; of three, one draws, one gains, and one does both. */
@@ -213,6 +222,16 @@ void test_search(void);
 void test_long_plans(void);
 void test_ring(void);
 void test_groups(void);
+void test_barred_colours(void);
+void test_barred_bytes(void);
+void test_barred_order(void);
+void test_barred_long(void);
+void test_barred_walk(void);
+void test_barred_search(void);
+void test_barred_sets(void);
+void test_barred_buffers(void);
+void test_barred_long_plans(void);
+void test_barred_ignored(void);
 void test_start(void);
 void test_steps(void);
 void test_extreme_steps(void);
@@ -270,10 +289,13 @@ void test_join_sizes(void);
 void test_join_rooms(void);
 void test_join_last(void);
 void test_two_wearers(void);
+void test_barred_duties(void);
 void test_join_functions(void);
 void test_no_actions(void);
 void test_random(unsigned long models);
 void test_random_large(unsigned long models);
+void test_random_barred(unsigned long models);
+void test_random_phases(unsigned long models);
 void test_random_draws(unsigned long models);
 void test_random_split(unsigned long models);
 void test_random_sizes(unsigned long models);

@@ -13,7 +13,7 @@ static const uint8_t j_colours[] = {1, 2};
 struct model model(uint32_t n, uint32_t k, size_t arcs, const uint8_t *sources, const uint8_t *targets, const uint16_t *draws,
     const uint16_t *gains, const uint8_t *colours)
 {
-    struct model m = {n, 0, k, sources, arcs, targets, arcs, draws, arcs, gains, arcs, colours, arcs, zeros, arcs, NULL};
+    struct model m = {n, 0, k, sources, arcs, targets, arcs, draws, arcs, gains, arcs, colours, arcs, zeros, arcs, NULL, 0};
     return m;
 }
 
@@ -35,6 +35,15 @@ void put(struct lists *to, size_t at, struct arc arc)
     to->actions[at] = (uint8_t)arc.action;
 }
 
+struct model of_arcs(struct lists *to, uint32_t n, uint32_t k, const struct arc *arcs, size_t count)
+{
+    size_t a;
+
+    for (a = 0; a < count; a++)
+        put(to, a, arcs[a]);
+    return listed(n, k, to, count);
+}
+
 struct model without_arcs(uint32_t n, uint32_t k)
 {
     return model(n, k, 0, NULL, NULL, NULL, NULL, NULL);
@@ -47,6 +56,7 @@ struct model without_last(const struct model *m)
 
     r.start = m->start;
     r.actions = m->actions;
+    r.barred = m->barred;
     return r;
 }
 

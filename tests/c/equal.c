@@ -116,8 +116,8 @@ static void search_other(const struct blocks *s)
     struct model e = model_e();
 
     chargeplan_search(e.n, e.start, e.k, e.sources, e.sources_length, e.targets, e.targets_length, e.draws, e.draws_length, e.gains,
-        e.gains_length, e.colours, e.colours_length, e.actions, e.actions_length, 10, 10, s->work + s->gap, s->words, s->plan + s->gap,
-        s->bytes);
+        e.gains_length, e.colours, e.colours_length, e.actions, e.actions_length, 10, 10, e.barred, s->work + s->gap, s->words,
+        s->plan + s->gap, s->bytes);
 }
 
 /* A search; the plan found is copied to `to`. */
@@ -130,7 +130,7 @@ static uint64_t search_once(const struct model *m, uint32_t c, uint32_t b, const
     if (t->junk == LEFT)
         search_other(&s);
     answer = chargeplan_search(m->n, m->start, m->k, s.sources + gap, arcs, s.targets + gap, arcs, s.draws + gap, arcs, s.gains + gap,
-        arcs, s.colours + gap, arcs, s.actions + gap, arcs, c, b, s.work + gap, s.words, s.plan + gap, s.bytes);
+        arcs, s.colours + gap, arcs, s.actions + gap, arcs, c, b, m->barred, s.work + gap, s.words, s.plan + gap, s.bytes);
     check(chargeplan_prefix(answer) + chargeplan_cycle(answer) <= s.bytes, "a plan within its buffer");
     memcpy(to, s.plan + gap, chargeplan_prefix(answer) + chargeplan_cycle(answer));
     free_blocks(&s);
@@ -197,6 +197,7 @@ static struct model random_wide_model(struct lists *lists, uint32_t b, uint32_t 
     struct model m = listed(n, k, lists, arcs);
 
     m.start = below(n);
+    m.barred = random_barred();
     random_moves(lists, arcs, b, b / 4 + 1);
     for (a = 0; a < arcs; a++) {
         lists->sources[a] = (uint8_t)below(n);

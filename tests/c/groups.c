@@ -9,6 +9,7 @@ struct model reordered(const struct model *m, const uint8_t *order, struct lists
     size_t i;
 
     r.start = m->start;
+    r.barred = m->barred;
     for (i = 0; i < m->sources_length; i++) {
         to->sources[i] = m->sources[order[i]];
         to->targets[i] = m->targets[order[i]];

@@ -7,7 +7,7 @@
 #include <stdlib.h>
 #include <string.h>
 
-/* The numbers of document 01's table, in its order, and those of Asks 1, 3 and 5. */
+/* The numbers of document 01's table, in its order, and those of Asks 1, 3, 5 and 6. */
 static void test_constants(void)
 {
     static const unsigned numbers[] = {CHARGEPLAN_YES, CHARGEPLAN_MODE_COUNT, CHARGEPLAN_START_MODE, CHARGEPLAN_ARC_LISTS,
@@ -15,13 +15,13 @@ static void test_constants(void)
         CHARGEPLAN_PLAN_BUFFER, CHARGEPLAN_NO_PLAN, CHARGEPLAN_PLAN_LENGTH, CHARGEPLAN_ARC_NUMBER, CHARGEPLAN_OTHER_MODE,
         CHARGEPLAN_OPEN_CYCLE, CHARGEPLAN_IMPOSSIBLE_STEP, CHARGEPLAN_FALLING_CYCLE, CHARGEPLAN_MISSING_COLOUR,
         CHARGEPLAN_NO_SUCH_COLOUR, CHARGEPLAN_HOA_LINE, CHARGEPLAN_DIMACS_LINE, CHARGEPLAN_TEXTS_DISAGREE, CHARGEPLAN_MIXED_GAUGE,
-        CHARGEPLAN_JOIN_SIZE};
+        CHARGEPLAN_JOIN_SIZE, CHARGEPLAN_BARRED_COLOUR};
     unsigned i;
 
-    check(sizeof numbers / sizeof numbers[0] == 24, "the numbers 0 to 23");
+    check(sizeof numbers / sizeof numbers[0] == 25, "the numbers 0 to 24");
     for (i = 0; i < sizeof numbers / sizeof numbers[0]; i++)
         check(numbers[i] == i, "a number of the header");
-    check(CHARGEPLAN_VERSION == 3, "the version with actions");
+    check(CHARGEPLAN_VERSION == 4, "the version with barred colours");
     check(CHARGEPLAN_ACTION_MOST == 15, "the greatest action");
 }
 
@@ -71,10 +71,10 @@ static void same_plan(const char *what, const struct model *m, uint32_t c, uint3
     uint8_t *bytes = copied(plan, length);
     uint32_t j;
 
-    check(chargeplan_model_judge(&one, c, b, p, q, bytes) == judge(what, m, c, b, p, q, plan, length), what);
+    check(chargeplan_model_judge(&one, c, b, m->barred, p, q, bytes) == judge(what, m, c, b, p, q, plan, length), what);
     for (j = 0; j <= 2; j++) {
-        check(chargeplan_model_walk(&one, c, b, p, q, bytes, j, 7) == walk(what, m, c, b, p, q, plan, length, j, 7), what);
-        check(chargeplan_model_walk(&one, c, b, p, q, bytes, j, 3) == walk(what, m, c, b, p, q, plan, length, j, 3), what);
+        check(chargeplan_model_walk(&one, c, b, m->barred, p, q, bytes, j, 7) == walk(what, m, c, b, p, q, plan, length, j, 7), what);
+        check(chargeplan_model_walk(&one, c, b, m->barred, p, q, bytes, j, 3) == walk(what, m, c, b, p, q, plan, length, j, 3), what);
     }
     free(bytes);
     take_back(m, l, what);
@@ -92,9 +92,9 @@ static void same_search(const char *what, const struct model *m, uint32_t c, uin
     memset(plan, 0, bytes);
     memset(expected, 0, bytes);
     answer = chargeplan_search(m->n, m->start, m->k, l.sources, m->sources_length, l.targets, m->targets_length, l.draws,
-        m->draws_length, l.gains, m->gains_length, l.colours, m->colours_length, l.actions, m->actions_length, c, b, work, words,
-        expected, bytes);
-    check(chargeplan_model_search(&one, c, b, work, words, plan, bytes) == answer, what);
+        m->draws_length, l.gains, m->gains_length, l.colours, m->colours_length, l.actions, m->actions_length, c, b, m->barred, work,
+        words, expected, bytes);
+    check(chargeplan_model_search(&one, c, b, m->barred, work, words, plan, bytes) == answer, what);
     check(memcmp(plan, expected, bytes) == 0, what);
     free(work);
     free(plan);
@@ -146,11 +146,18 @@ static void same_gauge(const char *what, const struct model *m, uint32_t c, uint
     take_back(m, l, what);
 }
 
-/* Every function over a struct chargeplan_model does what its entry does. */
+/* Every function over a struct chargeplan_model does what its entry does, with nothing barred and with these colours. */
 static void same_calls(const char *what, const struct model *m, uint32_t c, uint32_t b, uint32_t p, uint32_t q, const uint8_t *plan)
 {
-    same_plan(what, m, c, b, p, q, plan);
-    same_searches(what, m, c, b);
+    static const uint8_t barred[] = {0, 1, 2, 3, 254, 255};
+    struct model r = *m;
+    size_t i;
+
+    for (i = 0; i < sizeof barred; i++) {
+        r.barred = barred[i];
+        same_plan(what, &r, c, b, p, q, plan);
+        same_searches(what, &r, c, b);
+    }
     same_gauge(what, m, c, b);
 }
 

@@ -115,11 +115,11 @@ static void all_answer(const char *what, const struct chargeplan_model *m, uint3
     uint16_t work[64];
     uint8_t plan[64];
 
-    check(chargeplan_number(chargeplan_model_judge(m, 5, 5, 0, 1, zeros)) == number, what);
-    check(chargeplan_number(chargeplan_model_search(m, 5, 5, work, 64, plan, 64)) == number, what);
+    check(chargeplan_number(chargeplan_model_judge(m, 5, 5, 0, 0, 1, zeros)) == number, what);
+    check(chargeplan_number(chargeplan_model_search(m, 5, 5, 0, work, 64, plan, 64)) == number, what);
     check(chargeplan_number(chargeplan_model_gauge_start(m, 5, 5).answer) == number, what);
     check(chargeplan_number(chargeplan_model_gauge_step(&gauge, m, 5, 0)) == number, what);
-    check(chargeplan_number(chargeplan_model_walk(m, 5, 5, 0, 1, zeros, 0, 1)) == number, what);
+    check(chargeplan_number(chargeplan_model_walk(m, 5, 5, 0, 0, 1, zeros, 0, 1)) == number, what);
     check(chargeplan_model_join(&joined, &lent, m, &none).number == number, what);
     check(chargeplan_model_join(&joined, &lent, &none, m).number == number, what);
 }

@@ -62,19 +62,26 @@ static void judged_together(const struct model *knee, const struct model *habit,
     }
 }
 
-/* A small model with up to so many modes, so many colours, of which an arc meets half, and few actions. */
+/* A small model with up to so many modes, so many colours, of which an arc meets half, random barred ones, and few actions. */
 static struct model random_part(struct lists *to, uint32_t modes, uint32_t k, uint32_t actions)
 {
     uint32_t n = 1 + below(modes), arcs = 1 + below(PLAIN_TRIPLES_ARCS_MOST), a;
     struct model m = listed(n, k, to, arcs);
 
     m.start = below(n);
+    m.barred = random_barred();
     for (a = 0; a < arcs; a++) {
         struct arc arc = {below(n), below(n), below(2) * below(6), below(5), below(1u << k), below(actions)};
 
         put(to, a, arc);
     }
     return m;
+}
+
+/* The barred colours of knee and habit as those of the joined model. */
+static uint8_t joined_barred(const struct model *knee, const struct model *habit)
+{
+    return (uint8_t)((knee->barred & ((1u << knee->k) - 1)) | (uint32_t)habit->barred << knee->k);
 }
 
 /* Small knees and habits joined; of many there are enough with plans, and enough without. */
@@ -91,6 +98,7 @@ void test_random_joined_plans(unsigned long models)
 
         check(r.number == CHARGEPLAN_YES, "a joined plan");
         joined = joined_model(r, &lists);
+        joined.barred = joined_barred(&knee, &habit);
         with_plans += (unsigned long)searched_together("a joined plan", &knee, &habit, &joined, c, b);
         judged_together(&knee, &habit, &joined, c, b);
     }
@@ -128,10 +136,14 @@ static unsigned arcs_walked(const char *what, const struct model *knee, const st
     uint8_t plan[FOUND_MOST], of_knee[FOUND_MOST], of_habit[FOUND_MOST];
     struct lists lists;
     struct model joined = joined_model(join_models(what, knee, habit, equal_rooms(CHARGEPLAN_ARCS_MOST), &lists), &lists);
-    uint64_t answer = search_exactly(what, &joined, c, b, plan);
-    uint32_t p = chargeplan_prefix(answer), q = chargeplan_cycle(answer), i;
+    uint64_t answer;
+    uint32_t p, q, i;
     unsigned arcs = 0;
 
+    joined.barred = joined_barred(knee, habit);
+    answer = search_exactly(what, &joined, c, b, plan);
+    p = chargeplan_prefix(answer);
+    q = chargeplan_cycle(answer);
     check(p + q <= FOUND_MOST, what);
     if (chargeplan_number(answer) != CHARGEPLAN_YES || p + q > FOUND_MOST)
         return 0;
@@ -157,4 +169,32 @@ void test_two_wearers(void)
     check(arcs_walked("a longer way", &knee, &never, 8, 9) == 0, "a longer way");
     of_never.gains[1] = 1;
     check(arcs_walked("a longer way, and a better charger", &knee, &never, 8, 9) == (WORN | CHARGED), "a longer way");
+}
+
+/* A wearer who in the evening retunes, which is a duty, and then charges, or charges at once. */
+static struct model free_wearer(struct lists *to)
+{
+    static const struct arc arcs[] = {{0, 1, 0, 0, 0, WALK}, {1, 2, 0, 0, 1, RETUNE}, {2, 0, 0, 0, 0, CHARGE}, {1, 0, 0, 0, 0, CHARGE}};
+
+    return of_arcs(to, 3, 1, arcs, 4);
+}
+
+/* Barred duties of the habit, of the knee and of both, and bits that are none of theirs. */
+void test_barred_duties(void)
+{
+    enum { TUNED = 1 << 0, WORN = 1 << 1, CHARGED_TUNED = 1 << 2, CHARGED = 1 << 3, RETUNED = 1 << 4 };
+    struct lists of_knee, of_habit;
+    struct model knee = wearing_knee(&of_knee), habit = free_wearer(&of_habit);
+
+    check(arcs_walked("retuning is required", &knee, &habit, 6, 9) == (TUNED | RETUNED | CHARGED_TUNED), "retuning is required");
+    habit.barred = 1;
+    check(arcs_walked("retuning is barred", &knee, &habit, 6, 9) == (WORN | CHARGED), "retuning is barred");
+    check(arcs_walked("retuning is barred, a small bound", &knee, &habit, 5, 5) == 0, "retuning is barred, a small bound");
+    habit.barred = 0xff;
+    knee.barred = 0xfe;
+    check(arcs_walked("ignored bits of both", &knee, &habit, 6, 9) == (WORN | CHARGED), "ignored bits of both");
+    knee.barred = 1;
+    check(arcs_walked("walking is barred, too", &knee, &habit, 6, 9) == 0, "walking is barred, too");
+    habit.barred = 0;
+    check(arcs_walked("walking alone is barred", &knee, &habit, 6, 9) == 0, "walking alone is barred");
 }

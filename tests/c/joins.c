@@ -76,15 +76,6 @@ size_t equal_actions(const struct model *knee, const struct model *habit)
     return count;
 }
 
-struct model of_arcs(struct lists *to, uint32_t n, uint32_t k, const struct arc *arcs, size_t count)
-{
-    size_t a;
-
-    for (a = 0; a < count; a++)
-        put(to, a, arcs[a]);
-    return listed(n, k, to, count);
-}
-
 struct model with_action(struct lists *to, size_t arcs, uint32_t action)
 {
     struct arc arc = {0, 0, 0, 0, 0, action};

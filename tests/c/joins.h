@@ -24,9 +24,6 @@ struct chargeplan_model as_one(const struct model *m);
 /* How many pairs of arcs have equal actions; lists of unequal lengths count as far as the actions go. */
 size_t equal_actions(const struct model *knee, const struct model *habit);
 
-/* A model with start mode 0 and these arcs, in these lists. */
-struct model of_arcs(struct lists *to, uint32_t n, uint32_t k, const struct arc *arcs, size_t count);
-
 /* One mode without colours, and so many arcs in these lists that change nothing, with this action. */
 struct model with_action(struct lists *to, size_t arcs, uint32_t action);
 

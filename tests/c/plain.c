@@ -126,16 +126,58 @@ static struct verdict plain_charges(const struct model *m, uint32_t c, uint32_t 
     return starts[1] < starts[0] && starts[2] < starts[1] ? verdict(16, 0) : verdict(0, 0);
 }
 
-/* 17. */
+static int has_colour(uint32_t colours, uint32_t j)
+{
+    return (colours >> j & 1) != 0;
+}
+
+/* Ask 6: "A byte names these barred colours; its bits at or above k are ignored." */
+static int is_barred(const struct model *m, uint32_t j)
+{
+    return j < m->k && has_colour(m->barred, j);
+}
+
+int plain_has_barred(const struct model *m, uint32_t colours)
+{
+    uint32_t j;
+
+    for (j = 0; j < m->k; j++)
+        if (is_barred(m, j) && has_colour(colours, j))
+            return 1;
+    return 0;
+}
+
+int plain_has_required(const struct model *m, uint32_t colours)
+{
+    uint32_t j;
+
+    for (j = 0; j < m->k; j++)
+        if (!is_barred(m, j) && !has_colour(colours, j))
+            return 0;
+    return 1;
+}
+
+/* 24: "the plan position of the round's first arc that has one". */
+static struct verdict plain_barred(const struct model *m, uint32_t p, uint32_t q, const uint8_t *plan)
+{
+    uint32_t i;
+
+    for (i = p; i < p + q; i++)
+        if (plain_has_barred(m, m->colours[plan[i]]))
+            return verdict(24, i);
+    return verdict(0, 0);
+}
+
+/* 17: "17 and its detail pass over them". */
 static struct verdict plain_colours(const struct model *m, uint32_t p, uint32_t q, const uint8_t *plan)
 {
     uint32_t j, i;
 
     for (j = 0; j < m->k; j++) {
-        int met = 0;
+        int met = is_barred(m, j);
 
         for (i = 0; i < q; i++)
-            met = met || (m->colours[plan[p + i]] >> j & 1) != 0;
+            met = met || has_colour(m->colours[plan[p + i]], j);
         if (!met)
             return verdict(17, j);
     }
@@ -150,6 +192,8 @@ struct verdict plain_judge(const struct model *m, uint32_t c, uint32_t b, uint32
         v = plain_shape(m, p, q, plan, length);
     if (v.number == 0)
         v = plain_charges(m, c, b, p, q, plan);
+    if (v.number == 0)
+        v = plain_barred(m, p, q, plan);
     if (v.number == 0)
         v = plain_colours(m, p, q, plan);
     return v;
@@ -223,8 +267,17 @@ static int pair_after(const struct model *m, uint32_t b, uint32_t pair, size_t a
     return m->targets[a] * (int)(b + 1) + charge;
 }
 
-/* reach[x]: the pairs that are reached from pair x by one arc or more, a bit for each. */
-static void close_pairs(const struct model *m, uint32_t b, uint32_t pairs, uint64_t *reach)
+/* The arcs of a plan's prefix are any; those of its cycle have no barred colour. */
+enum part { PREFIX, CYCLE };
+
+/* The same, and -1 where the arc may not stand in this part. */
+static int pair_in(enum part part, const struct model *m, uint32_t b, uint32_t pair, size_t a)
+{
+    return part == CYCLE && plain_has_barred(m, m->colours[a]) ? -1 : pair_after(m, b, pair, a);
+}
+
+/* reach[x]: the pairs that are reached from pair x by one arc or more of this part, a bit for each. */
+static void close_pairs(enum part part, const struct model *m, uint32_t b, uint32_t pairs, uint64_t *reach)
 {
     uint32_t x, y;
     size_t a;
@@ -232,7 +285,7 @@ static void close_pairs(const struct model *m, uint32_t b, uint32_t pairs, uint6
     for (x = 0; x < pairs; x++) {
         reach[x] = 0;
         for (a = 0; a < m->sources_length; a++) {
-            int to = pair_after(m, b, x, a);
+            int to = pair_in(part, m, b, x, a);
 
             if (to >= 0)
                 reach[x] |= (uint64_t)1 << to;
@@ -244,7 +297,7 @@ static void close_pairs(const struct model *m, uint32_t b, uint32_t pairs, uint6
                 reach[x] |= reach[y];
 }
 
-/* The colours on the arcs that lead from the pairs between which and x there are walks both ways to such pairs. */
+/* The colours on a cycle's arcs that lead from the pairs between which and x there are walks of such arcs both ways to such pairs. */
 static uint32_t colours_around(const struct model *m, uint32_t b, uint32_t pairs, const uint64_t *reach, uint32_t x)
 {
     uint32_t y, met = 0;
@@ -252,7 +305,7 @@ static uint32_t colours_around(const struct model *m, uint32_t b, uint32_t pairs
 
     for (y = 0; y < pairs; y++)
         for (a = 0; a < m->sources_length; a++) {
-            int to = pair_after(m, b, y, a);
+            int to = pair_in(CYCLE, m, b, y, a);
 
             if (to >= 0 && (reach[x] >> y & 1) && (reach[to] >> x & 1))
                 met |= m->colours[a];
@@ -262,17 +315,18 @@ static uint32_t colours_around(const struct model *m, uint32_t b, uint32_t pairs
 
 /*
  * In a plan the pair at the beginning of a round comes again, since there are few pairs; so there is a plan exactly where from some
- * pair within reach a walk of one arc or more leads back to it and meets every colour.
+ * pair within reach a walk of one arc or more, without a barred colour, leads back to it and meets every required colour.
  */
 int plain_has_plan(const struct model *m, uint32_t c, uint32_t b)
 {
-    uint64_t reach[PLAIN_PAIRS_MOST];
-    uint32_t pairs = m->n * (b + 1), first = m->start * (b + 1) + c, all = (1u << m->k) - 1, x;
+    uint64_t reach[PLAIN_PAIRS_MOST], round[PLAIN_PAIRS_MOST];
+    uint32_t pairs = m->n * (b + 1), first = m->start * (b + 1) + c, x;
 
-    close_pairs(m, b, pairs, reach);
+    close_pairs(PREFIX, m, b, pairs, reach);
+    close_pairs(CYCLE, m, b, pairs, round);
     for (x = 0; x < pairs; x++)
-        if ((x == first || (reach[first] >> x & 1)) && (reach[x] >> x & 1)
-            && (colours_around(m, b, pairs, reach, x) & all) == all)
+        if ((x == first || (reach[first] >> x & 1)) && (round[x] >> x & 1)
+            && plain_has_required(m, colours_around(m, b, pairs, round, x)))
             return 1;
     return 0;
 }

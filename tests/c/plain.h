@@ -1,5 +1,5 @@
 /*
- * Judging, the existence of a plan, gauge and walk, as plainly as document 01 and Asks 2 to 5 of document 02 have them and with no
+ * Judging, the existence of a plan, gauge and walk, as plainly as document 01 and Asks 2 to 6 of document 02 have them and with no
  * code of the library: what the C tests compare with. The join is in plain_join.h.
  */
 #ifndef PLAIN_H
@@ -11,6 +11,7 @@
 /*
  * A model as a call is lent it: the six lists may be of unequal length, and null where they have none. Where there are weights, as
  * many as sources, the plain reading goes by them, as document 01 has it, and does not look at draws and gains. No call is lent them.
+ * The barred colours are no part of a model, but are kept with it here: judging, search and the walk are lent the byte, no other call is.
  */
 struct model {
     uint32_t n, start, k;
@@ -27,6 +28,7 @@ struct model {
     const uint8_t *actions;
     size_t actions_length;
     const int16_t *weights;
+    uint8_t barred;
 };
 
 /* An arc. */
@@ -44,7 +46,7 @@ struct reading {
     uint32_t n, start, k, m;
 };
 
-/* A number of document 01's table, or 22, with its detail. */
+/* A number of document 01's table, 22 or 24, with its detail. */
 struct verdict {
     uint32_t number, detail;
 };
@@ -52,7 +54,11 @@ struct verdict {
 /* 1 to 6; number 0 where none applies. */
 struct verdict plain_fitness(const struct model *m, uint32_t c, uint32_t b);
 
-/* 1 to 6 and 11 to 17; number 0 is yes. */
+/* Whether a barred colour of the model is among these, and whether every other one is. */
+int plain_has_barred(const struct model *m, uint32_t colours);
+int plain_has_required(const struct model *m, uint32_t colours);
+
+/* 1 to 6, 11 to 16, 24 and 17; number 0 is yes. */
 struct verdict plain_judge(const struct model *m, uint32_t c, uint32_t b, uint32_t p, uint32_t q, const uint8_t *plan, size_t length);
 
 /* Where a walk stands: mode, charge, and the sum of what its steps lost at the bound; and n, the number of arcs and b of its start. */
@@ -77,7 +83,7 @@ struct outcome {
     uint32_t steps, met;
 };
 
-/* 1 to 6 and 11 to 18, or the steps of a plain gauge. */
+/* 1 to 6, 11 to 16, 24, 17 and 18, or the steps of a plain gauge. */
 struct outcome plain_walk(const struct model *m, uint32_t c, uint32_t b, uint32_t p, uint32_t q, const uint8_t *plan, size_t length,
     uint32_t j, uint16_t allowance);
 

@@ -126,20 +126,20 @@ static int keeps_charge(const struct model *knee, const struct model *habit, uin
     return charge >= 0;
 }
 
-static int meets_colours(const struct model *m, const uint8_t *cycle, uint32_t q)
+static int keeps_colours(const struct model *m, const uint8_t *cycle, uint32_t q)
 {
     uint32_t met = 0, i;
 
     for (i = 0; i < q; i++)
         met |= m->colours[cycle[i]];
-    return met == (1u << m->k) - 1;
+    return plain_has_required(m, met) && !plain_has_barred(m, met);
 }
 
 int plain_together(const struct model *knee, const struct model *habit, uint32_t c, uint32_t b, struct plans plans)
 {
     return is_plan(knee, plans.p, plans.q, plans.knee) && is_plan(habit, plans.p, plans.q, plans.habit)
         && same_actions(knee, habit, plans) && keeps_charge(knee, habit, c, b, plans)
-        && meets_colours(knee, plans.knee + plans.p, plans.q) && meets_colours(habit, plans.habit + plans.p, plans.q);
+        && keeps_colours(knee, plans.knee + plans.p, plans.q) && keeps_colours(habit, plans.habit + plans.p, plans.q);
 }
 
 /* A step of both from one triple to another, and the colours that it meets. */
@@ -188,6 +188,17 @@ static void find_steps(struct steps *to, const struct model *knee, const struct 
                 add_steps(to, knee, i, habit, j, b);
 }
 
+/* The steps that may stand in a cycle: those without a barred colour of either model. */
+static void keep_lasting(struct steps *to, const struct steps *from, const struct model *knee, const struct model *habit)
+{
+    size_t i;
+
+    to->count = 0;
+    for (i = 0; i < from->count; i++)
+        if (!plain_has_barred(knee, from->at[i].of_knee) && !plain_has_barred(habit, from->at[i].of_habit))
+            to->at[to->count++] = from->at[i];
+}
+
 /* reach[x]: the triples that are reached from x by one step or more, a bit for each. */
 static void close_triples(const struct steps *steps, uint32_t triples, uint64_t *reach)
 {
@@ -204,7 +215,7 @@ static void close_triples(const struct steps *steps, uint32_t triples, uint64_t 
                 reach[x] |= reach[y];
 }
 
-/* Whether the steps on walks from x back to x meet all colours of both. */
+/* Whether the steps on walks from x back to x meet all required colours of both. */
 static int meet_all(const struct steps *steps, const uint64_t *reach, uint32_t x, const struct model *knee, const struct model *habit)
 {
     uint32_t of_knee = 0, of_habit = 0;
@@ -218,20 +229,22 @@ static int meet_all(const struct steps *steps, const uint64_t *reach, uint32_t x
             of_habit |= s->of_habit;
         }
     }
-    return of_knee == (1u << knee->k) - 1 && of_habit == (1u << habit->k) - 1;
+    return plain_has_required(knee, of_knee) && plain_has_required(habit, of_habit);
 }
 
 /* As of one model: there are plans exactly where from some triple within reach a walk of one step or more leads back and meets all. */
 int plain_has_plans(const struct model *knee, const struct model *habit, uint32_t c, uint32_t b)
 {
-    static struct steps steps;
-    uint64_t reach[PLAIN_TRIPLES_MOST];
+    static struct steps steps, lasting;
+    uint64_t reach[PLAIN_TRIPLES_MOST], round[PLAIN_TRIPLES_MOST];
     uint32_t triples = knee->n * habit->n * (b + 1), first = triple(habit, b, knee->start, habit->start, c), x;
 
     find_steps(&steps, knee, habit, b);
+    keep_lasting(&lasting, &steps, knee, habit);
     close_triples(&steps, triples, reach);
+    close_triples(&lasting, triples, round);
     for (x = 0; x < triples; x++)
-        if ((x == first || (reach[first] >> x & 1)) && (reach[x] >> x & 1) && meet_all(&steps, reach, x, knee, habit))
+        if ((x == first || (reach[first] >> x & 1)) && (round[x] >> x & 1) && meet_all(&lasting, round, x, knee, habit))
             return 1;
     return 0;
 }

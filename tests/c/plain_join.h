@@ -1,6 +1,6 @@
 /*
- * The join of a knee and a habit, and plans of the two together, as plainly as Ask 5 of document 02 has them and with no code of the
- * library.
+ * The join of a knee and a habit, and plans of the two together, as plainly as Asks 5 and 6 of document 02 have them and with no code of
+ * the library. The barred colours of knee and habit are those of each by its own numbers.
  */
 #ifndef PLAIN_JOIN_H
 #define PLAIN_JOIN_H
@@ -19,7 +19,10 @@ struct plans {
     const uint8_t *knee, *habit;
 };
 
-/* Whether both are plans, with the same actions, every step is possible on their common charge, and both meet their colours. */
+/*
+ * Whether both are plans, with the same actions, every step is possible on their common charge, and the cycle of each meets its required
+ * colours and no barred one.
+ */
 int plain_together(const struct model *knee, const struct model *habit, uint32_t c, uint32_t b, struct plans plans);
 
 /* The most triples of a mode of the knee, a mode of the habit and a charge that plain_has_plans takes, and the most arcs of a model. */

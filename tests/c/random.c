@@ -29,6 +29,11 @@ void shuffle(uint8_t *numbers, size_t count)
     }
 }
 
+uint8_t random_barred(void)
+{
+    return (uint8_t)(below(2) * below(UINT8_MAX + 1));
+}
+
 /* An arc between n modes without colours, with any action; of three, one draws, one gains, and one does both, up to these. */
 static struct arc random_move(uint32_t n, uint32_t draw_most, uint32_t gain_most)
 {
@@ -60,6 +65,7 @@ struct model random_fit_model(struct lists *lists)
     struct model m = listed(n, k, lists, arcs);
 
     m.start = below(n);
+    m.barred = random_barred();
     for (a = 0; a < arcs; a++) {
         struct arc arc = random_move(n, SMALL_MOVE_MOST, SMALL_MOVE_MOST);
 
@@ -322,13 +328,14 @@ void test_random(unsigned long models)
     }
 }
 
-/* A model with up to 64 modes and 255 arcs; some of the modes have no arcs. */
+/* A model with up to 64 modes and 255 arcs, and random barred colours; some of the modes have no arcs. */
 static struct model random_large_model(struct lists *lists)
 {
     uint32_t n = 1 + below(CHARGEPLAN_MODES_MOST), k = below(5), arcs = below(CHARGEPLAN_ARCS_MOST + 1), with_arcs = 1 + below(n), a;
     struct model m = listed(n, k, lists, arcs);
 
     m.start = below(n);
+    m.barred = random_barred();
     for (a = 0; a < arcs; a++) {
         struct arc arc = random_move(n, 6, 3);
 

@@ -11,6 +11,7 @@ static struct model split(const struct model *m, struct lists *to)
     struct model r = listed(m->n + arcs, m->k, to, 2 * arcs);
 
     r.start = m->start;
+    r.barred = m->barred;
     for (a = 0; a < arcs; a++) {
         struct arc drawn = {m->sources[a], m->n + a, m->draws[a], 0, 0, m->actions[a]};
         struct arc gained = {m->n + a, m->targets[a], 0, m->gains[a], m->colours[a], 0};
@@ -34,13 +35,13 @@ static void split_plan(const uint8_t *plan, size_t length, uint8_t *to)
     }
 }
 
-/* What judging says of the split plan: a position or step is doubled, a colour is not. */
+/* What judging says of the split plan: a position or step is doubled, a colour is not. A barred colour is in the second half. */
 static struct verdict split_verdict(uint64_t answer)
 {
     struct verdict v = {chargeplan_number(answer), chargeplan_detail(answer)};
 
     if (v.number != CHARGEPLAN_MISSING_COLOUR)
-        v.detail *= 2;
+        v.detail = 2 * v.detail + (v.number == CHARGEPLAN_BARRED_COLOUR);
     return v;
 }
 

@@ -22,6 +22,16 @@ static void test_random_large_models(void)
     test_random_large(random_models / 200);
 }
 
+static void test_random_barred_colours(void)
+{
+    test_random_barred(random_models / 10);
+}
+
+static void test_random_models_of_two_phases(void)
+{
+    test_random_phases(random_models / 20);
+}
+
 static void test_random_draws_and_gains(void)
 {
     test_random_draws(random_models / 200);
@@ -140,6 +150,16 @@ static const struct {
     {"search, a ring of 64 modes", test_ring},
     {"search, arcs in any order", test_groups},
     {"search, equal inputs give equal plans", test_equal_plans},
+    {"barred colours, 24 and 17", test_barred_colours},
+    {"barred colours, every byte", test_barred_bytes},
+    {"barred colours, the order of the refusals", test_barred_order},
+    {"barred colours, long plans", test_barred_long},
+    {"barred colours, walk", test_barred_walk},
+    {"barred colours, search", test_barred_search},
+    {"barred colours, search, every byte on a ring", test_barred_sets},
+    {"barred colours, search, 8 and 9 go by k", test_barred_buffers},
+    {"barred colours, search, long plans", test_barred_long_plans},
+    {"barred colours, search, bits at or above k", test_barred_ignored},
     {"gauge, starting", test_start},
     {"gauge, document 01's examples", test_steps},
     {"gauge, the greatest gain and draw", test_extreme_steps},
@@ -196,10 +216,13 @@ static const struct {
     {"join, 23: lists of any lengths", test_join_rooms},
     {"join, 23 is looked at last", test_join_last},
     {"join, one knee and two wearers", test_two_wearers},
+    {"join, barred duties of knee and habit", test_barred_duties},
     {"join over structs, and the two arcs of a joined arc", test_join_functions},
     {"header", test_header},
     {"random models and plans", test_random_models},
     {"random models with many arcs", test_random_large_models},
+    {"random models with barred colours", test_random_barred_colours},
+    {"random models with barred colours, and as models of two phases", test_random_models_of_two_phases},
     {"random gauges and plans with many arcs, draws and gains of every size", test_random_draws_and_gains},
     {"random models with each arc split into draw and gain", test_random_splits},
     {"random plans, draws, gains and bounds of every size", test_random_plans_of_every_size},

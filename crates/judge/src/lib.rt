@@ -1,6 +1,6 @@
 // Judging: whether a plan of any origin is feasible and accepted for a model. Refusals 1 to 6, 11 to 16, 24 and 17, top to bottom.
 ghost use mathlib.Core.Path.{_≡_};
-ghost use Prim.Native.Nat.{_+_, _*_, _%_, _^_, _≤_, _<_};
+ghost use Prim.Native.Nat.{_+_, _*_, _^_, _≤_, _<_};
 ghost use lib.ListN.{length, drop};
 ghost use Rattle.limits.specs.Ceilings.{planMost};
 ghost use Rattle.refusals.specs.Refusals.{andThen, answerOf};

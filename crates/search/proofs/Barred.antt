@@ -5,14 +5,13 @@ use mathlib.Core.List.{List}
 use mathlib.Core.Logic.{_↔_}
 use Prim.Native.Nat.{ℕ, _<_}
 use lib.ListN.{length}
-use Rattle.refusals.specs.declared.Verdict.{Verdict}
 use Rattle.refusals.specs.declared.Verdict.the-variants.{Yes}
 use Rattle.model.specs.Automaton.{Automaton, bit}
 use Rattle.model.specs.Lists.{Lists, automatonOf}
 use Rattle.model.specs.Plans.{Plan, IsPlan, Feasible, Meets}
 use Rattle.model.proofs.Plans.{serves-ignored, plan-unbarred}
 use Rattle.search.specs.declared.Searched.{Searched}
-use Rattle.search.specs.Search.{searchAnswer, searchable, Answered, none, found, Decided, Search, SearchOf}
+use Rattle.search.specs.Search.{searchAnswer, searchable, Answered, none, found, Decided, SearchOf}
 use Rattle.search.proofs.Searchable.{in-numbers}
 use Rattle.search.proofs.Demand3.{search-ten}
 
