@@ -1,5 +1,4 @@
-// Prints document 01's judged examples, C to L, and then cases with barred colours (document 02, Ask 6), a to f, one a line: letter, number (0 is
-// yes), detail. Each answer is computed by judging.
+// Prints document 01's judged examples, one a line: letter, number (0 is yes), detail. Each answer is computed by judging.
 use judge::judge;
 use libc::STDOUT_FILENO;
 use refusals::Verdict;
@@ -76,8 +75,8 @@ fn print_balanced(letter: u8, level: u32) {
     print_case(letter, verdict);
 }
 
-// G's model: n 2, k 1, arcs 0→0, +1; 0→1, −5; 1→1, 0, colour 0; c 0, b 5; run-in 0 0 0 0 0 1, round 2; with the barred colours of a byte.
-fn print_charged(letter: u8, barred: u8) {
+// G's model: n 2, k 1, arcs 0→0, +1; 0→1, −5; 1→1, 0, colour 0; c 0, b 5; run-in 0 0 0 0 0 1, round 2.
+fn print_charged(letter: u8) {
     let sources = [0u8, 0u8, 1u8];
     let targets = [0u8, 1u8, 1u8];
     let draws = [0u16, 5u16, 0u16];
@@ -97,7 +96,7 @@ fn print_charged(letter: u8, barred: u8) {
         &actions,
         0,
         5,
-        barred,
+        0,
         6,
         1,
         &plan,
@@ -105,8 +104,8 @@ fn print_charged(letter: u8, barred: u8) {
     print_case(letter, verdict);
 }
 
-// J's model: n 1, k 2, arcs 0→0, −2, colour 0 and 0→0, +2, colour 1; b 2; with the barred colours of a byte.
-fn print_coloured(letter: u8, c: u32, barred: u8, p: u32, q: u32, plan: &[u8]) {
+// J's model: n 1, k 2, arcs 0→0, −2, colour 0 and 0→0, +2, colour 1; c 0, b 2; a round without a run-in.
+fn print_coloured(letter: u8, round: &[u8], q: u32) {
     let sources = [0u8, 0u8];
     let targets = [0u8, 0u8];
     let draws = [2u16, 0u16];
@@ -123,12 +122,12 @@ fn print_coloured(letter: u8, c: u32, barred: u8, p: u32, q: u32, plan: &[u8]) {
         &gains,
         &colours,
         &actions,
-        c,
+        0,
         2,
-        barred,
-        p,
+        0,
+        0,
         q,
-        plan,
+        round,
     );
     print_case(letter, verdict);
 }
@@ -141,17 +140,8 @@ fn main() {
     print_draining(b'D', 1);
     print_balanced(b'E', 10);
     print_balanced(b'F', 2);
-    print_charged(b'I', 0);
-    print_coloured(b'J', 0, 0, 0, 2, &gain_first);
-    print_coloured(b'K', 0, 0, 0, 2, &draw_first);
-    print_coloured(b'L', 0, 0, 0, 1, &gain_alone);
-    // I's plan with colour 0 barred: 24 at the round's first arc, behind the run-in; with bits at or above k alone: yes, as I.
-    print_charged(b'a', 1);
-    print_charged(b'b', 254);
-    // Run-in 0, round 1, c 2: 17, colour 0; with colour 0 barred, which stands in the run-in alone: yes.
-    print_coloured(b'c', 2, 0, 1, 1, &draw_first);
-    print_coloured(b'd', 2, 1, 1, 1, &draw_first);
-    // L's plan with colour 0 barred, which is not required then: yes; with colour 1 barred: 24, before 17.
-    print_coloured(b'e', 0, 1, 0, 1, &gain_alone);
-    print_coloured(b'f', 0, 2, 0, 1, &gain_alone);
+    print_charged(b'I');
+    print_coloured(b'J', &gain_first, 2);
+    print_coloured(b'K', &draw_first, 2);
+    print_coloured(b'L', &gain_alone, 1);
 }

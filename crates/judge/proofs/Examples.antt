@@ -56,15 +56,19 @@ examples-hold =
 abbrev answers : Example → ℕ → ℕ → ℕ → List ℕ → Answer
 answers r x p q w = judgedAnswer (r .modes) 0 (r .colours) (r .arcs) x (r .bound) (r .credit) p q w
 
--- Document 02, Ask 6. I's plan with its colour barred: 24 at the round's position in the plan. J's model, c 2, run-in 0, round 1: colour 0 is
--- missing, and is passed over where it is barred, also with bits at or above k; it may stand in the run-in.
+-- Document 02, Ask 6. I's plan with its colour barred: 24 at the round's position in the plan; with bits at or above k alone: yes. J's model, c 2,
+-- run-in 0, round 1: colour 0 is missing, and is passed over where it is barred, also with bits at or above k; it may stand in the run-in. L's
+-- plan: with colour 0 barred yes, with colour 1 barred 24 comes before 17.
 pub barred-examples :
     (answers (ofG 5 0 Found) 1 6 1 (0 ∷ 0 ∷ 0 ∷ 0 ∷ 0 ∷ 1 ∷ 2 ∷ []) ≡ answer 24 6)
+    × (answers (ofG 5 0 Found) 254 6 1 (0 ∷ 0 ∷ 0 ∷ 0 ∷ 0 ∷ 1 ∷ 2 ∷ []) ≡ answer 0 0)
     × (answers (ofJ 2 2 Found) 0 1 1 (0 ∷ 1 ∷ []) ≡ answer 17 0)
     × (answers (ofJ 2 2 Found) 1 1 1 (0 ∷ 1 ∷ []) ≡ answer 0 0)
     × (answers (ofJ 2 2 Found) 253 1 1 (0 ∷ 1 ∷ []) ≡ answer 0 0)
+    × (answers (ofJ 2 0 Found) 1 0 1 (1 ∷ []) ≡ answer 0 0)
+    × (answers (ofJ 2 0 Found) 2 0 1 (1 ∷ []) ≡ answer 24 0)
 unfolding judged judgedLevels judgedPlan servesOf fitness header unfitLists arcsVerdict unfitArc levelsOf shape lengthOf numbers chain closing charges rounds secondRound ran stepped acceptedOf barredFrom coloursOf missingFrom
-barred-examples = (refl, refl, refl, refl)
+barred-examples = (refl, refl, refl, refl, refl, refl, refl)
 
 -- What a row that stands says, in the words of models and judging alone; this pins each case of Says.
 module _ (x : Example) (stands : Stands x) where

@@ -63,7 +63,7 @@ passOf rows places t m =
       least = m .least;
     }
 
--- the level after an arc with this colour byte, of the levels 0 to last
+-- the level after an arc that meets these duties, a bit each, of the levels 0 to last
 unfoldable pub levelAfter : ℕ → ℕ → ℕ → ℕ
 levelAfter last colours l = raisedIf (ltb l last && bit colours l) l
 

@@ -113,7 +113,7 @@ fn arrive(
     }
 }
 
-// The level after an arc with this colour byte, of the levels 0 to last.
+// The level after an arc that meets these duties, a bit each, of the levels 0 to last.
 fn next_level(colours: u16, level: usize, last: usize) -> usize
     requires { ⌜ (level ≤ last) × (last ≤ coloursMost) ⌝ }
     ensures { λ r. ⌜ r ≡ levelAfter last colours level ⌝ }
