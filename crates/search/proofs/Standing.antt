@@ -1,6 +1,6 @@
 -- The rows and groups of a value stand for the model that it holds: the net read from the rows is the net of the model. Assumes nothing.
 use mathlib.Core.Path.{_≡_, sym, ap, subst, fun-ext, _∙_}
-use mathlib.Core.Bool.{Bool, not}
+use mathlib.Core.Bool.{Bool, false, false≢true, not}
 use mathlib.Core.List.{List, [], _∷_}
 use mathlib.Core.Logic.{_↔_}
 use Prim.Native.Nat.{ℕ, _+_, _*_, _/_, _%_, _^_, _≤_, _<_}
@@ -14,13 +14,13 @@ use lib.Pow.{pow-pos}
 use Rattle.limits.specs.Ceilings.{coloursMost, workWords, workLevels, planLevels, workSpace, planBuffer}
 use Rattle.model.specs.declared.Arc.{Arc}
 use Rattle.model.specs.declared.Model.{Model}
-use Rattle.model.specs.Automaton.{noArc, arcAt, hasBarred}
+use Rattle.model.specs.Automaton.{Automaton, noArc, arcAt, hasBarred}
 use Rattle.model.specs.Required.{digit, required, compressed}
 use Rattle.model.specs.Lists.{held}
 use Rattle.model.specs.Fitness.{Holds}
 use Rattle.model.specs.Plans.{SomePlan}
-use Rattle.model.proofs.Bits.{colours-below}
-use Rattle.model.proofs.Barred.{common-mask}
+use Rattle.model.proofs.Bits.{colours-below, bit-zero}
+use Rattle.model.proofs.Barred.{common-none, common-mask}
 use Rattle.model.proofs.Required.{digit-half, digit-odd, compressed-zero, required-le}
 use Rattle.model.proofs.Held.{held-arc}
 use Rattle.nets.specs.Net.{Net, Fits, AcceptedLasso}
@@ -109,9 +109,13 @@ module _ (g : Model) (x : ℕ) (h : Holds g) where
       ∙ ap {B = Net} (λ (f : ℕ → Bool). fieldsNet source target draw gain colours f n s k m) (fun-ext row-barred)
       ∙ ap {B = Net} (λ (y : ℕ). fieldsNet source target draw gain colours barred n s k y) (holds-end g h ∙ sym (h .count))
 
--- the task of a model with d duties
-abbrev pub modelTask : Model → ℕ → ℕ → ℕ → Task
-modelTask g d b c = record { modes = g .modes; start = g .start; duties = d; credit = c; bound = b }
+-- with nothing barred no arc has a barred colour
+none-barred : (g : Automaton) (a : ℕ) → hasBarred g 0 a ≡ false
+none-barred g a = common-none 0 (arcAt g a .colours) (g .colours) .1 (λ j h e. absurd (false≢true (sym (bit-zero j) ∙ e)))
+
+-- the task of a model with d duties; some: whether a colour may be barred
+abbrev pub modelTask : Model → ℕ → Bool → ℕ → ℕ → Task
+modelTask g d some b c = record { modes = g .modes; start = g .start; duties = d; barred = some; credit = c; bound = b }
 
 -- fewer colours ask for less
 fewer : (x k n b : ℕ) → (workSpace (required x k) n b ≤ workSpace k n b) × (planBuffer (required x k) n b ≤ planBuffer k n b)
@@ -121,13 +125,13 @@ fewer x k n b =
     let plans : required x k + planLevels ≤ k + planLevels = omega (arith, le) in
     (mul-le-mul-right (b + 1) (mul-le-mul-right n works), mul-le-mul-right (b + 1) (mul-le-mul-right n plans))
 
-module _ {g : Model} (x : ℕ) {d b c words bytes : ℕ} {groups : Groups} (able : Solvable g b c words bytes) (same : groups ≡ groupsOf g x)
-    (duties : d ≡ required x (g .colours)) where
-  task-net : taskNet (groups .rows) (groups .places) (modelTask g d b c) ≡ whole (held g) x
+module _ {g : Model} (x : ℕ) {d b c words bytes : ℕ} {some : Bool} {groups : Groups} (able : Solvable g b c words bytes)
+    (same : groups ≡ groupsOf g x) (duties : d ≡ required x (g .colours)) (zero : some ≡ false → x ≡ 0) where
+  task-net : taskNet (groups .rows) (groups .places) (modelTask g d some b c) ≡ whole (held g) x
   task-net = rw (same, duties) (net-same g x (able .holds))
 
   -- what the search over rows and groups asks
-  pub solvable-searchable : Searchable (groups .rows) (groups .places) (modelTask g d b c) words × (planBuffer d (g .modes) b ≤ bytes)
+  pub solvable-searchable : Searchable (groups .rows) (groups .places) (modelTask g d some b c) words × (planBuffer d (g .modes) b ≤ bytes)
   solvable-searchable =
       let fit = able .holds .fit in
       let source : (a : ℕ) → a < g .count → arcIn g a .source ≡ sourceAt (rowsOf g x) a = λ a h. sym (given-numbers g x a h .source) in
@@ -137,6 +141,7 @@ module _ {g : Model} (x : ℕ) {d b c words bytes : ℕ} {groups : Groups} (able
           few-modes = fit .few-modes;
           few-arcs = rw same (omega (arith, fit .few-arcs, able .holds .count, holds-end g (able .holds)));
           few-duties = omega (arith, duties, fit .few-colours, required-le x (g .colours));
+          unbarred = λ e a. rw same (row-barred g x (able .holds) a ∙ rw (zero e) (none-barred (held g) a));
           fits = subst Fits (sym task-net) (whole-fits (held g) x fit);
           grouped =
               rw same
@@ -153,7 +158,7 @@ module _ {g : Model} (x : ℕ) {d b c words bytes : ℕ} {groups : Groups} (able
       )
 
   -- what it answers, in the words of the model
-  pub solved-none : {r : Searched} → ((r ≡ noPlan) ↔ (AcceptedLasso (taskNet (groups .rows) (groups .places) (modelTask g d b c)) b c → ⊥))
+  pub solved-none : {r : Searched} → ((r ≡ noPlan) ↔ (AcceptedLasso (taskNet (groups .rows) (groups .places) (modelTask g d some b c)) b c → ⊥))
       → (r ≡ noPlan) ↔ (SomePlan (held g) x b c → ⊥)
   solved-none {r} d =
       let e : (r ≡ noPlan) ↔ (AcceptedLasso (whole (held g) x) b c → ⊥) =
@@ -161,7 +166,7 @@ module _ {g : Model} (x : ℕ) {d b c words bytes : ℕ} {groups : Groups} (able
       let w = whole-lasso (held g) x b c (able .holds .fit .few-colours) in
       (λ q p. e .0 q (w .0 p), λ n. e .1 (λ l. n (w .1 l)))
 
-  pub solved-answered : {plan plan′ : List ℕ} {r : Searched} → Written (taskNet (groups .rows) (groups .places) (modelTask g d b c)) b c plan plan′ r
+  pub solved-answered : {plan plan′ : List ℕ} {r : Searched} → Written (taskNet (groups .rows) (groups .places) (modelTask g d some b c)) b c plan plan′ r
       → Answered (held g) x b c plan plan′ r
   solved-answered {plan} {plan′} {r} d =
       written-answered (held g) x (able .holds .fit .few-colours) (subst (λ (y : Net). Written y b c plan plan′ r) task-net d)

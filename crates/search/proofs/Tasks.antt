@@ -1,12 +1,13 @@
 -- Laws of a task: its passes are ready, what they leave, and the table of the code that the pass from a mode is lent. Assumes nothing.
-use mathlib.Core.Path.{_≡_, refl, sym, ap, _∙_}
-use mathlib.Core.Bool.{Bool, true, false}
+use mathlib.Core.Path.{_≡_, refl, sym, ap, subst, fun-ext, _∙_}
+use mathlib.Core.Bool.{Bool, true, false, not, _&&_}
 use mathlib.Core.List.{List}
 use Prim.Native.Nat.{ℕ, zero, suc, _+_, _*_, _≤_, _<_}
 use native.Mathlib.Nat.{one-mul, mul-le-mul, mul-le-mul-right}
 use native.Mathlib.Omega.{arith}
 use lib.ListN.{length, take, replicate, length-replicate}
 use Rattle.limits.specs.Ceilings.{modesMost, coloursMost}
+use Rattle.groups.specs.Rows.{barredAt}
 use Rattle.passes.specs.Pass.{Pass, Ready, node, room}
 use Rattle.passes.specs.Queue.{Passed}
 use Rattle.passes.specs.Outcome.{Peaked, CyclePassed}
@@ -73,13 +74,35 @@ module _ {rows places : List ℕ} {t : Task} {words : ℕ} (able : Searchable ro
       passed-peaked (taskNet rows places t) places (t .bound) (able .fits) (t .credit)
       (pass-ready (omega arith) (sym (one-mul (t .modes))) e false hb hw) p
 
+  -- where nothing is barred all arcs last, so that the pass from mode m with charge e is that over the arcs that last
+  cycle-same : (m e : ℕ) → taskPass rows places t (t .barred) (t .duties) (node (t .modes) (t .duties) m) e
+      ≡ cyclePass (taskNet rows places t) places (t .bound) m e
+  cycle-same m e =
+      ap {B = Pass}
+      (λ (ok : ℕ → Bool).
+      record {
+        net = taskNet rows places t;
+        places = places;
+        ok = ok;
+        last = t .duties;
+        bound = t .bound;
+        goal = node (t .modes) (t .duties) m;
+        least = e;
+      })
+      (fun-ext (λ a. same a (t .barred) (able .unbarred)))
+    where
+      same : (a : ℕ) (s : Bool) → (s ≡ false → (a : ℕ) → barredAt rows a ≡ false) → not (s && barredAt rows a) ≡ not (barredAt rows a)
+      same a true none = refl
+      same a false none = ap {B = Bool} not (sym (none refl a))
+
   -- what the pass from mode m with charge e leaves
   pub cycle-left : {m e : ℕ} {table best w : List ℕ} {found : Bool} {head a tail : ℕ} → m < t .modes
       → table ≡ replicate ((t .duties + 1) * t .modes) 0 → length best ≡ length table → length w ≡ words
-      → Passed (cyclePass (taskNet rows places t) places (t .bound) m e) m e best w found head a tail
+      → Passed (taskPass rows places t (t .barred) (t .duties) (node (t .modes) (t .duties) m) e) m e best w found head a tail
       → CyclePassed (taskNet rows places t) (t .bound) m e w found head a
-  cycle-left {m} {e} hm q hb hw p =
-      passed-cycle (taskNet rows places t) places (t .bound) (able .fits) m e hm (pass-ready (omega arith) refl q true hb hw) p
+  cycle-left {m} {e} {best = best} {w} {found} {head} {a} {tail} hm q hb hw p =
+      passed-cycle (taskNet rows places t) places (t .bound) (able .fits) m e hm (pass-ready (omega arith) refl q true hb hw)
+      (subst (λ (x : Pass). Passed x m e best w found head a tail) (cycle-same m e) p)
 
   -- the nodes of the pass from a mode fit the table of the code
   pub nodes-few : (t .duties + 1) * t .modes ≤ nodesMost

@@ -2,7 +2,7 @@
 -- what they answer and write. No public promise rests on these words.
 use Prim.Native.Nat.{ℕ, _+_, _*_, _/_, _%_, _≤_, _<_}
 use mathlib.Core.Path.{_≡_}
-use mathlib.Core.Bool.{Bool, true, not, _&&_}
+use mathlib.Core.Bool.{Bool, true, false, not, _&&_}
 use mathlib.Core.List.{List}
 use lib.Dec.{ltb}
 use lib.ListN.{length, take, drop}
@@ -108,6 +108,7 @@ pub record Searchable (rows places : List ℕ) (t : Task) (words : ℕ) : Type 0
   pub few-modes : t .modes ≤ modesMost
   pub few-arcs : firstPlace places (t .modes) ≤ arcsMost
   pub few-duties : t .duties ≤ coloursMost
+  pub unbarred : t .barred ≡ false → (a : ℕ) → barredAt rows a ≡ false
   pub fits : Fits (taskNet rows places t)
   pub grouped : Grouped (λ a. sourceAt rows a) (t .modes) (firstPlace places (t .modes)) places
   pub credit : t .credit ≤ t .bound

@@ -178,6 +178,7 @@ fn decide_model(
         modes,
         start,
         duties,
+        barred: barred != 0,
         credit: c,
         bound: b,
     };

@@ -26,12 +26,13 @@ const MODES: usize = Limits::MODES as usize;
 
 const NODES: usize = ((Limits::COLOURS as usize) + 1) * MODES;
 
-// What a search is for: the model's modes, its start mode and the number of its required colours, which are the duties, the credit and the
-// bound. The model's arcs are in the rows, and grouped in the places.
+// What a search is for: the model's modes, its start mode and the number of its required colours, which are the duties; whether an arc may have
+// a barred colour; the credit and the bound. The model's arcs are in the rows, and grouped in the places.
 pub struct Task {
     pub modes: usize,
     pub start: usize,
     pub duties: usize,
+    pub barred: bool,
     pub credit: u16,
     pub bound: u16,
 }
@@ -70,7 +71,7 @@ fn find_peaks(
 }
 
 // The pass from a mode with a charge, over the arcs that last and a level for each duty and one more: an arc that comes back to the mode in the
-// last level with that charge or more closes the cycle.
+// last level with that charge or more closes the cycle. Where nothing is barred every arc lasts, and none is looked at for it.
 fn find_cycle(
     rows: &[u16; WORDS],
     places: &[u8; PLACES],
@@ -86,7 +87,7 @@ fn find_cycle(
     let nodes = (task.duties + 1) * task.modes;
     let goal = task.duties * task.modes + mode;
     let aim = Aim {
-        lasting: true,
+        lasting: task.barred,
         last: task.duties,
         goal,
         least: charge,

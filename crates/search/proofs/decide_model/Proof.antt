@@ -1,4 +1,5 @@
 -- `search::decide_model` meets its contract: the rows and groups stand for the model. Assumes nothing.
+use Rattle.refusals.proofs.Tests.{differ-no}
 use Rattle.search.proofs.Standing.{solvable-searchable, solved-none, solved-answered}
 use borrow.Author.Needs.{needs}
 use Rattle.search.proofs.decide_model.Statement.{statement}
@@ -36,7 +37,7 @@ decide-requires : tie.Need-decide-requires
 decide-requires c κs =
     let k = duties-of c in
     let d = groups-of k in
-    solvable-searchable (start d .args .barred) (start d .pre) (d .group .ensures) (k .count-required .ensures)
+    solvable-searchable (start d .args .barred) (start d .pre) (d .group .ensures) (k .count-required .ensures) (differ-no (start d .args .barred) 0 .0)
 
 same-length : tie.Need-same-length
 same-length c = search needs
@@ -51,8 +52,8 @@ returns c =
     let d = groups-of k in
     let x = start d .args .barred in
     let able = start d .pre in (
-      solved-none x able (d .group .ensures) (k .count-required .ensures) (y .decide .ensures .0),
-      solved-answered x able (d .group .ensures) (k .count-required .ensures) (y .decide .ensures .1),
+      solved-none x able (d .group .ensures) (k .count-required .ensures) (differ-no x 0 .0) (y .decide .ensures .0),
+      solved-answered x able (d .group .ensures) (k .count-required .ensures) (differ-no x 0 .0) (y .decide .ensures .1),
     )
 
 pub decide-model-spec : {M : Type 1} → statement M

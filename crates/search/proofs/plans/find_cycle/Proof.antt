@@ -1,6 +1,5 @@
 -- `plans::find_cycle` meets its contract. Assumes nothing.
 use mathlib.Core.Path.{refl}
-use mathlib.Core.Bool.{true}
 use native.Mathlib.Omega.{arith}
 use lib.ListN.{length-take}
 use borrow.Author.Needs.{needs}
@@ -38,7 +37,7 @@ slice-aggregate-run c =
 run-requires : tie.Need-run-requires
 run-requires c κs =
     let s = lent (c .before) in
-    pass-asked (s .pre .0) (omega arith) refl (table-blank (s .pre .0)) true (s .pre .1 .0) (s .pre .1 .1)
+    pass-asked (s .pre .0) (omega arith) refl (table-blank (s .pre .0)) (s .args .task .barred) (s .pre .1 .0) (s .pre .1 .1)
 
 same-length : tie.Need-same-length
 same-length c = search needs
