@@ -2,7 +2,7 @@
 -- 16 where both rounds end lower; 24 with the position in the plan. And that earlier rows come first: 13 after 12, 24 after 15 and 16, and 17
 -- after 24. Assumes nothing.
 use mathlib.Core.Path.{_≡_, refl, _∙_}
-use mathlib.Core.Bool.{Bool, not, _&&_}
+use mathlib.Core.Bool.{Bool, true, not, _&&_, _||_}
 use mathlib.Core.List.{List, [], _∷_, _++_}
 use mathlib.Core.Logic.{_↔_}
 use Prim.Native.Nat.{ℕ, zero, suc, _+_, _<_}
@@ -11,7 +11,7 @@ use native.Mathlib.Omega.{arith}
 use native.Mathlib.Decide.{decLe}
 use borrow.Author.Tests.{lt-ltb, le-ltb}
 use lib.Dec.{leb, ltb}
-use lib.ListN.{length, getD, take}
+use lib.ListN.{length, getD, take, drop}
 use lib.Seq.{split-at, length-take-le}
 use Rattle.walks.specs.declared.Step.{Step}
 use Rattle.walks.specs.declared.Step.the-variants.{To, Impossible}
@@ -24,15 +24,18 @@ use Rattle.refusals.specs.declared.Verdict.the-variants.{Yes, Refused}
 use Rattle.refusals.specs.Refusals.{refuse}
 use Rattle.refusals.proofs.Verdicts.{clash, refuse-not, and-then-first, and-then-second}
 use Rattle.refusals.proofs.Scan.{FirstOf}
-use Rattle.model.specs.Automaton.{Automaton, arcAt, moveOf, hasBarred}
-use Rattle.model.specs.Plans.{Plan, walkedArcs}
+use Rattle.model.specs.Automaton.{Automaton, arcAt, bit, meets, moveOf, hasBarred}
+use Rattle.model.specs.Lists.{Lists, automatonOf}
+use Rattle.model.specs.Fitness.{fitness, levelsOf}
+use Rattle.model.specs.Plans.{Plan, Meets, walkedArcs}
 use Rattle.judge.specs.declared.Ran.{Ran}
 use Rattle.judge.specs.declared.Ran.the-variants.{Through, Stops}
-use Rattle.judge.specs.Shape.{numbers, chain, numbersThenChain}
+use Rattle.judge.specs.Shape.{planOf, shape, numbers, chain, numbersThenChain}
 use Rattle.judge.specs.Charges.{ranOn, ran, afterRan, secondRound, rounds, charges}
-use Rattle.judge.specs.Colours.{missingFrom, barredFrom, coloursOf, acceptedOf}
-use Rattle.judge.specs.Judged.{servesOf}
-use Rattle.judge.proofs.Firsts.{barred-first}
+use Rattle.judge.specs.Colours.{someArc, missingFrom, barredFrom, coloursOf, acceptedOf}
+use Rattle.judge.specs.Judged.{servesOf, judgedPlan, judgedLevels, judged}
+use Rattle.judge.proofs.Firsts.{colour-first, barred-first}
+use Rattle.judge.proofs.Colours.{barred-yes}
 use Rattle.judge.proofs.Runs.{after-ran, ran-walked}
 
 -- what follows a list that is walked through, as a walk
@@ -211,6 +214,29 @@ unfolding acceptedOf coloursOf
 accepted-barred g x p e =
     let row = barred-first g x (p .cycle) (length (p .prefix)) e in
     (λ q. row .0 (and-then-first _ _ (BarredColour e) (missing-not _ (g .colours) 0 e) q), λ h. accepted-order g x p (BarredColour e) (row .1 h))
+
+-- Of the call, with its byte x, where none of 1 to 6 and 11 to 16 applies: 24 and then 17 answer, as the request has them; this pins the byte that
+-- is judged with.
+module _ (n s k : ℕ) (l : Lists) (x b c p q : ℕ) (w : List ℕ) (fit : fitness n s k l ≡ Yes) (levels : levelsOf b c ≡ Yes)
+    (shaped : shape (automatonOf n s k l) p q w ≡ Yes) (charged : charges (automatonOf n s k l) b c (planOf p w) ≡ Yes) where
+  abbrev model : Automaton
+  model = automatonOf n s k l
+
+  judged-rest : judged n s k l x b c p q w ≡ acceptedOf model x (planOf p w)
+  unfolding judged judgedLevels judgedPlan servesOf
+  judged-rest = rw (fit, levels, shaped, charged) refl
+
+  -- 24, "with the plan position of the round's first arc that has one"
+  pub judged-barred : (e : ℕ) → (judged n s k l x b c p q w ≡ Refused (BarredColour e))
+      ↔ ((d : ℕ) × (e ≡ length (take p w) + d) × FirstOf (λ j. hasBarred model x (getD (drop p w) j 0)) (length (drop p w)) d)
+  judged-barred e = rw judged-rest (accepted-barred model x (planOf p w) e)
+
+  -- 17, after 24: the lowest-numbered colour that is not barred and is missing from the round
+  pub judged-missing : ((j : ℕ) → j < k → bit x j ≡ true → Meets model j (drop p w) → ⊥) → (d : ℕ)
+      → (judged n s k l x b c p q w ≡ Refused (MissingColour d)) ↔ FirstOf (λ j. not (bit x j || someArc (meets model j) (drop p w))) k d
+  unfolding acceptedOf
+  judged-missing clean d =
+      rw (judged-rest, barred-yes model x (drop p w) (length (take p w)) .1 clean) (colour-first model x (drop p w) d)
 
 -- 12 does not answer 13
 numbers-not : (m : ℕ) (w : List ℕ) (i d : ℕ) → numbers m w i ≡ Refused (OtherMode d) → ⊥

@@ -7,8 +7,9 @@ use native.Mathlib.Omega.{arith}
 use native.Mathlib.Decide.{ℕ-discrete, decLt}
 use lib.Dec.{eqb}
 use borrow.Author.Tests.{eq-eqb, ne-eqb}
+use Rattle.limits.specs.Ceilings.{coloursMost}
 use Rattle.model.specs.Automaton.{bit}
-use Rattle.model.specs.Required.{digit, required, pushed, compressedOn}
+use Rattle.model.specs.Required.{digit, required, pushed, compressedOn, compressed}
 use Rattle.model.proofs.Bits.{bit-zero, half-bit}
 
 -- the lowest bit of a word, and the others
@@ -63,6 +64,14 @@ module _ (x y : ℕ) where
           → bit (compressedOn x y n (pushed (bit x n) (bit y n) w)) (required x j) ≡ bit y j
       go (yes e) less = rw e (here (rw e at q))
       go (no e) less = less (omega arith) q
+
+-- a compressed byte has every required colour of the byte y at its place, and no other bit; this pins `compressed`
+module _ (x y : ℕ) where
+  pub compressed-colour : (j : ℕ) → j < coloursMost → bit x j ≡ false → bit (compressed x y) (required x j) ≡ bit y j
+  compressed-colour j h q = compressed-bit x y coloursMost 0 j h q
+
+  pub compressed-end : (i : ℕ) → bit (compressed x y) (required x coloursMost + i) ≡ false
+  compressed-end i = compressed-above x y coloursMost 0 i ∙ bit-zero i
 
 module _ (x : ℕ) where
   -- one of them at most for each colour

@@ -14,13 +14,15 @@ use Rattle.refusals.proofs.Verdicts.{clash}
 use Rattle.refusals.proofs.Numbers.{refusal-number}
 use Rattle.model.specs.Automaton.{Automaton}
 use Rattle.model.specs.Lists.{Lists, automatonOf}
-use Rattle.model.specs.Plans.{SomePlan}
-use Rattle.judge.specs.Shape.{Lengths}
+use Rattle.model.specs.Plans.{Plan, IsPlan, Feasible, Accepted, SomePlan}
+use Rattle.model.proofs.Plans.{no-plan-exists}
+use Rattle.judge.specs.Shape.{planOf, Lengths}
 use Rattle.judge.specs.Judged.{judged}
 use Rattle.judge.proofs.Judged.{judged-yes}
 use Rattle.search.specs.declared.Searched.{Searched}
 use Rattle.search.specs.declared.Searched.the-variants as outcome
-use Rattle.search.specs.Search.{noPlan, searchAnswer, searchable, Found, Answered, none, found, Search, SearchOf}
+use Rattle.search.specs.declared.SearchAnswer.{SearchAnswer}
+use Rattle.search.specs.Search.{noPlan, searchAnswer, searchable, Found, Answered, none, found, Decided, SearchByNumber, Search, SearchOf}
 use Rattle.search.proofs.Written.{answered-plan}
 use Rattle.search.proofs.Searchable.{searchable-yes}
 
@@ -115,3 +117,22 @@ module _ (n s k : ℕ) (l : Lists) (x b c : ℕ) {work plan work′ plan′ : Li
     pub search-complete : SomePlan (automatonOf n s k l) x b c
         → (p : ℕ) × (q : ℕ) × (r ≡ outcome.Plan p q) × Found (automatonOf n s k l) x b c p q plan plan′
     search-complete some = answered-plan (h .decided through .answered) (λ e. search-none .0 e some)
+
+-- What Decided says by itself, and what the numbers say by themselves, where none of 1 to 9 applies; this pins both.
+module _ {g : Automaton} {x b c : ℕ} {plan plan′ : List ℕ} where
+  -- the answer "is 10 exactly when no plan of any length is feasible and accepted", with x barred
+  pub decided-none : {work work′ : List ℕ} {r : Searched} → Decided g x b c work plan work′ plan′ r
+      → (r ≡ noPlan) ↔ ((p : Plan) → IsPlan g p → Feasible g b c p → Accepted g x p → ⊥)
+  decided-none d =
+      let none = no-plan-exists g x b c in
+      (λ e. none .0 (d .no-plan .0 e), λ no. d .no-plan .1 (none .1 no))
+
+  module _ {a : SearchAnswer} (h : SearchByNumber Yes g x b c plan plan′ a) where
+    pub number-ten : (a .answer .number ≡ 10) ↔ ((p : Plan) → IsPlan g p → Feasible g b c p → Accepted g x p → ⊥)
+    number-ten =
+        let none = no-plan-exists g x b c in
+        (λ e. none .0 (h .ten refl .0 e), λ no. h .ten refl .1 (none .1 no))
+
+    -- otherwise the bytes of the plan buffer "are with this p and q a feasible and accepted plan"
+    pub number-plan : (a .answer .number ≡ 10 → ⊥) → let p = planOf (a .p) (take (a .p + a .q) plan′) in IsPlan g p × Feasible g b c p × Accepted g x p
+    number-plan other = let s = h .otherwise refl other .1 .serves in (s .plan, s .feasible, s .accepted)

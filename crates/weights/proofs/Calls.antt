@@ -162,3 +162,21 @@ same-answers l =
 -- "models without both parts must get the same verdicts as before"
 pub one-part-same : (l : Lists) → OnePart l → (w : WeightLists) × (listsOf w ≡ l) × by.SameAnswers l w
 one-part-same l h = let (w, e) = one-part l .0 h in (w, e, subst (λ (x : Lists). by.SameAnswers x w) e (same-answers w))
+
+-- What "the same verdicts" are, call by call, with every byte of barred colours and whatever else is given; this pins each field of SameAnswers.
+module _ {l : Lists} {w : WeightLists} (same : by.SameAnswers l w) (n s k : ℕ) where
+  pub judges-same : (x b c p q : ℕ) (v : List ℕ) → judged n s k l x b c p q v ≡ by.judgedByWeight n s k w x b c p q v
+  judges-same = same .judging n s k
+
+  pub starts-same : (b c : ℕ) → startedOf n s k l b c ≡ by.startedByWeight n s k w b c
+  starts-same = same .starting n s k
+
+  pub steps-same : (b a : ℕ) (y : Gauge) → steppedOf n s k l b a y ≡ by.steppedByWeight n s k w b a y
+  steps-same = same .stepping n s k
+
+  pub walks-same : (x b c p q : ℕ) (v : List ℕ) (j t : ℕ) → walkOf n s k l x b c p q v j t ≡ by.walkByWeight n s k w x b c p q v j t
+  walks-same = same .walking n s k
+
+  pub searches-same : (x b c : ℕ) (work plan work′ plan′ : List ℕ) (r : Searched)
+      → search.SearchOf n s k l x b c work plan work′ plan′ r ↔ by.SearchByWeight n s k w x b c work plan work′ plan′ r
+  searches-same = same .searching n s k
