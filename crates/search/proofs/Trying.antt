@@ -2,16 +2,20 @@
 use mathlib.Core.Path.{_≡_, refl, sym, ap, _∙_}
 use mathlib.Core.Bool.{Bool, true, false, false≢true, not, _&&_}
 use mathlib.Core.List.{List}
-use Prim.Native.Nat.{ℕ, _+_, _%_, _≤_, _<_}
+use Prim.Native.Nat.{ℕ, _+_, _/_, _%_, _≤_, _<_}
 use native.Mathlib.Nat.{mod-lt}
+use native.Mathlib.Numerals.{add-one}
 use native.Mathlib.Omega.{arith}
+use lib.Dec.{ltb}
 use lib.ListN.{length}
 use Rattle.walks.specs.declared.Step.the-variants.{To, Impossible}
 use Rattle.walks.specs.BoundedStep.{stepped}
 use Rattle.walks.proofs.Walks.{stepped-to, stepped-off}
 use Rattle.limits.specs.Ceilings.{modesMost, arcsMost, coloursMost}
 use Rattle.model.specs.Automaton.{bit}
-use Rattle.groups.specs.Rows.{sourceAt, targetAt, drawAt, gainAt, coloursAt, barredAt}
+use Rattle.model.proofs.Bits.{half-bit}
+use Rattle.nets.specs.Table.{raisedIf}
+use Rattle.groups.specs.Rows.{sourceAt, targetAt, drawAt, gainAt, colourWordAt, barredAt}
 use Rattle.groups.specs.Grouped.{firstPlace, arcPlaced}
 use Rattle.passes.specs.Pass.{Pass, Along, node}
 use Rattle.passes.specs.Queue.{nodeAt, chargeAt, Arrives, Arrived, Grown, Tried}
@@ -25,9 +29,15 @@ use Rattle.passes.proofs.Queue.{raised-low, along-inside, entry-low, node-level
 use Rattle.passes.proofs.Passes.{entry-same, arrived-tried, tried-impossible, tried-more}
 
 -- no arc leads above the last level
-pub level-after-low : (last colours l : ℕ) → l ≤ last → levelAfter last colours l ≤ last
+pub level-after-low : (last word l : ℕ) → l ≤ last → levelAfter last word l ≤ last
 unfolding levelAfter
-level-after-low last colours l low = raised-low last l (bit colours l) low
+level-after-low last word l low = raised-low last l (bit word (l + 1)) low
+
+-- by the duties alone: the word without its lowest bit
+level-after-duties : (last word l : ℕ) → levelAfter last word l ≡ raisedIf (ltb l last && bit (word / 2) l) l
+unfolding levelAfter
+level-after-duties last word l =
+    ap {B = ℕ} (λ (t : Bool). raisedIf (ltb l last && t) l) (ap {B = Bool} (bit word) (add-one l) ∙ sym (half-bit word l))
 
 module _ {rows places : List ℕ} {t : Task} {m : Aim} {h : Entry} {i : ℕ} {best w : List ℕ} {tail : ℕ}
     (f : Trying rows places t m h i best w tail) where
@@ -107,11 +117,10 @@ module _ {rows places : List ℕ} {t : Task} {m : Aim} {h : Entry} {i : ℕ} {be
       }
 
   -- the step that the arc takes
-  pub relax-along : {u x l k y : ℕ} → (m .lasting && barredAt rows a) ≡ false → stepped (t .bound) (record { draw = d; gain = g }) (h .charge) ≡ To x l → k ≡ coloursAt rows a
+  pub relax-along : {u x l k y : ℕ} → (m .lasting && barredAt rows a) ≡ false → stepped (t .bound) (record { draw = d; gain = g }) (h .charge) ≡ To x l → k ≡ colourWordAt rows a
       → y ≡ targetAt rows a → u ≡ node (t .modes) (levelAfter (m .last) k (h .level)) y
       → Along (passOf rows places t m) (arcPlaced places i) (nodeAt w (h .index)) (chargeAt w (h .index)) u x
-  unfolding levelAfter
-  relax-along {u} {x} {l} used e ek ey eu =
+  relax-along {u} {x} {l} {k} used e ek ey eu =
       let (low, left, cut) = stepped-to (t .bound) (record { draw = d; gain = g }) (h .charge) x l .0 e in
       record {
         known = arc-known f;
@@ -119,7 +128,7 @@ module _ {rows places : List ℕ} {t : Task} {m : Aim} {h : Entry} {i : ℕ} {be
         leaves = arc-leaves f;
         possible = omega (arith, charge-same f, r .draw, ap {B = ℕ} (drawAt rows) (r .arc));
         left = sym left ∙ rw (r .draw, r .gain, r .arc, charge-same f) refl;
-        enters = eu ∙ rw (ek, ey, r .arc, level-same f) refl;
+        enters = eu ∙ rw (level-after-duties (m .last) k (h .level), ek, ey, r .arc, level-same f) refl;
       }
 
 -- where the arc takes a step

@@ -63,9 +63,9 @@ passOf rows places t m =
       least = m .least;
     }
 
--- the level after an arc that meets these duties, a bit each, of the levels 0 to last
+-- the level after an arc with this word of its colours, of the levels 0 to last: the duty of level l is at bit l + 1
 unfoldable pub levelAfter : ℕ → ℕ → ℕ → ℕ
-levelAfter last colours l = raisedIf (ltb l last && bit colours l) l
+levelAfter last word l = raisedIf (ltb l last && bit word (l + 1)) l
 
 -- entry i of the queue in w, of n modes
 abbrev pub entryAt : ℕ → List ℕ → ℕ → Entry

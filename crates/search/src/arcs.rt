@@ -5,7 +5,7 @@ ghost use Prim.Native.Nat.{_<_};
 ghost use Rattle.limits.specs.Ceilings.{arcsMost};
 ghost use Rattle.groups.specs.Groups.{orderFrom};
 ghost use Rattle.groups.specs.Grouped.{firstPlace, arcPlaced};
-ghost use Rattle.groups.specs.Rows.{targetAt, drawAt, gainAt, coloursAt, barredAt};
+ghost use Rattle.groups.specs.Rows.{targetAt, drawAt, gainAt, colourWordAt, barredAt};
 use crate::entries::index;
 use groups::ORDER;
 use groups::PLACES;
@@ -59,12 +59,12 @@ pub fn gain_of(rows: &[u16; WORDS], a: usize) -> u16
     rows[ROW * a + 3]
 }
 
-// The required colours of an arc, close together.
-pub fn colours_of(rows: &[u16; WORDS], a: usize) -> u16
+// The word of an arc's colours: the duties that it meets from bit 1 on, and in bit 0 whether it has a barred colour.
+pub fn colour_word_of(rows: &[u16; WORDS], a: usize) -> u16
     requires { ⌜ a < arcsMost ⌝ }
-    ensures { λ r. ⌜ r ≡ coloursAt (now (rows .entry)) a ⌝ }
+    ensures { λ r. ⌜ r ≡ colourWordAt (now (rows .entry)) a ⌝ }
 {
-    rows[ROW * a + 4] / 2
+    rows[ROW * a + 4]
 }
 
 // Whether an arc has a barred colour.

@@ -10,7 +10,7 @@ ghost use Rattle.passes.specs.Pass.{node, closesAt, Ready};
 ghost use Rattle.passes.specs.Queue.{wordCount, nodeAt, chargeAt, Pushed, Arrives, Arrived, Running, Passed};
 ghost use Rattle.search.specs.Tasks.{levelAfter, passOf, entryAt, Trying, Relaxed, VisitedAt};
 use crate::arcs::arc_placed;
-use crate::arcs::colours_of;
+use crate::arcs::colour_word_of;
 use crate::arcs::draw_of;
 use crate::arcs::first_place;
 use crate::arcs::gain_of;
@@ -113,26 +113,26 @@ fn arrive(
     }
 }
 
-// The level after an arc that meets these duties, a bit each, of the levels 0 to last.
-fn next_level(colours: u16, level: usize, last: usize) -> usize
+// The level after an arc with this word of its colours, of the levels 0 to last: the duty of level l is at bit l + 1.
+fn next_level(word: u16, level: usize, last: usize) -> usize
     requires { ⌜ (level ≤ last) × (last ≤ coloursMost) ⌝ }
-    ensures { λ r. ⌜ r ≡ levelAfter last colours level ⌝ }
+    ensures { λ r. ⌜ r ≡ levelAfter last word level ⌝ }
 {
     if level >= last {
         return level;
     }
-    if ((colours as u32) >> (level as u32)) % 2 == 1 {
+    if ((word as u32) >> (level as u32 + 1)) % 2 == 1 {
         return level + 1;
     }
     level
 }
 
 // The node that an arc enters from a level, of the levels 0 to last.
-fn entered(modes: usize, last: usize, level: usize, target: usize, colours: u16) -> usize
+fn entered(modes: usize, last: usize, level: usize, target: usize, word: u16) -> usize
     requires { ⌜ (level ≤ last) × (last ≤ coloursMost) × (modes ≤ modesMost) × (target < modes) ⌝ }
-    ensures { λ r. ⌜ r ≡ node modes (levelAfter last colours level) target ⌝ }
+    ensures { λ r. ⌜ r ≡ node modes (levelAfter last word level) target ⌝ }
 {
-    let level = next_level(colours, level, last);
+    let level = next_level(word, level, last);
     level * modes + target
 }
 
@@ -184,7 +184,7 @@ fn relax(
                 aim.last,
                 entry.level,
                 target_of(rows, arc),
-                colours_of(rows, arc),
+                colour_word_of(rows, arc),
             );
             arrive(aim, node, charge, entry.index, arc, best, work, tail)
         }

@@ -25,13 +25,13 @@ mul-result : tie.Need-mul-result
 mul-result c =
     let a = c .before .args in
     let h = c .before .pre in
-    omega (arith, after-small (a .modes) (a .last) (a .colours) (a .level) (h .0) (h .1) (h .2) _ (c .next-level .ensures))
+    omega (arith, after-small (a .modes) (a .last) (a .word) (a .level) (h .0) (h .1) (h .2) _ (c .next-level .ensures))
 
 add-result : tie.Need-add-result
 add-result c =
     let a = c .before .args in
     let h = c .before .pre in
-    omega (arith, after-small (a .modes) (a .last) (a .colours) (a .level) (h .0) (h .1) (h .2) _ (c .next-level .ensures))
+    omega (arith, after-small (a .modes) (a .last) (a .word) (a .level) (h .0) (h .1) (h .2) _ (c .next-level .ensures))
 
 returns : tie.Need-returns
 unfolding node

@@ -1,4 +1,4 @@
--- `pass::next_level` meets its contract: the last level stays, and below it the bit of the colour byte decides. Assumes nothing.
+-- `pass::next_level` meets its contract: the last level stays, and below it the bit of its duty decides. Assumes nothing.
 use native.Mathlib.Omega.{arith}
 use borrow.Author.Tests.{lt-ltb, le-ltb, eq-eqb, ne-eqb}
 use Rattle.search.specs.Tasks.{levelAfter}
@@ -12,6 +12,9 @@ returns c = simp (le-ltb _ _ (c .if1 .taken))
 
 cast-if2 : tie.Need-cast-if2
 cast-if2 c = search needs
+
+add-if2 : tie.Need-add-if2
+add-if2 c = search needs
 
 shr-if2 : tie.Need-shr-if2
 shr-if2 c = search needs
@@ -28,4 +31,4 @@ unfolding levelAfter
 returns-3 c = simp (lt-ltb _ _ (c .before .if1 .left), ne-eqb _ _ (c .if2 .left))
 
 pub next-level-spec : {M : Type 1} → statement M
-next-level-spec = tie.close (tie.spec returns cast-if2 shr-if2 add-result returns-2 returns-3)
+next-level-spec = tie.close (tie.spec returns cast-if2 add-if2 shr-if2 add-result returns-2 returns-3)

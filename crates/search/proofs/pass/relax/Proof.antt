@@ -39,10 +39,10 @@ along : (d : tie.After-entered)
     (d .entered .result) (d .before .before .before .before .step .given .0 .0)
 along d =
     let b = step-of d in
-    let colours = d .before .colours-of .ensures in
+    let word = d .before .colour-word-of .ensures in
     let target = d .before .before .target-of .ensures in
     relax-along (start (arc-of b) .pre) (reads b) (used b) (sym (b .bounded-step .ensures) ∙ d .before .before .before .before .step .given .1)
-    colours target (d .entered .ensures)
+    word target (d .entered .ensures)
 
 arc-placed-requires : tie.Need-arc-placed-requires
 arc-placed-requires c κs = relax-place (c .before .before .pre)
@@ -65,8 +65,8 @@ enum-known-step c = search needs
 target-of-requires : tie.Need-target-of-requires
 target-of-requires c κs = let b = arc-of (c .before .before .before) in relax-arc (start b .pre) (b .arc-placed .ensures)
 
-colours-of-requires : tie.Need-colours-of-requires
-colours-of-requires c κs = let b = arc-of (c .before .before .before .before) in relax-arc (start b .pre) (b .arc-placed .ensures)
+colour-word-of-requires : tie.Need-colour-word-of-requires
+colour-word-of-requires c κs = let b = arc-of (c .before .before .before .before) in relax-arc (start b .pre) (b .arc-placed .ensures)
 
 entered-requires : tie.Need-entered-requires
 entered-requires c κs =
@@ -119,7 +119,7 @@ relax-spec =
     bounded-step-requires
     enum-known-step
     target-of-requires
-    colours-of-requires
+    colour-word-of-requires
     entered-requires
     arrive-requires
     enum-told
