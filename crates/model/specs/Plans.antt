@@ -43,11 +43,12 @@ SomeArc test (a ∷ w) = (test a ≡ true) ⊎ SomeArc test w
 abbrev pub Meets : Automaton → ℕ → List ℕ → Type 0
 Meets g j w = SomeArc (meets g j) w
 
--- "Accepted: each of the k colours stands on some arc of the round. With k = 0 every plan is accepted." Document 02, Ask 6: x is the byte of
--- barred colours; these "are no longer required in the round" and "may appear in the run-in and never in the round"; "its bits at or above k
--- are ignored".
+-- "Accepted: each of the k colours stands on some arc of the round. With k = 0 every plan is accepted." Document 02, Ask 6: "A plan is accepted
+-- exactly when both rules hold"; x is the byte of barred colours, and "its bits at or above k are ignored".
 pub record Accepted (g : Automaton) (x : ℕ) (p : Plan) : Type 0 where
+  -- the other colours; "Barred colours are no longer required in the round"
   pub required : (j : ℕ) → j < g .colours → bit x j ≡ false → Meets g j (p .cycle)
+  -- "some colours may appear in the run-in and never in the round"
   pub barred : (j : ℕ) → j < g .colours → bit x j ≡ true → Meets g j (p .cycle) → ⊥
 
 -- a plan of the model that is feasible and accepted, with the barred colours x, under the bound b from credit c; in all definitions the bound

@@ -3,17 +3,18 @@
 use mathlib.Core.Path.{_≡_, sym}
 use mathlib.Core.List.{List}
 use mathlib.Core.Logic.{_↔_}
-use Prim.Native.Nat.{ℕ, _<_}
-use lib.ListN.{length}
+use Prim.Native.Nat.{ℕ, _+_, _<_}
+use lib.ListN.{length, take}
 use Rattle.refusals.specs.declared.Verdict.the-variants.{Yes}
 use Rattle.model.specs.Automaton.{Automaton, bit}
 use Rattle.model.specs.Lists.{Lists, automatonOf}
 use Rattle.model.specs.Plans.{Plan, IsPlan, Feasible, Meets}
-use Rattle.model.proofs.Plans.{serves-ignored, plan-unbarred}
+use Rattle.model.proofs.Bits.{bit-zero}
+use Rattle.model.proofs.Plans.{accepted-all, serves-ignored, plan-unbarred}
+use Rattle.judge.specs.Shape.{planOf}
 use Rattle.search.specs.declared.Searched.{Searched}
 use Rattle.search.specs.Search.{searchAnswer, searchable, Answered, none, found, Decided, SearchOf}
 use Rattle.search.proofs.Searchable.{in-numbers}
-use Rattle.search.proofs.Demand3.{search-ten}
 
 module _ (g : Automaton) (x y b c : ℕ) (same : (j : ℕ) → j < g .colours → bit x j ≡ bit y j) where
   back : (j : ℕ) → j < g .colours → bit y j ≡ bit x j
@@ -53,13 +54,24 @@ search-ignored n s k l x y b c same h =
       by-number = in-numbers (λ z e. h .refused z e .0) (λ e. decided-ignored (automatonOf n s k l) x y b c same (h .decided e));
     }
 
--- with nothing barred the answer is 10 exactly where no plan is feasible and has each of the k colours on some arc of its round
+-- with nothing barred search answers by document 01's words alone: 10 exactly where no plan is feasible and has each of the k colours on some arc
+-- of its round, and otherwise such a plan
 pub search-unbarred : (n s k : ℕ) (l : Lists) (b c : ℕ) {work plan work′ plan′ : List ℕ} {r : Searched}
     → SearchOf n s k l 0 b c work plan work′ plan′ r → searchable n s k l b c (length work) (length plan) ≡ Yes
     → let g = automatonOf n s k l in
-    (searchAnswer r .answer .number ≡ 10)
-    ↔ (((p : Plan) × IsPlan g p × Feasible g b c p × ((j : ℕ) → j < k → Meets g j (p .cycle))) → ⊥)
+    let Plain : Plan → Type 0 = λ p. IsPlan g p × Feasible g b c p × ((j : ℕ) → j < k → Meets g j (p .cycle)) in
+    let a = searchAnswer r in
+    ((a .answer .number ≡ 10) ↔ (((p : Plan) × Plain p) → ⊥))
+    × ((a .answer .number ≡ 10 → ⊥) → Plain (planOf (a .p) (take (a .p + a .q) plan′)))
 search-unbarred n s k l b c h through =
-    let ten = search-ten n s k l 0 b c h through in
-    let old = plan-unbarred (automatonOf n s k l) b c in
-    (λ e p. ten .0 e (old .1 p), λ no. ten .1 (λ p. no (old .0 p)))
+    let g = automatonOf n s k l in
+    let ten = h .by-number .ten through in
+    let old = plan-unbarred g b c in (
+      (
+        λ e (p, (plan, feasible, met)). ten .0 e (old .1 (p, plan, feasible, met)),
+        λ no. ten .1 (λ some. let (p, plan, feasible, met) = old .0 some in no (p, (plan, feasible, met))),
+      ),
+      λ other.
+          let serves = h .by-number .otherwise through other .1 .serves in
+          (serves .plan, serves .feasible, accepted-all g 0 _ (λ j q. bit-zero j) .0 (serves .accepted)),
+    )
