@@ -17,11 +17,17 @@ static void searched_barred(const char *what, struct model m, uint32_t barred, u
 }
 
 /* As example G: a loop charges, with colour 1, and with 5 an arc leads to a mode with a loop that meets colour 0. */
-static void test_charged_before(void)
+static struct model model_charged_before(struct lists *lists)
 {
     static const struct arc arcs[] = {{0, 0, 0, 1, 2, 0}, {0, 1, 5, 0, 0, 0}, {1, 1, 0, 0, 1, 0}};
+
+    return of_arcs(lists, 2, 2, arcs, 3);
+}
+
+static void test_charged_before(void)
+{
     struct lists lists;
-    struct model m = of_arcs(&lists, 2, 2, arcs, 3);
+    struct model m = model_charged_before(&lists);
 
     searched_barred("no cycle meets both colours", m, 0, 0, 5, 0);
     searched_barred("charged by barred arcs in the prefix", m, 2, 0, 5, 1);
@@ -92,10 +98,9 @@ static void test_peak_not_kept(void)
 static void test_found_plan(void)
 {
     enum { B = 5, BYTES = 4 * 2 * (B + 1) };
-    static const struct arc arcs[] = {{0, 0, 0, 1, 2, 0}, {0, 1, B, 0, 0, 0}, {1, 1, 0, 0, 1, 0}};
     uint8_t plan[BYTES];
     struct lists lists;
-    struct model m = of_arcs(&lists, 2, 2, arcs, 3);
+    struct model m = model_charged_before(&lists);
     uint32_t p, q, i;
     uint64_t answer;
 

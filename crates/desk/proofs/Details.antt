@@ -5,7 +5,7 @@ use mathlib.Core.Bool.{Bool, true, false, not, _&&_, _||_}
 use mathlib.Core.List.{List, [], _∷_}
 use mathlib.Core.Logic.{inl, inr, ⊎-elim}
 use Prim.Native.Nat.{ℕ, zero, suc, _+_, _*_, _^_, _≤_, _<_}
-use native.Mathlib.Nat.{sub-zero}
+use native.Mathlib.Nat.{add-zero, sub-zero}
 use native.Mathlib.Omega.{arith}
 use lib.Dec.{leb, ltb, eqb}
 use lib.ListN.{length, take, length-drop, length-take}
@@ -14,13 +14,13 @@ use Rattle.walks.specs.declared.Step.{Step}
 use Rattle.walks.specs.declared.Step.the-variants.{To, Impossible}
 use Rattle.walks.specs.BoundedStep.{stepped}
 use Rattle.refusals.specs.declared.Refusal.{Refusal}
-use Rattle.refusals.specs.declared.Refusal.the-variants.{ModeCount, StartMode, ArcLists, ColourCount, Levels, Product, WorkingSpace, PlanBuffer, PlanLength, OpenCycle, FallingCycle, BarredColour}
+use Rattle.refusals.specs.declared.Refusal.the-variants.{ModeCount, StartMode, ArcLists, ColourCount, Levels, Product, WorkingSpace, PlanBuffer, PlanLength, OpenCycle, FallingCycle}
 use Rattle.refusals.specs.declared.Verdict.{Verdict}
 use Rattle.refusals.specs.declared.Verdict.the-variants.{Yes, Refused}
 use Rattle.refusals.specs.Refusals.{answerOf, refuse, andThen}
 use Rattle.refusals.proofs.Scan.{Scan}
 use Rattle.model.specs.declared.Arc.{Arc}
-use Rattle.model.specs.Automaton.{Automaton, arcAt, bit, meets, hasBarred, moveOf}
+use Rattle.model.specs.Automaton.{Automaton, arcAt, bit, meets, moveOf}
 use Rattle.model.specs.Lists.{Lists, arcsOf, automatonOf}
 use Rattle.model.specs.Fitness.{header, headerOf, arcsVerdict, fitness, levelsOf}
 use Rattle.model.specs.Plans.{Plan}
@@ -30,7 +30,7 @@ use Rattle.judge.specs.Shape.{planOf, lengthOf, numbers, numbersThenChain, mode
 use Rattle.judge.specs.Charges.{ranOn, ran, afterRan, secondRound, rounds, charges}
 use Rattle.judge.specs.Colours.{someArc, barredFrom, coloursOf, acceptedOf}
 use Rattle.judge.specs.Judged.{servesOf, judgedPlan, judgedLevels, judged}
-use Rattle.judge.proofs.Firsts.{numbers-scan, chain-scan, missing-scan}
+use Rattle.judge.proofs.Firsts.{numbers-scan, chain-scan, missing-scan, barred-scan}
 use Rattle.judge.proofs.Shapes.{length-yes, shape-yes}
 use Rattle.gauge.specs.declared.Gauge.{Gauge}
 use Rattle.gauge.specs.Gauge.{newGauge, gauged, noGauge, stopAt, startedOf, steppedOf}
@@ -150,9 +150,7 @@ module _ {d : ℕ} where
 
   -- 24, of a list whose first arc has the position i
   barred-within : (g : Automaton) (x : ℕ) (w : List ℕ) (i : ℕ) → i + length w ≤ d → Within d (barredFrom g x w i)
-  unfolding barredFrom
-  barred-within g x [] i h = yes-within
-  barred-within g x (a ∷ w) i h = refuse-within (hasBarred g x a) (BarredColour i) (omega arith) (barred-within g x w (suc i) (omega arith))
+  barred-within g x w i h = rw add-zero at (scan-within (barred-scan g x w i) λ k q. omega arith)
 
   -- 17
   colours-within : (g : Automaton) (x : ℕ) (w : List ℕ) → g .colours ≤ d → Within d (coloursOf g x w)

@@ -65,7 +65,7 @@ unfolding coloursOf
 colour-first g x w = missing-first (λ j. bit x j || someArc (meets g j) w) (g .colours)
 
 -- 24 is a scan of the positions, counted from i
-barred-scan : (g : Automaton) (x : ℕ) (w : List ℕ) (i : ℕ)
+pub barred-scan : (g : Automaton) (x : ℕ) (w : List ℕ) (i : ℕ)
     → Scan (λ j. hasBarred g x (getD w j 0)) (λ j. BarredColour (i + j)) (length w) (λ k. barredFrom g x (drop k w) (i + k))
 unfolding barredFrom
 barred-scan g x w i =

@@ -1,7 +1,7 @@
 -- Bytes of barred colours: what it means that a byte has a bit in common with another, by bits, by a mask and as the code tests it. Assumes
 -- nothing.
 use mathlib.Core.Path.{_≡_, refl, sym, ap, _∙_}
-use mathlib.Core.Bool.{Bool, true, false, false≢true, not, _&&_, and-eq-true-iff}
+use mathlib.Core.Bool.{Bool, true, false, false≢true, not, _&&_, and-comm, and-eq-true-iff}
 use mathlib.Core.Logic.{_↔_, inl, inr, ⊎-elim}
 use Prim.Native.Nat.{ℕ, zero, suc, _+_, _*_, _/_, _%_, _^_, _≤_, _<_}
 use native.Mathlib.Nat.{div-one}
@@ -62,6 +62,10 @@ module _ (g : Automaton) (a : ℕ) where
   pub has-barred : (x : ℕ) → (hasBarred g x a ≡ true) ↔ ((j : ℕ) × (j < g .colours) × (bit x j ≡ true) × (meets g j a ≡ true))
   has-barred x = common-some x (arcAt g a .colours) (g .colours)
 
+  -- with nothing barred none has one
+  pub none-barred : hasBarred g 0 a ≡ false
+  none-barred = common-none 0 (arcAt g a .colours) (g .colours) .1 (λ j h e. absurd (false≢true (sym (bit-zero j) ∙ e)))
+
   -- "its bits at or above k are ignored"
   pub barred-ignored : (x y : ℕ) → ((j : ℕ) → j < g .colours → bit x j ≡ bit y j) → hasBarred g x a ≡ hasBarred g y a
   barred-ignored x y same = common-same x y (arcAt g a .colours) (g .colours) same
@@ -69,18 +73,12 @@ module _ (g : Automaton) (a : ℕ) where
 -- the mask of the common bits is 0 where there are none
 mask-none : (x y : ℕ) → (bitAnd y x ≡ 0) ↔ ((j : ℕ) → bit x j ≡ true → bit y j ≡ false)
 mask-none x y = (
-  λ e j q. and-other (bit y j) (bit x j) (sym (and-bit y x j) ∙ ap {B = Bool} (λ (z : ℕ). bit z j) e ∙ bit-zero j) q,
-  λ f. let low = colours-below (bitAnd y x) 0 .1 (λ j h. and-bit y x j ∙ other-and (bit y j) (bit x j) (f j)) in omega arith,
+  λ e j. and-no (bit x j) (bit y j) .0 (sym (both j) ∙ ap {B = Bool} (λ (z : ℕ). bit z j) e ∙ bit-zero j),
+  λ f. let low = colours-below (bitAnd y x) 0 .1 (λ j h. both j ∙ and-no (bit x j) (bit y j) .1 (f j)) in omega arith,
 )
   where
-    and-other : (s t : Bool) → (s && t) ≡ false → t ≡ true → s ≡ false
-    and-other true t e q = absurd (false≢true (sym e ∙ q))
-    and-other false t e q = refl
-
-    other-and : (s t : Bool) → (t ≡ true → s ≡ false) → (s && t) ≡ false
-    other-and true true f = f refl
-    other-and true false f = refl
-    other-and false t f = refl
+    both : (j : ℕ) → bit (bitAnd y x) j ≡ (bit x j && bit y j)
+    both j = and-bit y x j ∙ and-comm (bit y j) (bit x j)
 
 -- of a byte y without a bit at or above k, the test by the mask
 pub common-mask : (x y k : ℕ) → y < 2 ^ k → common x y k ≡ not (eqb (bitAnd y x) 0)

@@ -2,7 +2,7 @@
 use mathlib.Core.Path.{_≡_, refl, sym, ap, _∙_}
 use mathlib.Core.Bool.{Bool, true, false, not}
 use Prim.Native.Nat.{ℕ, zero, suc, _+_, _-_, _*_, _/_, _%_, _^_, _≤_, _<_}
-use native.Mathlib.Nat.{div-one, add-zero, zero-add}
+use native.Mathlib.Nat.{div-one, add-zero, zero-add, mul-le-mul-right}
 use native.Mathlib.Omega.{arith}
 use native.Mathlib.Decide.{ℕ-discrete, decLt}
 use lib.Dec.{eqb}
@@ -79,6 +79,10 @@ module _ (x : ℕ) where
   unfolding required
   required-le zero = omega arith
   required-le (suc k) = omega (arith, required-le k, digit-low (not (bit x k)))
+
+  -- so that levels for them alone, d more, over n modes and c charges, are no more than levels for all
+  pub required-room : (k d n c : ℕ) → (required x k + d) * n * c ≤ (k + d) * n * c
+  required-room k d n c = mul-le-mul-right c (mul-le-mul-right n (omega (arith, required-le k)))
 
   -- a required colour's place is below their number ..
   pub required-below : (k j : ℕ) → j < k → bit x j ≡ false → required x j < required x k

@@ -4,7 +4,7 @@ use mathlib.Core.Path.{_≡_, refl}
 use mathlib.Core.List.{List, _++_}
 use Prim.Native.Nat.{ℕ, zero, suc, pred, _+_, _*_, _≤_, _<_}
 use native.Mathlib.Omega.{arith}
-use native.Mathlib.Nat.{mul-le-mul-right, one-mul}
+use native.Mathlib.Nat.{one-mul}
 use native.Mathlib.Numerals.{add-one}
 use native.Mathlib.Decide.{decLe}
 use lib.ListN.{length, take, drop, length-append, length-take, length-drop, take-append-drop}
@@ -12,9 +12,8 @@ use Rattle.walks.specs.Moves.{charge, Possible}
 use Rattle.walks.proofs.Charges.{charge-append, possible-append, charge-bound}
 use Rattle.model.specs.Automaton.{Automaton}
 use Rattle.model.specs.Fitness.{Fit}
-use Rattle.model.specs.Required.{required}
 use Rattle.model.specs.Plans.{Plan, Serves, SomePlan}
-use Rattle.model.proofs.Required.{required-le}
+use Rattle.model.proofs.Required.{required-room}
 use Rattle.nets.specs.Graph.{moves, Leads}
 use Rattle.nets.specs.Net.{Net, Usable, Lasts, Fits, AcceptedLasso}
 use Rattle.nets.specs.Table.{level, Reached, KeptCycle}
@@ -162,8 +161,7 @@ pub plan-short : (g : Automaton) (x b c : ℕ) → Fit g → c ≤ b → SomePla
 plan-short g x b c f hc p =
     let h = lasso-short (whole g x) b c (whole-fits g x f) hc (whole-lasso g x b c (f .few-colours) .0 p) in
     let l = h .lasso in
-    let levels : suc (required x (g .colours)) ≤ suc (g .colours) = omega (arith, required-le x (g .colours)) in
-    let more = mul-le-mul-right (suc b) (mul-le-mul-right (g .modes) levels) in (
+    let more = simp add-one at (required-room x (g .colours) 1 (g .modes) (b + 1)) in (
       record { prefix = l .reached .arcs; cycle = l .kept .arcs },
       reached-serves g x b c (f .few-colours) (l .mode) (l .charged) (l .reached) (l .kept),
       simp add-one (omega (arith, h .prefix-short)),

@@ -1,6 +1,6 @@
 -- The rows and groups of a value stand for the model that it holds: the net read from the rows is the net of the model. Assumes nothing.
 use mathlib.Core.Path.{_≡_, sym, ap, subst, fun-ext, _∙_}
-use mathlib.Core.Bool.{Bool, false, false≢true, not}
+use mathlib.Core.Bool.{Bool, false, not}
 use mathlib.Core.List.{List, [], _∷_}
 use mathlib.Core.Logic.{_↔_}
 use Prim.Native.Nat.{ℕ, _+_, _*_, _/_, _%_, _^_, _≤_, _<_}
@@ -14,14 +14,14 @@ use lib.Pow.{pow-pos}
 use Rattle.limits.specs.Ceilings.{coloursMost, workWords, workLevels, planLevels, workSpace, planBuffer}
 use Rattle.model.specs.declared.Arc.{Arc}
 use Rattle.model.specs.declared.Model.{Model}
-use Rattle.model.specs.Automaton.{Automaton, noArc, arcAt, hasBarred}
+use Rattle.model.specs.Automaton.{noArc, arcAt, hasBarred}
 use Rattle.model.specs.Required.{digit, required, compressed}
 use Rattle.model.specs.Lists.{held}
 use Rattle.model.specs.Fitness.{Holds}
 use Rattle.model.specs.Plans.{SomePlan}
-use Rattle.model.proofs.Bits.{colours-below, bit-zero}
-use Rattle.model.proofs.Barred.{common-none, common-mask}
-use Rattle.model.proofs.Required.{digit-half, digit-odd, compressed-zero, required-le}
+use Rattle.model.proofs.Bits.{colours-below}
+use Rattle.model.proofs.Barred.{none-barred, common-mask}
+use Rattle.model.proofs.Required.{digit-half, digit-odd, compressed-zero, required-le, required-room}
 use Rattle.model.proofs.Held.{held-arc}
 use Rattle.nets.specs.Net.{Net, Fits, AcceptedLasso}
 use Rattle.nets.specs.Whole.{whole}
@@ -109,10 +109,6 @@ module _ (g : Model) (x : ℕ) (h : Holds g) where
       ∙ ap {B = Net} (λ (f : ℕ → Bool). fieldsNet source target draw gain colours f n s k m) (fun-ext row-barred)
       ∙ ap {B = Net} (λ (y : ℕ). fieldsNet source target draw gain colours barred n s k y) (holds-end g h ∙ sym (h .count))
 
--- with nothing barred no arc has a barred colour
-none-barred : (g : Automaton) (a : ℕ) → hasBarred g 0 a ≡ false
-none-barred g a = common-none 0 (arcAt g a .colours) (g .colours) .1 (λ j h e. absurd (false≢true (sym (bit-zero j) ∙ e)))
-
 -- the task of a model with d duties; some: whether a colour may be barred
 abbrev pub modelTask : Model → ℕ → Bool → ℕ → ℕ → Task
 modelTask g d some b c = record { modes = g .modes; start = g .start; duties = d; barred = some; credit = c; bound = b }
@@ -120,10 +116,8 @@ modelTask g d some b c = record { modes = g .modes; start = g .start; duties = d
 -- fewer colours ask for less
 fewer : (x k n b : ℕ) → (workSpace (required x k) n b ≤ workSpace k n b) × (planBuffer (required x k) n b ≤ planBuffer k n b)
 fewer x k n b =
-    let le = required-le x k in
-    let works : workWords * (required x k + workLevels) ≤ workWords * (k + workLevels) = omega (arith, le) in
-    let plans : required x k + planLevels ≤ k + planLevels = omega (arith, le) in
-    (mul-le-mul-right (b + 1) (mul-le-mul-right n works), mul-le-mul-right (b + 1) (mul-le-mul-right n plans))
+    let works : workWords * (required x k + workLevels) ≤ workWords * (k + workLevels) = omega (arith, required-le x k) in
+    (mul-le-mul-right (b + 1) (mul-le-mul-right n works), required-room x k planLevels n (b + 1))
 
 module _ {g : Model} (x : ℕ) {d b c words bytes : ℕ} {some : Bool} {groups : Groups} (able : Solvable g b c words bytes)
     (same : groups ≡ groupsOf g x) (duties : d ≡ required x (g .colours)) (zero : some ≡ false → x ≡ 0) where

@@ -4,7 +4,6 @@ use mathlib.Core.Bool.{Bool, true, false}
 use mathlib.Core.List.{List, [], _++_, append-nil}
 use mathlib.Core.Logic.{_↔_}
 use Prim.Native.Nat.{ℕ, _+_, _-_, _*_, _≤_, _<_}
-use native.Mathlib.Nat.{mul-le-mul-right}
 use native.Mathlib.Numerals.{add-one}
 use native.Mathlib.Omega.{arith}
 use lib.ListN.{length, getD, take, drop, set, length-append, length-drop, drop-of-length-le}
@@ -12,8 +11,7 @@ use lib.Seq.{length-take-le, take-at, drop-at, take-append-add, drop-append-add,
 use Rattle.limits.specs.Ceilings.{coloursMost, productMost, planBuffer}
 use Rattle.model.specs.Automaton.{Automaton}
 use Rattle.model.specs.Plans.{Plan}
-use Rattle.model.specs.Required.{required}
-use Rattle.model.proofs.Required.{required-le}
+use Rattle.model.proofs.Required.{required-room}
 use Rattle.judge.specs.Shape.{planOf}
 use Rattle.judge.proofs.Arcs.{rest-part}
 use Rattle.nets.specs.Net.{Net, Usable, AcceptedLasso}
@@ -146,14 +144,12 @@ pub written-answered : (g : Automaton) (x : ℕ) {b c : ℕ} {plan plan′ : Lis
     → Written (whole g x) b c plan plan′ r → Answered g x b c plan plan′ r
 written-answered g x {b} {c} few (none e) = search.none e
 written-answered g x {b} {c} few (found f) =
-    let levels : required x (g .colours) + 1 ≤ g .colours + 1 = omega (arith, required-le x (g .colours)) in
-    let more = mul-le-mul-right (b + 1) (mul-le-mul-right (g .modes) levels) in
     search.found (record {
       serves = rw (f .same) at (lasso-serves g x b c few (f .lasso));
       within = f .within;
       short = f .short;
       prefix-short = f .prefix-short;
-      cycle-short = omega (arith, f .cycle-short, more);
+      cycle-short = omega (arith, f .cycle-short, required-room x (g .colours) 1 (g .modes) (b + 1));
       later = f .later;
     })
 
