@@ -30,7 +30,9 @@ pub enum Refusal {
     BarredColour(u32),
 }
 
-// A number and its detail, 0 where none is named. A detail may be the line of a text, which no ceiling bounds.
+// A number and its detail, 0 where none is named. A detail may be the line of a text, or a wearer's place in a ward, which no ceiling bounds. It
+// is laid out as C lays it out, since the call for a ward answers it.
+#[repr(C)]
 pub struct Answer {
     pub number: u8,
     pub detail: u64,
