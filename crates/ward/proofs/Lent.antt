@@ -21,78 +21,12 @@ use Rattle.ward.proofs.ward as f
 
 -- how each parameter's machine values are spelled, and that its type tells them
 abbrev pub spelled : (κs : Lfts 8) → Spells (typesAt (f.signature .params) κs)
-spelled κs = (
-  slice-vals,
-  (
-    uint-vals w32,
-    (
-      uint-vals w32,
-      (
-        slice-vals,
-        (
-          slice-vals,
-          (
-            slice-vals,
-            (
-              slice-vals,
-              (
-                slice-vals,
-                (
-                  slice-vals,
-                  (
-                    uint-vals w8,
-                    (uint-vals w32, (uint-vals w32, (slice-vals, tt))),
-                  ),
-                ),
-              ),
-            ),
-          ),
-        ),
-      ),
-    ),
-  ),
-)
+spelled κs =
+    (slice-vals, (uint-vals w32, (uint-vals w32, (slice-vals, (slice-vals, (slice-vals, (slice-vals, (slice-vals, (slice-vals, (uint-vals w8, (uint-vals w32, (uint-vals w32, (slice-vals, tt)))))))))))))
 
 pub told : (κs : Lfts 8) → Tellss (typesAt (f.signature .params) κs) (Ises (typesAt (f.signature .params) κs)) (spelled κs)
-told κs = (
-  mut-slice-tells (named 0) (κs .0) T.the-row,
-  (
-    uint-tells w32,
-    (
-      uint-tells w32,
-      (
-        shr-slice-tells (named 1) (κs .1 .0) u8,
-        (
-          shr-slice-tells (named
-              2) (κs .1 .1 .0) u8,
-          (
-            shr-slice-tells (named 3) (κs .1 .1 .1 .0) u16,
-            (
-              shr-slice-tells (named 4) (κs .1 .1 .1 .1 .0) u16,
-              (
-                shr-slice-tells (named
-                    5) (κs .1 .1 .1 .1 .1 .0) u8,
-                (
-                  shr-slice-tells (named 6) (κs .1 .1 .1 .1 .1 .1 .0) u8,
-                  (
-                    uint-tells w8,
-                    (
-                      uint-tells w32,
-                      (
-                        uint-tells w32,
-                        (shr-slice-tells (named 7) (κs .1 .1 .1 .1 .1 .1 .1 .0) u8, tt),
-                      ),
-                    ),
-                  ),
-                ),
-              ),
-            ),
-          ),
-        ),
-      ),
-    ),
-  ),
-)
+told κs =
+    (mut-slice-tells (named 0) (κs .0) T.the-row, (uint-tells w32, (uint-tells w32, (shr-slice-tells (named 1) (κs .1 .0) u8, (shr-slice-tells (named 2) (κs .1 .1 .0) u8, (shr-slice-tells (named 3) (κs .1 .1 .1 .0) u16, (shr-slice-tells (named 4) (κs .1 .1 .1 .1 .0) u16, (shr-slice-tells (named 5) (κs .1 .1 .1 .1 .1 .0) u8, (shr-slice-tells (named 6) (κs .1 .1 .1 .1 .1 .1 .0) u8, (uint-tells w8, (uint-tells w32, (uint-tells w32, (shr-slice-tells (named 7) (κs .1 .1 .1 .1 .1 .1 .1 .0) u8, tt)))))))))))))
 
 module _ (κs : Lfts 8) (a : Args f.signature κs) where
   -- where the list lies, and the wearers at entry
@@ -123,8 +57,7 @@ module _ (κs : Lfts 8) (a : Args f.signature κs) where
 
   abbrev pub model : Lists
   model =
-      lists (a .1 .1 .1 .0 .now) (a .1 .1 .1 .1 .0 .now) (a .1 .1 .1 .1 .1 .0 .now) (a .1 .1 .1 .1 .1 .1 .0 .now) (a .1 .1 .1 .1 .1 .1 .1 .0 .now) (a
-      .1 .1 .1 .1 .1 .1 .1 .1 .0 .now)
+      lists (a .1 .1 .1 .0 .now) (a .1 .1 .1 .1 .0 .now) (a .1 .1 .1 .1 .1 .0 .now) (a .1 .1 .1 .1 .1 .1 .0 .now) (a .1 .1 .1 .1 .1 .1 .1 .0 .now) (a .1 .1 .1 .1 .1 .1 .1 .1 .0 .now)
 
   abbrev pub plan : List ℕ
   plan = a .1 .1 .1 .1 .1 .1 .1 .1 .1 .1 .1 .1 .0 .now
@@ -162,33 +95,8 @@ module _ (κs : Lfts 8) (a : Args f.signature κs) where
   v-plan = sliceVal (a .1 .1 .1 .1 .1 .1 .1 .1 .1 .1 .1 .1 .0 .ptr) (length (a .1 .1 .1 .1 .1 .1 .1 .1 .1 .1 .1 .1 .0 .now))
 
   abbrev pub vals : Vals f.signature κs
-  vals = (
-    v-wearers ∷ [],
-    (
-      vint w32 n ∷ [],
-      (
-        vint w32 k ∷ [],
-        (
-          v-sources ∷ [],
-          (
-            v-targets ∷ [],
-            (
-              v-draws ∷ [],
-              (
-                v-gains ∷ [],
-                (
-                  v-colours ∷ [],
-                  (v-actions ∷ [], (vint w8 barred ∷ [], (vint w32 p ∷ [], (vint w32 q ∷ [], (v-plan ∷ [], tt))))),
-                ),
-              ),
-            ),
-          ),
-        ),
-      ),
-    ),
-  )
+  vals =
+      (v-wearers ∷ [], (vint w32 n ∷ [], (vint w32 k ∷ [], (v-sources ∷ [], (v-targets ∷ [], (v-draws ∷ [], (v-gains ∷ [], (v-colours ∷ [], (v-actions ∷ [], (vint w8 barred ∷ [], (vint w32 p ∷ [], (vint w32 q ∷ [], (v-plan ∷ [], tt)))))))))))))
 
   abbrev pub passed : List Val
-  passed =
-      v-wearers ∷ vint w32 n ∷ vint w32 k ∷ v-sources ∷ v-targets ∷ v-draws ∷ v-gains ∷ v-colours ∷ v-actions ∷ vint w8 barred ∷ vint w32 p ∷ vint
-      w32 q ∷ v-plan ∷ []
+  passed = v-wearers ∷ vint w32 n ∷ vint w32 k ∷ v-sources ∷ v-targets ∷ v-draws ∷ v-gains ∷ v-colours ∷ v-actions ∷ vint w8 barred ∷ vint w32 p ∷ vint w32 q ∷ v-plan ∷ []
