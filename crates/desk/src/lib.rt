@@ -1,4 +1,4 @@
-// The fitting desk's entries: judging, search, gauge, walk, reading and the join, to be called from C. include/chargeplan.h declares and explains them.
+// The fitting desk's entries: judging, search, gauge, walk, reading, the join and wards, to be called from C. include/chargeplan.h declares and explains them.
 // C passes a slice as two arguments, a pointer and a length, and a `&mut` as a pointer.
 ghost use mathlib.Core.Path.{_≡_};
 ghost use Rattle.refusals.specs.Refusals.{answerOf};
@@ -6,6 +6,7 @@ ghost use Rattle.model.specs.Lists.{lists};
 ghost use Rattle.desk.specs.Packing.{packed, Fields};
 ghost use Rattle.reading.specs.Reading.{listsRead};
 ghost use Rattle.join.specs.Joining.{given, listsJoined};
+ghost use Rattle.ward.specs.Ward.{WardOf};
 ghost use Rattle.desk.specs.Desk.{deskJudged, deskStarted, deskWalked, readWith, deskRead, deskJoined, DeskSearched, DeskStepped};
 use filling::Reading;
 use gauge::Gauge;
@@ -16,6 +17,8 @@ use planwalk::walk;
 use reading::read;
 use refusals::Answer;
 use search::search;
+use ward::Wearer;
+use ward::ward;
 
 // Where each part of an answer begins in the word: the number at bit 0, the detail at bit 8, and two numbers more at bits 32 and 48.
 const DETAIL: u64 = 256;
@@ -369,4 +372,42 @@ pub extern "C" fn chargeplan_join(
         colours,
         actions,
     ))
+}
+
+// One plan for a ward: the verdict of each wearer of the lent list is filled with judging's number, and the answer is 0 where all are 0, else the
+// first other verdict with its place; or the first of 1, 3, 4 and 5 that applies to the model, and the wearers as they were. For all numbers, lists,
+// plans and wearers.
+#[no_mangle]
+pub extern "C" fn chargeplan_ward(
+    wearers: &mut [Wearer],
+    n: u32,
+    k: u32,
+    sources: &[u8],
+    targets: &[u8],
+    draws: &[u16],
+    gains: &[u16],
+    colours: &[u8],
+    actions: &[u8],
+    barred: u8,
+    p: u32,
+    q: u32,
+    plan: &[u8],
+) -> Answer
+    ensures { λ r. ⌜ WardOf n k (lists (now (sources .entry)) (now (targets .entry)) (now (draws .entry)) (now (gains .entry)) (now (colours .entry)) (now (actions .entry))) barred p q (now (plan .entry)) (now (wearers .entry)) (now (wearers .exit)) r ⌝ }
+{
+    ward(
+        wearers,
+        n,
+        k,
+        sources,
+        targets,
+        draws,
+        gains,
+        colours,
+        actions,
+        barred,
+        p,
+        q,
+        plan,
+    )
 }

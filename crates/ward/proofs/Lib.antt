@@ -6,3 +6,6 @@ pub mod SoFar
 pub mod Loop
 pub mod Parts
 pub mod Lent
+pub mod Firsts
+pub mod Unfit
+pub mod Wards

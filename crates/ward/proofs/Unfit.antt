@@ -1,0 +1,106 @@
+-- The model met before any wearer: the order of its checks, which are those of fitness without 2; and of a wearer then only 2 is left of them.
+-- Assumes nothing.
+use mathlib.Core.Path.{_≡_, refl, sym, _∙_}
+use mathlib.Core.Bool.{Bool, true, false, _||_}
+use mathlib.Core.List.{List}
+use mathlib.Core.Logic.{_↔_}
+use Prim.Native.Nat.{ℕ, zero, suc, _^_}
+use native.Mathlib.Omega.{arith}
+use lib.Dec.{leb, ltb, eqb}
+use lib.ListN.{length}
+use borrow.Author.Tests.{lt-leb}
+use Rattle.limits.specs.Ceilings.{modesMost, coloursMost}
+use Rattle.refusals.specs.declared.Refusal.the-variants.{ModeCount, StartMode, ArcLists, ColourCount}
+use Rattle.refusals.specs.declared.Verdict.{Verdict}
+use Rattle.refusals.specs.declared.Verdict.the-variants.{Yes}
+use Rattle.refusals.specs.Refusals.{refuse, andThen}
+use Rattle.refusals.proofs.Verdicts.{refuse-yes}
+use Rattle.model.specs.Lists.{Lists, automatonOf}
+use Rattle.model.specs.Fitness.{unfitLists, header, arcsFitness, fitness, EqualLists, Fit}
+use Rattle.model.proofs.Fitness.{fitness-yes}
+use Rattle.judge.specs.Judged.{judgedLevels, judged}
+use Rattle.ward.specs.Ward.{wardFitness}
+
+-- four rows and what is checked after them, top to bottom
+rows : (a b c d : Bool) (v : Verdict)
+    → andThen (refuse a ModeCount (refuse b StartMode (refuse c ArcLists (refuse d ColourCount Yes)))) v
+    ≡ refuse a ModeCount (refuse b StartMode (refuse c ArcLists (refuse d ColourCount v)))
+rows true b c d v = refl
+rows false true c d v = refl
+rows false false true d v = refl
+rows false false false true v = refl
+rows false false false false v = refl
+
+module _ (n k : ℕ) (l : Lists) where
+  -- whether 1 and 3 apply
+  abbrev modesUnfit : Bool
+  modesUnfit = eqb n 0 || ltb modesMost n
+
+  abbrev listsUnfit : Bool
+  listsUnfit =
+      unfitLists (length (l .sources)) (length (l .targets)) (length (l .draws)) (length (l .gains)) (length (l .colours)) (length (l .actions))
+
+  -- 1 to 5
+  fitness-order : (s : ℕ)
+      → fitness n s k l
+      ≡ refuse modesUnfit ModeCount
+      (refuse (leb n s) StartMode
+      (refuse listsUnfit ArcLists
+      (refuse (ltb coloursMost k) ColourCount
+      (arcsFitness n (2 ^ k) l))))
+  unfolding fitness header
+  fitness-order s = rows modesUnfit (leb n s) listsUnfit (ltb coloursMost k) (arcsFitness n (2 ^ k) l)
+
+  -- the row of 2 with start mode 0 never applies, where 1 does not
+  no-start : (m : ℕ) (v : Verdict)
+      → refuse (eqb m 0 || ltb modesMost m) ModeCount (refuse (leb m 0) StartMode v) ≡ refuse (eqb m 0 || ltb modesMost m) ModeCount v
+  no-start zero v = refl
+  no-start (suc m) v = rw (lt-leb (suc m) 0 (omega arith)) refl
+
+  -- "An unfit model met before any wearer (1, 3, 4, 5)": these, in this order, and not 2
+  pub ward-order : wardFitness n k l
+      ≡ refuse modesUnfit ModeCount
+      (refuse listsUnfit ArcLists
+      (refuse (ltb coloursMost k) ColourCount
+      (arcsFitness n (2 ^ k) l)))
+  unfolding wardFitness
+  ward-order = fitness-order 0 ∙ no-start n (refuse listsUnfit ArcLists (refuse (ltb coloursMost k) ColourCount (arcsFitness n (2 ^ k) l)))
+
+  -- where none of them applies
+  record NoneUnfit : Type 0 where
+    modes : modesUnfit ≡ false
+    lists : listsUnfit ≡ false
+    colours : ltb coloursMost k ≡ false
+    arcs : arcsFitness n (2 ^ k) l ≡ Yes
+
+  none-unfit : wardFitness n k l ≡ Yes → NoneUnfit
+  none-unfit e =
+      let one = refuse-yes modesUnfit ModeCount _ .0 (sym ward-order ∙ e) in
+      let three = refuse-yes listsUnfit ArcLists _ .0 (one .1) in
+      let four = refuse-yes (ltb coloursMost k) ColourCount _ .0 (three .1) in
+      record { modes = one .0; lists = three .0; colours = four .0; arcs = four .1 }
+
+  -- in the words of the model
+  pub ward-fitness-yes : (wardFitness n k l ≡ Yes) ↔ (EqualLists l × Fit (automatonOf n 0 k l))
+  unfolding wardFitness
+  ward-fitness-yes = fitness-yes n 0 k l
+
+  -- a model that is fit with some start mode is so for a ward
+  pub fit-ward : (s : ℕ) → fitness n s k l ≡ Yes → wardFitness n k l ≡ Yes
+  fit-ward s e =
+      let one = refuse-yes modesUnfit ModeCount _ .0 (sym (fitness-order s) ∙ e) in
+      let two = refuse-yes (leb n s) StartMode _ .0 (one .1) in
+      ward-order ∙ refuse-yes modesUnfit ModeCount _ .1 (one .0, two .1)
+
+  -- "2 and 6 are verdicts": where the model is fit, of 1 to 5 only 2 is left for a wearer; 6 and what judging checks of a plan follow
+  pub ward-wearer : wardFitness n k l ≡ Yes → (s x b c p q : ℕ) (w : List ℕ)
+      → judged n s k l x b c p q w ≡ refuse (leb n s) StartMode (judgedLevels (automatonOf n s k l) x b c p q w)
+  unfolding judged
+  ward-wearer e s x b c p q w =
+      let none = none-unfit e in
+      rw (fitness-order s, none .modes, none .lists, none .colours, none .arcs) (refused (leb n s))
+    where
+      refused : (t : Bool) → andThen (refuse t StartMode Yes) (judgedLevels (automatonOf n s k l) x b c p q w)
+          ≡ refuse t StartMode (judgedLevels (automatonOf n s k l) x b c p q w)
+      refused true = refl
+      refused false = refl

@@ -1,0 +1,131 @@
+-- What a ward's call says: the model's unfitness, or every wearer's verdict, by judging and by the definition of a plan that is right for a wearer.
+-- Assumes nothing.
+use mathlib.Core.Path.{_≡_, refl, sym, ap, _∙_, subst}
+use mathlib.Core.Logic.{_↔_, _≢_}
+use mathlib.Core.List.{List, [], _∷_, map}
+use Prim.Native.Nat.{ℕ, zero, suc, _<_}
+use native.Mathlib.Nat.{not-suc-le-zero, le-of-suc-le-suc}
+use native.Mathlib.Omega.{arith}
+use lib.ListN.{length, getD, length-map}
+use Rattle.refusals.specs.declared.Answer.{Answer}
+use Rattle.refusals.specs.declared.Refusal.{Refusal}
+use Rattle.refusals.specs.declared.Verdict.{Verdict}
+use Rattle.refusals.specs.declared.Verdict.the-variants.{Yes, Refused}
+use Rattle.refusals.specs.Refusals.{answer, numbered, answerOf}
+use Rattle.refusals.proofs.Numbers.{refusal-number}
+use Rattle.model.specs.Lists.{Lists, automatonOf}
+use Rattle.model.specs.Fitness.{fitness, EqualLists, Fit}
+use Rattle.model.proofs.Fitness.{fitness-yes}
+use Rattle.judge.specs.Judged.{judgedAnswer, Right}
+use Rattle.judge.proofs.Judged.{judged-zero}
+use Rattle.ward.specs.declared.Wearer.{Wearer}
+use Rattle.ward.specs.Ward.{verdictOf, withVerdict, wardFitness, firstOther, answeredIf, filledIf, WardOf}
+use Rattle.ward.proofs.SoFar.{noWearer}
+use Rattle.ward.proofs.Firsts.{first-yes, first-zero, FirstAt, first-other}
+use Rattle.ward.proofs.Unfit.{ward-fitness-yes, fit-ward}
+
+-- the list is as long as it was
+pub filled-length : (v : Verdict) (f : Wearer → ℕ) (ys : List Wearer) → length (filledIf v f ys) ≡ length ys
+filled-length Yes f ys = length-map ys (λ y. withVerdict y (f y))
+filled-length (Refused r) f ys = refl
+
+-- what stands at a place of a list that was put through f
+getD-mapped : {A B : Type 0} (f : A → B) (ys : List A) (j : ℕ) (d : A) (e : B) → j < length ys → getD (map f ys) j e ≡ f (getD ys j d)
+getD-mapped f [] j d e h = absurd (not-suc-le-zero h)
+getD-mapped f (y ∷ ys) zero d e h = refl
+getD-mapped f (y ∷ ys) (suc j) d e h = getD-mapped f ys j d e (le-of-suc-le-suc h)
+
+module _ (n k : ℕ) (l : Lists) (x p q : ℕ) (w : List ℕ) where
+  -- the plan is right for the wearer y: feasible and accepted, with the wearer's start mode, bound and credit
+  abbrev pub RightFor : Wearer → Type 0
+  RightFor y = Right n (y .start) k l x (y .b) (y .c) p q w
+
+  -- a wearer's verdict is yes exactly where the plan is right for it
+  pub verdict-right : (y : Wearer) → (verdictOf n k l x p q w y ≡ 0) ↔ RightFor y
+  unfolding verdictOf
+  verdict-right y = judged-zero n (y .start) k l x (y .b) (y .c) p q w
+
+  -- what a verdict field holds at entry is not looked at
+  pub verdict-junk : (y : Wearer) (v : ℕ) → verdictOf n k l x p q w (withVerdict y v) ≡ verdictOf n k l x p q w y
+  unfolding verdictOf
+  verdict-junk y v = refl
+
+module _ {n k : ℕ} {l : Lists} {x p q : ℕ} {w : List ℕ} {ys zs : List Wearer} {r : Answer} (h : WardOf n k l x p q w ys zs r) where
+  -- "An unfit model met before any wearer (1, 3, 4, 5) ends the call with its number and detail and no verdict written, even on an empty list"
+  pub ward-unfit : (z : Refusal) → wardFitness n k l ≡ Refused z → (r ≡ numbered z) × (zs ≡ ys)
+  ward-unfit z e =
+      let f = verdictOf n k l x p q w in
+      (h .answered ∙ ap (λ (v : Verdict). answeredIf v f ys) e, h .filled ∙ ap (λ (v : Verdict). filledIf v f ys) e)
+
+  -- else the answer is that of the verdicts, and each is written
+  ward-fit : wardFitness n k l ≡ Yes
+      → (r ≡ firstOther (map (verdictOf n k l x p q w) ys) 0) × (zs ≡ map (λ y. withVerdict y (verdictOf n k l x p q w y)) ys)
+  ward-fit e =
+      let f = verdictOf n k l x p q w in
+      (h .answered ∙ ap (λ (v : Verdict). answeredIf v f ys) e, h .filled ∙ ap (λ (v : Verdict). filledIf v f ys) e)
+
+  pub ward-length : length zs ≡ length ys
+  ward-length = ap (λ (us : List Wearer). length us) (h .filled) ∙ filled-length (wardFitness n k l) (verdictOf n k l x p q w) ys
+
+  -- "fill every verdict with the number judging gives for that wearer, 0 for yes. Other fields keep their content."
+  pub ward-verdict : wardFitness n k l ≡ Yes → (j : ℕ) → j < length ys
+      → let y = getD ys j noWearer in
+      getD zs j noWearer ≡ withVerdict y (judgedAnswer n (y .start) k l x (y .b) (y .c) p q w .number)
+  unfolding verdictOf
+  ward-verdict e j i =
+      ap (λ (us : List Wearer). getD us j noWearer) (ward-fit e .1)
+      ∙ getD-mapped (λ y. withVerdict y (verdictOf n k l x p q w y)) ys j noWearer noWearer i
+
+  -- a model that is not fit is refused by its number
+  number-fit : r .number ≡ 0 → wardFitness n k l ≡ Yes
+  number-fit e = go (wardFitness n k l) refl
+    where
+      go : (v : Verdict) → wardFitness n k l ≡ v → v ≡ Yes
+      go Yes fit = refl
+      go (Refused z) unfit = absurd (omega (arith, refusal-number z, ap (λ (a : Answer). a .number) (ward-unfit z unfit .0), e))
+
+  -- number 0 is the yes alone, with detail 0
+  pub ward-zero : r .number ≡ 0 → r ≡ answer 0 0
+  ward-zero e =
+      let told = ward-fit (number-fit e) .0 in
+      told ∙ first-zero (map (verdictOf n k l x p q w) ys) 0 (sym (ap (λ (a : Answer). a .number) told) ∙ e)
+
+  -- where the model is fit: "the answer is yes exactly when all are yes, so an empty list is yes"
+  pub ward-all : wardFitness n k l ≡ Yes → (r ≡ answer 0 0) ↔ ((j : ℕ) → j < length ys → RightFor n k l x p q w (getD ys j noWearer))
+  ward-all fit =
+      let f = verdictOf n k l x p q w in
+      let told = ward-fit fit .0 in
+      let all = first-yes (map f ys) 0 in
+      let long = length-map ys f in (
+        λ e j i.
+            verdict-right n k l x p q w (getD ys j noWearer) .0
+            (sym (getD-mapped f ys j noWearer 0 i) ∙ all .0 (sym told ∙ e) j (omega (arith, long))),
+        λ g.
+            told ∙ all .1 (λ j i.
+            let i′ : j < length ys = omega (arith, long) in
+            getD-mapped f ys j noWearer 0 i′ ∙ verdict-right n k l x p q w (getD ys j noWearer) .1 (g j i′)),
+      )
+
+  -- in all: number 0 exactly where the model is fit and the plan is right for every wearer
+  pub ward-yes : (r .number ≡ 0) ↔ (EqualLists l × Fit (automatonOf n 0 k l) × ((j : ℕ) → j < length ys → RightFor n k l x p q w (getD ys j noWearer)))
+  ward-yes = (
+    λ e. let fit = number-fit e in let both = ward-fitness-yes n k l .0 fit in (both .0, both .1, ward-all fit .0 (ward-zero e)),
+    λ g. ap (λ (a : Answer). a .number) (ward-all (ward-fitness-yes n k l .1 (g .0, g .1)) .1 (g .2)),
+  )
+
+  -- of a ward with some wearer: exactly where the plan is right for every wearer
+  pub ward-some : 0 < length ys → (r .number ≡ 0) ↔ ((j : ℕ) → j < length ys → RightFor n k l x p q w (getD ys j noWearer))
+  ward-some some = (
+    λ e. ward-yes .0 e .2,
+    λ g.
+        let first = g 0 some in
+        let fit = fit-ward n k l (getD ys 0 noWearer .start) (fitness-yes n (getD ys 0 noWearer .start) k l .1 (first .equal, first .fit)) in
+        ap (λ (a : Answer). a .number) (ward-all fit .1 g),
+  )
+
+  -- where the model is fit: "else the first other verdict, with its wearer's place, from 0, as detail"
+  pub ward-other : wardFitness n k l ≡ Yes → (d v : ℕ) → v ≢ 0 → (r ≡ answer v d) ↔ FirstAt (map (verdictOf n k l x p q w) ys) d v
+  ward-other fit d v other =
+      let told = ward-fit fit .0 in
+      let first = first-other (map (verdictOf n k l x p q w) ys) d v other in
+      (λ e. first .0 (sym told ∙ e), λ z. told ∙ first .1 z)
