@@ -5,7 +5,7 @@ use mathlib.Core.List.{List}
 use mathlib.Core.Logic.{_↔_, _⊎_, inl, inr}
 use Prim.Native.Nat.{ℕ, _+_, _^_, _<_}
 use native.Mathlib.Omega.{arith}
-use lib.ListN.{length, take, replicate}
+use lib.ListN.{length, getD, take, replicate}
 use Rattle.refusals.specs.declared.Answer.{Answer}
 use Rattle.refusals.specs.declared.Refusal.{Refusal}
 use Rattle.refusals.specs.declared.Verdict.{Verdict}
@@ -37,6 +37,10 @@ use Rattle.filling.proofs.Filled.{filled-refused}
 use Rattle.join.specs.Joining.{Given, modelGiven, fitnessGiven, joinedGiven, SizeFits, joinVerdict, Joinable, listsJoined}
 use Rattle.join.specs.Together.{SomeTogether}
 use Rattle.join.proofs.ListsJoined.{join-yes, join-knee, join-habit, join-size, join-model, join-fitness, join-rest, join-plans}
+use Rattle.ward.specs.declared.Wearer.{Wearer}
+use Rattle.ward.specs.Ward.{withVerdict, wardFitness, WardOf}
+use Rattle.ward.proofs.SoFar.{noWearer}
+use Rattle.ward.proofs.Wards.{ward-verdict, ward-some}
 use Rattle.desk.specs.declared.Read.{Read}
 use Rattle.desk.specs.Desk.{deskJudged, deskStarted, deskWalked, deskRead, deskJoined, DeskSearched, DeskStepped}
 use Rattle.desk.proofs.Sizes.{judge-fields, start-fields, step-fields, walk-fields, search-fields}
@@ -230,3 +234,22 @@ module _ (x y : Given) (l : Lists) where
       let ten = desk-ten searched through in
       let plans = desk-join-model e .2 z b c in
       (λ n together. ten .0 n (plans .1 together), λ none. ten .1 (λ some. none (plans .0 some)))
+
+module _ {n k : ℕ} {l : Lists} {x p q : ℕ} {w : List ℕ} {ys zs : List Wearer} {r : Answer} (h : WardOf n k l x p q w ys zs r) where
+  -- what judging answers for a wearer
+  abbrev WordFor : Wearer → ℕ
+  WordFor y = deskJudged n (y .start) k l x (y .b) (y .c) p q w
+
+  -- a ward, where the model is fit: each verdict is the number that judging answers for that wearer, and the other fields are as they were
+  pub desk-ward-verdict : wardFitness n k l ≡ Yes → (j : ℕ) → j < length ys
+      → getD zs j noWearer ≡ withVerdict (getD ys j noWearer) (numberIn (WordFor (getD ys j noWearer)))
+  desk-ward-verdict fit j i =
+      let y = getD ys j noWearer in
+      ward-verdict h fit j i ∙ ap (λ (v : ℕ). withVerdict y v) (sym (desk-judge-parts n (y .start) k l x (y .b) (y .c) p q w .number))
+
+  -- of a ward with some wearer the number is 0 exactly where judging answers 0 for every wearer
+  pub desk-ward-zero : 0 < length ys → (r .number ≡ 0) ↔ ((j : ℕ) → j < length ys → numberIn (WordFor (getD ys j noWearer)) ≡ 0)
+  desk-ward-zero some = (
+    λ e j i. let y = getD ys j noWearer in desk-judged n (y .start) k l x (y .b) (y .c) p q w .1 (ward-some h some .0 e j i),
+    λ g. ward-some h some .1 (λ j i. let y = getD ys j noWearer in desk-judged n (y .start) k l x (y .b) (y .c) p q w .0 (g j i)),
+  )

@@ -30,7 +30,9 @@ unfolding verdictOf
 returns c =
     let d = c .before .before in
     let a = d .before .before .before .before .before .before .before .before .args in
-    told (verdictOf (a .n) (a .k) (lists (a .sources .now) (a .targets .now) (a .draws .now) (a .gains .now) (a .colours .now) (a .actions .now)) (a .barred) (a .p) (a .q) (a .plan .now)) (a .wearer) (a .answer) _ (a .place) _ (ap (λ (x : Answer). x .number) (c .before .answer .ensures ∙ d .judge .ensures .1)) (c .after-verdict .ensures)
+    let l = lists (a .sources .now) (a .targets .now) (a .draws .now) (a .gains .now) (a .colours .now) (a .actions .now) in
+    told (verdictOf (a .n) (a .k) l (a .barred) (a .p) (a .q) (a .plan .now)) (a .wearer) (a .answer) _ (a .place) _
+    (ap (λ (x : Answer). x .number) (c .before .answer .ensures ∙ d .judge .ensures .1)) (c .after-verdict .ensures)
 
 pub judge-wearer-spec : {M : Type 1} → statement M
 judge-wearer-spec = tie.close (tie.spec judge-requires answer-requires after-verdict-requires returns)
