@@ -2,7 +2,6 @@
 -- opened once, and in each turn of the loop the wearer at i is taken out of the list, copied, put through `judge_wearer`, and stored. Of the list the
 -- loop knows that its first i wearers have their verdicts (`upto`), and of the answer that it is that of these (`soFar`). What the other parameters
 -- own is had twice at each call: one copy goes to the callee. Nothing of them is kept for the exit (`stay-dropped`). Assumes nothing.
-use mathlib.Core.Bool.{not}
 use mathlib.Core.Path.{_≡_, refl, sym, ap, subst, _∙_}
 use mathlib.Core.List.{[], _∷_, List, _++_}
 use Prim.Native.Nat.{ℕ, suc, _*_, _≤_, _<_, _^_}
@@ -47,7 +46,7 @@ use denote.Exit.{yes}
 use denote.Triple.Statement.{Contract, Triple}
 use denote.Triple.Call.{calls-at}
 use denote.Triple.Clauses.{ensured, lasts}
-use denote.Triple.Entry.{Args, Vals, onEntry}
+use denote.Triple.Entry.{Args, onEntry}
 use denote.Triple.Spec.{Meets, tripleOf}
 use denote.Triple.Table.{entered, cited}
 use denote.Triple.Walked.{says, Stays, stay-slice, stay-dropped, walkOf, AllGo, goes-slice, Walks, ends-at, walked, walk-meets}
