@@ -53,10 +53,11 @@ off false _ = refl
 not-below : (i n : ℕ) → T (not (ltb i n)) → n ≤ i
 not-below i n h = ltb-false i n (off (ltb i n) h)
 
--- the test of the `while`
+-- a wearer to be judged is one of the list
 pub below-within : (i c n : ℕ) → i < c → c ≤ n → i < n
 below-within i c n l le = omega arith
 
+-- where the test of the `while` fails, all that are to be judged are judged
 pub met-end : (i n : ℕ) → i ≤ n → T (not (ltb i n)) → i ≡ n
 met-end i n le h = same (not-below i n h)
   where

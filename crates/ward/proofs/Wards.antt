@@ -124,16 +124,16 @@ module _ {n k : ℕ} {l : Lists} {x p q : ℕ} {w : List ℕ} {ys zs : List Wear
         ap (λ (a : Answer). a .number) (ward-all fit .1 g),
   )
 
-  -- the verdicts that the call leaves are those that its answer is made of
-  verdicts-left : wardFitness n k l ≡ Yes → map (λ (z : Wearer). z .verdict) zs ≡ map (verdictOf n k l x p q w) ys
-  verdicts-left fit =
+  -- the verdicts written are those that the answer is made of
+  verdicts-written : wardFitness n k l ≡ Yes → map (λ (z : Wearer). z .verdict) zs ≡ map (verdictOf n k l x p q w) ys
+  verdicts-written fit =
       ap (λ (us : List Wearer). map (λ (z : Wearer). z .verdict) us) (ward-fit fit .1)
       ∙ map-map (λ (z : Wearer). z .verdict) (λ y. withVerdict y (verdictOf n k l x p q w y)) ys
 
   -- where the model is fit: "else the first other verdict, with its wearer's place, from 0, as detail", of the verdicts that the call leaves
   pub ward-other : wardFitness n k l ≡ Yes → (d v : ℕ) → v ≢ 0 → (r ≡ answer v d) ↔ FirstAt (map (λ (z : Wearer). z .verdict) zs) d v
   ward-other fit d v other =
-      let told = ward-fit fit .0 ∙ ap (λ (vs : List ℕ). firstOther vs 0) (sym (verdicts-left fit)) in
+      let told = ward-fit fit .0 ∙ ap (λ (vs : List ℕ). firstOther vs 0) (sym (verdicts-written fit)) in
       let first = first-other (map (λ (z : Wearer). z .verdict) zs) d v other in
       (λ e. first .0 (sym told ∙ e), λ z. told ∙ first .1 z)
 
@@ -157,18 +157,20 @@ same-mapped g unread ys us same = sym (blank ys) ∙ ap (λ (ts : List Wearer). 
     blank [] = refl
     blank (t ∷ ts) = rw (unread t, blank ts) refl
 
+-- the wearers with their verdicts are such a list
 filled-same : (v : Verdict) (f : Wearer → ℕ) (ys : List Wearer) → SameButVerdicts ys (filledIf v f ys)
 filled-same Yes f ys = sym (map-map (λ y. withVerdict y 0) (λ y. withVerdict y (f y)) ys)
 filled-same (Refused r) f ys = refl
 
 -- "Other fields keep their content.", whether the model is fit or not
-pub ward-kept : {n k : ℕ} {l : Lists} {x p q : ℕ} {w : List ℕ} {ys zs : List Wearer} {r : Answer} → WardOf n k l x p q w ys zs r → SameButVerdicts ys zs
+pub ward-kept : {n k : ℕ} {l : Lists} {x p q : ℕ} {w : List ℕ} {ys zs : List Wearer} {r : Answer} → WardOf n k l x p q w ys zs r
+    → SameButVerdicts ys zs
 ward-kept {n} {k} {l} {x} {p} {q} {w} {ys} h = rw (h .filled) (filled-same (wardFitness n k l) (verdictOf n k l x p q w) ys)
 
--- a call with the wearers ys, and one with the wearers us, which it leaves as vs
+-- a call on the wearers ys, which it leaves as zs, and one on us, which it leaves as vs, with the same model and plan
 module _ {n k : ℕ} {l : Lists} {x p q : ℕ} {w : List ℕ} {ys zs us vs : List Wearer} {r s : Answer}
     (h : WardOf n k l x p q w ys zs r) (i : WardOf n k l x p q w us vs s) where
-  -- What verdict fields hold at entry is not looked at: the answers are the same, and where the model is fit the wearers are too
+  -- What verdict fields hold at entry is not looked at: the answers are the same, and where the model is fit so are the wearers that the calls leave
   pub ward-same : SameButVerdicts ys us → (r ≡ s) × (wardFitness n k l ≡ Yes → zs ≡ vs)
   ward-same same =
       let f = verdictOf n k l x p q w in
