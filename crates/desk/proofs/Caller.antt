@@ -40,7 +40,7 @@ use Rattle.join.proofs.ListsJoined.{join-yes, join-knee, join-habit, join-size,
 use Rattle.ward.specs.declared.Wearer.{Wearer}
 use Rattle.ward.specs.Ward.{withVerdict, wardFitness, WardOf}
 use Rattle.ward.proofs.SoFar.{noWearer}
-use Rattle.ward.proofs.Wards.{ward-verdict, ward-some}
+use Rattle.ward.proofs.Wards.{ward-verdict, ward-some, ward-place}
 use Rattle.desk.specs.declared.Read.{Read}
 use Rattle.desk.specs.Desk.{deskJudged, deskStarted, deskWalked, deskRead, deskJoined, DeskSearched, DeskStepped}
 use Rattle.desk.proofs.Sizes.{judge-fields, start-fields, step-fields, walk-fields, search-fields}
@@ -246,6 +246,13 @@ module _ {n k : ℕ} {l : Lists} {x p q : ℕ} {w : List ℕ} {ys zs : List Wear
   desk-ward-verdict fit j i =
       let y = getD ys j noWearer in
       ward-verdict h fit j i ∙ ap (λ (v : ℕ). withVerdict y v) (sym (desk-judge-parts n (y .start) k l x (y .b) (y .c) p q w .number))
+
+  -- where the model is fit and the number is not 0: the detail is the place of a wearer, and the number is the one that judging answers for that wearer
+  pub desk-ward-place : wardFitness n k l ≡ Yes → (r .number ≡ 0 → ⊥)
+      → (r .detail < length ys) × (numberIn (WordFor (getD ys (r .detail) noWearer)) ≡ r .number)
+  desk-ward-place fit other =
+      let (i, e) = ward-place h fit other in
+      (i, sym (ap (λ (y : Wearer). y .verdict) (desk-ward-verdict fit (r .detail) i)) ∙ e)
 
   -- of a ward with some wearer the number is 0 exactly where judging answers 0 for every wearer
   pub desk-ward-zero : 0 < length ys → (r .number ≡ 0) ↔ ((j : ℕ) → j < length ys → numberIn (WordFor (getD ys j noWearer)) ≡ 0)

@@ -50,11 +50,11 @@ pub record FirstAt (vs : List ℕ) (d v : ℕ) : Type 0 where
   pub other : v ≢ 0
   pub before : (j : ℕ) → j < d → getD vs j 0 ≡ 0
 
--- what is answered where the list's first verdict has the place i: yes, or the first other verdict
-pub record OtherFrom (vs : List ℕ) (i : ℕ) (r : Answer) : Type 0 where
-  pub place : ℕ
-  pub told : r .detail ≡ i + place
-  pub first : FirstAt vs place (r .number)
+-- what is answered where some verdict is not yes: the first of them, and its place, counted from i
+record OtherFrom (vs : List ℕ) (i : ℕ) (r : Answer) : Type 0 where
+  place : ℕ
+  told : r .detail ≡ i + place
+  first : FirstAt vs place (r .number)
 
 later : (v : ℕ) (vs : List ℕ) (d : ℕ) → v ≡ 0 → ((j : ℕ) → j < d → getD vs j 0 ≡ 0) → (j : ℕ) → j < suc d → getD (v ∷ vs) j 0 ≡ 0
 later v vs d e f zero h = e

@@ -5,7 +5,6 @@ use mathlib.Core.List.{List, [], _∷_}
 use mathlib.Core.WellFounded.{WellFounded, InvImage·accessible}
 use Prim.Native.Nat.{ℕ, suc, _+_, _-_, _*_, _<_, _≤_, _^_}
 use native.Mathlib.Omega.{arith}
-use native.Mathlib.Numerals.{add-one}
 use lib.Dec.{T, ltb}
 use borrow.Author.Tests.{ltb-false}
 use lib.WfN.{Nat·lt-wfRel}
@@ -54,10 +53,11 @@ off false _ = refl
 not-below : (i n : ℕ) → T (not (ltb i n)) → n ≤ i
 not-below i n h = ltb-false i n (off (ltb i n) h)
 
--- the test of the `while`
+-- a wearer to be judged is one of the list
 pub below-within : (i c n : ℕ) → i < c → c ≤ n → i < n
 below-within i c n l le = omega arith
 
+-- where the test of the `while` fails, all that are to be judged are judged
 pub met-end : (i n : ℕ) → i ≤ n → T (not (ltb i n)) → i ≡ n
 met-end i n le h = same (not-below i n h)
   where

@@ -4,21 +4,22 @@ use mathlib.Core.Path.{_≡_, refl, sym, _∙_}
 use mathlib.Core.Bool.{Bool, true, false, _||_}
 use mathlib.Core.List.{List}
 use mathlib.Core.Logic.{_↔_}
-use Prim.Native.Nat.{ℕ, zero, suc, _^_}
+use Prim.Native.Nat.{ℕ, zero, suc, _^_, _<_, _≤_}
 use native.Mathlib.Omega.{arith}
 use lib.Dec.{leb, ltb, eqb}
 use lib.ListN.{length}
-use borrow.Author.Tests.{lt-leb}
-use Rattle.limits.specs.Ceilings.{modesMost, coloursMost}
-use Rattle.refusals.specs.declared.Refusal.the-variants.{ModeCount, StartMode, ArcLists, ColourCount}
+use borrow.Author.Tests.{le-leb, lt-leb}
+use Rattle.limits.specs.Ceilings.{modesMost, coloursMost, boundMost}
+use Rattle.refusals.specs.declared.Refusal.the-variants.{ModeCount, StartMode, ArcLists, ColourCount, Levels}
 use Rattle.refusals.specs.declared.Verdict.{Verdict}
 use Rattle.refusals.specs.declared.Verdict.the-variants.{Yes}
-use Rattle.refusals.specs.Refusals.{refuse, andThen}
+use Rattle.refusals.specs.Refusals.{answer, answerOf, refuse, andThen}
 use Rattle.refusals.proofs.Verdicts.{refuse-yes}
+use Rattle.refusals.proofs.Tests.{or-no, lt-no}
 use Rattle.model.specs.Lists.{Lists, automatonOf}
-use Rattle.model.specs.Fitness.{unfitLists, header, arcsFitness, fitness, EqualLists, Fit}
+use Rattle.model.specs.Fitness.{unfitLists, header, arcsFitness, fitness, levelsOf, EqualLists, Fit}
 use Rattle.model.proofs.Fitness.{fitness-yes}
-use Rattle.judge.specs.Judged.{judgedLevels, judged}
+use Rattle.judge.specs.Judged.{judgedPlan, judgedLevels, judged, judgedAnswer}
 use Rattle.ward.specs.Ward.{wardFitness}
 
 -- four rows and what is checked after them, top to bottom
@@ -85,6 +86,10 @@ module _ (n k : ℕ) (l : Lists) where
   unfolding wardFitness
   ward-fitness-yes = fitness-yes n 0 k l
 
+  -- it is unfit, by the same number and detail, as judging says of every wearer whose start mode is below n
+  pub ward-fitness-same : (s : ℕ) → s < n → wardFitness n k l ≡ fitness n s k l
+  ward-fitness-same s below = ward-order ∙ sym (rw (fitness-order s, lt-leb n s below) refl)
+
   -- a model that is fit with some start mode is so for a ward
   pub fit-ward : (s : ℕ) → fitness n s k l ≡ Yes → wardFitness n k l ≡ Yes
   fit-ward s e =
@@ -104,3 +109,21 @@ module _ (n k : ℕ) (l : Lists) where
           ≡ refuse t StartMode (judgedLevels (automatonOf n s k l) x b c p q w)
       refused true = refl
       refused false = refl
+
+  -- .. 2 for a start mode that is not below n, whatever b, c and the plan are,
+  pub ward-start : wardFitness n k l ≡ Yes → (s x b c p q : ℕ) (w : List ℕ) → n ≤ s → judgedAnswer n s k l x b c p q w ≡ answer 2 0
+  ward-start e s x b c p q w high = rw (ward-wearer e s x b c p q w, le-leb n s high) refl
+
+  -- .. and else 6 for b above 8,191, or c above b, whatever the plan is
+  pub ward-levels : wardFitness n k l ≡ Yes → (s x b c p q : ℕ) (w : List ℕ) → s < n → ((b ≤ boundMost) × (c ≤ b) → ⊥)
+      → judgedAnswer n s k l x b c p q w ≡ answer 6 0
+  unfolding judgedLevels levelsOf
+  ward-levels e s x b c p q w below wrong =
+      rw (ward-wearer e s x b c p q w, lt-leb n s below) (go (ltb boundMost b || ltb b c) refl)
+    where
+      go : (t : Bool) → (ltb boundMost b || ltb b c) ≡ t
+          → answerOf (andThen (refuse t Levels Yes) (judgedPlan (automatonOf n s k l) x b c p q w)) ≡ answer 6 0
+      go true f = refl
+      go false f =
+          let no = or-no (ltb boundMost b) (ltb b c) .0 f in
+          absurd (wrong (lt-no boundMost b .0 (no .0), lt-no b c .0 (no .1)))

@@ -1,8 +1,8 @@
 -- What a ward's call says: the model's unfitness, or every wearer's verdict, by judging and by the definition of a plan that is right for a wearer.
 -- Assumes nothing.
-use mathlib.Core.Path.{_≡_, refl, sym, ap, _∙_, subst}
+use mathlib.Core.Path.{_≡_, refl, sym, ap, _∙_}
 use mathlib.Core.Logic.{_↔_, _≢_}
-use mathlib.Core.List.{List, [], _∷_, map}
+use mathlib.Core.List.{List, [], _∷_, map, map-map}
 use Prim.Native.Nat.{ℕ, zero, suc, _<_}
 use native.Mathlib.Nat.{not-suc-le-zero, le-of-suc-le-suc}
 use native.Mathlib.Omega.{arith}
@@ -11,10 +11,10 @@ use Rattle.refusals.specs.declared.Answer.{Answer}
 use Rattle.refusals.specs.declared.Refusal.{Refusal}
 use Rattle.refusals.specs.declared.Verdict.{Verdict}
 use Rattle.refusals.specs.declared.Verdict.the-variants.{Yes, Refused}
-use Rattle.refusals.specs.Refusals.{answer, numbered, answerOf}
+use Rattle.refusals.specs.Refusals.{answer, numbered}
 use Rattle.refusals.proofs.Numbers.{refusal-number}
 use Rattle.model.specs.Lists.{Lists, automatonOf}
-use Rattle.model.specs.Fitness.{fitness, EqualLists, Fit}
+use Rattle.model.specs.Fitness.{EqualLists, Fit}
 use Rattle.model.proofs.Fitness.{fitness-yes}
 use Rattle.judge.specs.Judged.{judgedAnswer, Right}
 use Rattle.judge.proofs.Judged.{judged-zero}
@@ -46,9 +46,9 @@ module _ (n k : ℕ) (l : Lists) (x p q : ℕ) (w : List ℕ) where
   verdict-right y = judged-zero n (y .start) k l x (y .b) (y .c) p q w
 
   -- what a verdict field holds at entry is not looked at
-  pub verdict-junk : (y : Wearer) (v : ℕ) → verdictOf n k l x p q w (withVerdict y v) ≡ verdictOf n k l x p q w y
+  pub verdict-unread : (y : Wearer) (v : ℕ) → verdictOf n k l x p q w (withVerdict y v) ≡ verdictOf n k l x p q w y
   unfolding verdictOf
-  verdict-junk y v = refl
+  verdict-unread y v = refl
 
 module _ {n k : ℕ} {l : Lists} {x p q : ℕ} {w : List ℕ} {ys zs : List Wearer} {r : Answer} (h : WardOf n k l x p q w ys zs r) where
   -- "An unfit model met before any wearer (1, 3, 4, 5) ends the call with its number and detail and no verdict written, even on an empty list"
@@ -70,7 +70,8 @@ module _ {n k : ℕ} {l : Lists} {x p q : ℕ} {w : List ℕ} {ys zs : List Wear
   -- "fill every verdict with the number judging gives for that wearer, 0 for yes. Other fields keep their content."
   pub ward-verdict : wardFitness n k l ≡ Yes → (j : ℕ) → j < length ys
       → let y = getD ys j noWearer in
-      getD zs j noWearer ≡ withVerdict y (judgedAnswer n (y .start) k l x (y .b) (y .c) p q w .number)
+      let v = judgedAnswer n (y .start) k l x (y .b) (y .c) p q w .number in
+      getD zs j noWearer ≡ record { start = y .start; c = y .c; b = y .b; verdict = v }
   unfolding verdictOf
   ward-verdict e j i =
       ap (λ (us : List Wearer). getD us j noWearer) (ward-fit e .1)
@@ -123,9 +124,74 @@ module _ {n k : ℕ} {l : Lists} {x p q : ℕ} {w : List ℕ} {ys zs : List Wear
         ap (λ (a : Answer). a .number) (ward-all fit .1 g),
   )
 
-  -- where the model is fit: "else the first other verdict, with its wearer's place, from 0, as detail"
-  pub ward-other : wardFitness n k l ≡ Yes → (d v : ℕ) → v ≢ 0 → (r ≡ answer v d) ↔ FirstAt (map (verdictOf n k l x p q w) ys) d v
+  -- the verdicts written are those that the answer is made of
+  verdicts-written : wardFitness n k l ≡ Yes → map (λ (z : Wearer). z .verdict) zs ≡ map (verdictOf n k l x p q w) ys
+  verdicts-written fit =
+      ap (λ (us : List Wearer). map (λ (z : Wearer). z .verdict) us) (ward-fit fit .1)
+      ∙ map-map (λ (z : Wearer). z .verdict) (λ y. withVerdict y (verdictOf n k l x p q w y)) ys
+
+  -- where the model is fit: "else the first other verdict, with its wearer's place, from 0, as detail", of the verdicts that the call leaves
+  pub ward-other : wardFitness n k l ≡ Yes → (d v : ℕ) → v ≢ 0 → (r ≡ answer v d) ↔ FirstAt (map (λ (z : Wearer). z .verdict) zs) d v
   ward-other fit d v other =
-      let told = ward-fit fit .0 in
-      let first = first-other (map (verdictOf n k l x p q w) ys) d v other in
+      let told = ward-fit fit .0 ∙ ap (λ (vs : List ℕ). firstOther vs 0) (sym (verdicts-written fit)) in
+      let first = first-other (map (λ (z : Wearer). z .verdict) zs) d v other in
       (λ e. first .0 (sym told ∙ e), λ z. told ∙ first .1 z)
+
+  -- then the detail is the place of a wearer, and the number is its verdict
+  pub ward-place : wardFitness n k l ≡ Yes → r .number ≢ 0 → (r .detail < length ys) × (getD zs (r .detail) noWearer .verdict ≡ r .number)
+  ward-place fit other =
+      let first = ward-other fit (r .detail) (r .number) other .0 refl in
+      let i : r .detail < length zs = omega (arith, first .within, length-map zs (λ (z : Wearer). z .verdict)) in
+      (omega (arith, i, ward-length), sym (getD-mapped (λ (z : Wearer). z .verdict) zs (r .detail) noWearer 0 i) ∙ first .here)
+
+-- two lists of wearers that agree in start mode, c and b
+abbrev pub SameButVerdicts : List Wearer → List Wearer → Type 0
+SameButVerdicts ys us = map (λ y. withVerdict y 0) ys ≡ map (λ y. withVerdict y 0) us
+
+-- a function that does not look at verdict fields does not tell such lists apart
+same-mapped : {B : Type 0} (g : Wearer → B) → ((y : Wearer) → g (withVerdict y 0) ≡ g y) → (ys us : List Wearer) → SameButVerdicts ys us
+    → map g ys ≡ map g us
+same-mapped g unread ys us same = sym (blank ys) ∙ ap (λ (ts : List Wearer). map g ts) same ∙ blank us
+  where
+    blank : (ts : List Wearer) → map g (map (λ y. withVerdict y 0) ts) ≡ map g ts
+    blank [] = refl
+    blank (t ∷ ts) = rw (unread t, blank ts) refl
+
+-- the wearers with their verdicts are such a list
+filled-same : (v : Verdict) (f : Wearer → ℕ) (ys : List Wearer) → SameButVerdicts ys (filledIf v f ys)
+filled-same Yes f ys = sym (map-map (λ y. withVerdict y 0) (λ y. withVerdict y (f y)) ys)
+filled-same (Refused r) f ys = refl
+
+-- "Other fields keep their content.", whether the model is fit or not
+pub ward-kept : {n k : ℕ} {l : Lists} {x p q : ℕ} {w : List ℕ} {ys zs : List Wearer} {r : Answer} → WardOf n k l x p q w ys zs r
+    → SameButVerdicts ys zs
+ward-kept {n} {k} {l} {x} {p} {q} {w} {ys} h = rw (h .filled) (filled-same (wardFitness n k l) (verdictOf n k l x p q w) ys)
+
+-- a call on the wearers ys, which it leaves as zs, and one on us, which it leaves as vs, with the same model and plan
+module _ {n k : ℕ} {l : Lists} {x p q : ℕ} {w : List ℕ} {ys zs us vs : List Wearer} {r s : Answer}
+    (h : WardOf n k l x p q w ys zs r) (i : WardOf n k l x p q w us vs s) where
+  -- What verdict fields hold at entry is not looked at: the answers are the same, and where the model is fit so are the wearers that the calls leave
+  pub ward-same : SameButVerdicts ys us → (r ≡ s) × (wardFitness n k l ≡ Yes → zs ≡ vs)
+  ward-same same =
+      let f = verdictOf n k l x p q w in
+      let answers = same-mapped f (λ y. verdict-unread n k l x p q w y 0) ys us same in
+      let fills = same-mapped (λ y. withVerdict y (f y)) (λ y. ap (λ (v : ℕ). withVerdict y v) (verdict-unread n k l x p q w y 0)) ys us same in (
+        h .answered ∙ answered-same (wardFitness n k l) answers ∙ sym (i .answered),
+        λ fit. ward-fit h fit .1 ∙ fills ∙ sym (ward-fit i fit .1),
+      )
+    where
+      answered-same : (v : Verdict) → map (verdictOf n k l x p q w) ys ≡ map (verdictOf n k l x p q w) us
+          → answeredIf v (verdictOf n k l x p q w) ys ≡ answeredIf v (verdictOf n k l x p q w) us
+      answered-same Yes e = ap (λ (ts : List ℕ). firstOther ts 0) e
+      answered-same (Refused z) e = refl
+
+-- a call on the wearers that a call left gives the same answer, and leaves them as they are
+pub ward-again : {n k : ℕ} {l : Lists} {x p q : ℕ} {w : List ℕ} {ys zs us : List Wearer} {r s : Answer}
+    → WardOf n k l x p q w ys zs r → WardOf n k l x p q w zs us s → (s ≡ r) × (us ≡ zs)
+ward-again {n} {k} {l} {zs = zs} {us = us} h i =
+    let same = ward-same h i (ward-kept h) in
+    (sym (same .0), go (wardFitness n k l) refl (same .1))
+  where
+    go : (v : Verdict) → wardFitness n k l ≡ v → (wardFitness n k l ≡ Yes → zs ≡ us) → us ≡ zs
+    go Yes fit kept = sym (kept fit)
+    go (Refused z) unfit kept = ward-unfit i z unfit .1

@@ -6,7 +6,7 @@ use Rattle.refusals.specs.declared.Answer.{Answer}
 use Rattle.refusals.specs.declared.Refusal.{Refusal}
 use Rattle.refusals.specs.declared.Verdict.the-variants.{Yes, Refused}
 use Rattle.refusals.specs.Refusals.{answer, numbered}
-use Rattle.model.specs.Lists.{Lists, lists}
+use Rattle.model.specs.Lists.{Lists}
 use Rattle.model.specs.Fitness.{fittedOf}
 use Rattle.model.specs.declared.Fitted.{Fitted}
 use Rattle.model.proofs.Held.{told-verdict}
