@@ -2,16 +2,19 @@
 use mathlib.Core.Path.{_≡_, sym, ap, _∙_, subst}
 use mathlib.Core.Bool.{Bool, true, false}
 use mathlib.Core.List.{List, _∷_, _++_}
-use Prim.Native.Nat.{ℕ, suc, _+_, _≤_, _<_}
+use Prim.Native.Nat.{ℕ, suc, _+_, _-_, _≤_, _<_}
 use native.Mathlib.Numerals.{add-one}
 use native.Mathlib.Omega.{arith}
 use lib.Dec.{eqb}
 use lib.ListN.{length, length-append}
 use borrow.Author.Tests.{eq-eqb, ne-eqb}
+use mir.Syntax.{w64}
+use mir.Val.{Fits}
 use Rattle.limits.specs.Ceilings.{arcsMost}
 use Rattle.model.specs.declared.Arc.{Arc}
 use Rattle.model.specs.declared.Model.{Model}
 use Rattle.model.specs.Lists.{Lists, held}
+use Rattle.model.specs.Fitness.{Holds}
 use Rattle.model.proofs.Bits.{colours-below}
 use Rattle.model.proofs.Held.{arcIn, holds-arc}
 use Rattle.filling.specs.Filling.{Narrow, AllNarrow, put, Written}
@@ -20,6 +23,14 @@ use Rattle.filling.proofs.Writing.{Writing, writing-none, writing-rest, writing
 use Rattle.join.specs.Joined.{joinArc, keep, joinRow}
 use Rattle.join.specs.Within.{joinedHeld, RowFits, AllFit}
 use Rattle.join.proofs.Rows.{rowFrom, row-turn, row-end, rowsFrom, rowOf, rows-turn, rows-end}
+
+-- a turn brings the end of a loop nearer
+pub turn-less : {n i : ℕ} → i < n → n - (i + 1) < n - i
+turn-less h = omega arith
+
+-- and its number fits a word
+pub turn-fits : {g : Model} {i : ℕ} → Holds g → i < g .count → Fits w64 (i + 1)
+turn-fits holds h = record { fits = omega (arith, holds .count, holds .fit .few-arcs) }
 
 -- of the row of a knee's arc, to be written from place `from` on, the arcs before the habit's arc j are written
 pub record RowWriting (k : ℕ) (x : Arc) (h : Model) (from : ℕ) (old now : Lists) (i j : ℕ) : Type 0 where
@@ -77,6 +88,10 @@ module _ (k : ℕ) (x : Arc) (h : Model) (from : ℕ) (old : Lists) where
                 subst (λ (l : Lists). Writing row (rowFrom k x h (suc j)) from (suc i) old l) (sym e)
                 (writing-put row from i old now arc (rowFrom k x h (suc j)) (writing-rest row from i old now _ _ next (state .writing)));
           }
+
+      -- by the arc that the code makes
+      pub row-writing-made : {made : Arc} (left : Lists) → made ≡ arc → left ≡ put now i made → RowWriting k x h from old left (i + 1) (j + 1)
+      row-writing-made left same e = row-writing-put left (e ∙ ap {B = Lists} (put now i) same)
 
     pub row-writing-done : h .count ≤ j → Written row from old i now
     row-writing-done ge =

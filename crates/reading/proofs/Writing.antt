@@ -2,9 +2,11 @@
 use mathlib.Core.Path.{_≡_, refl, sym, ap, subst, _∙_}
 use mathlib.Core.Bool.{Bool, true, false, cond}
 use mathlib.Core.List.{List, [], _∷_, map}
-use Prim.Native.Nat.{ℕ, suc, _+_, _-_, _≤_, _<_}
+use Prim.Native.Nat.{ℕ, suc, _+_, _-_, _*_, _^_, _≤_, _<_}
 use native.Mathlib.Omega.{arith}
 use lib.ListN.{length, take, drop}
+use mir.Syntax.{w64}
+use mir.Val.{Fits}
 use Rattle.model.specs.declared.Arc.{Arc}
 use Rattle.model.specs.Lists.{Lists}
 use Rattle.fields.specs.Bytes.{feed}
@@ -64,6 +66,13 @@ module _ {body lines : List ℕ} {old now : Lists} {h d s i : ℕ} {r : Next} {e
   -- the line is not empty, and within the text
   pub turn-ends : (d < e) × (e ≤ length lines)
   turn-ends = end-bounds feed lines d e (t .here) (t .line)
+
+  -- the end of the lines comes nearer, and the number of the next arc fits a word
+  pub turn-less : length lines - e < length lines - d
+  turn-less = omega (arith, turn-ends)
+
+  pub turn-fits : length lines * 1 < 2 ^ 63 → Fits w64 (i + 1)
+  turn-fits short = record { fits = omega (arith, t .here, t .writing .count) }
 
   -- the first of the lines that are left, of the edges, and of the arcs
   first-line : linesLeft lines d ≡ textArcOn (lineFound lines d e) ∷ linesLeft lines e

@@ -9,6 +9,7 @@ use native.Mathlib.Omega.{arith}
 use lib.ListN.{length, getD, take, drop, set, length-append, length-drop, drop-of-length-le}
 use lib.Seq.{length-take-le, take-at, drop-at, take-append-add, drop-append-add, take-suc-set, drop-set-lt, drop-drop}
 use Rattle.limits.specs.Ceilings.{coloursMost, productMost, planBuffer}
+use Rattle.refusals.proofs.Verdicts.{clash}
 use Rattle.model.specs.Automaton.{Automaton}
 use Rattle.model.specs.Plans.{Plan}
 use Rattle.model.proofs.Required.{required-room}
@@ -138,6 +139,11 @@ pub written-lasso : {g : Net} {b c : ℕ} {plan plan′ : List ℕ} {r : Searche
     → (r ≡ noPlan) ↔ (AcceptedLasso g b c → ⊥)
 written-lasso (none e) not = absurd (not refl)
 written-lasso (found f) not = (λ e. absurd (not e), λ no. absurd (no (f .lasso)))
+
+-- what is answered where a lasso is handed back
+pub lasso-answered : {g : Net} {b c p q : ℕ} {plan plan′ : List ℕ} → LassoFound g b c p q plan plan′
+    → ((outcome.Plan p q ≡ noPlan) ↔ (AcceptedLasso g b c → ⊥)) × Written g b c plan plan′ (outcome.Plan p q)
+lasso-answered f = (written-lasso (found f) (λ e. clash (cc)), found f)
 
 -- in the words of the model, where the net stands for it
 pub written-answered : (g : Automaton) (x : ℕ) {b c : ℕ} {plan plan′ : List ℕ} {r : Searched} → g .colours ≤ coloursMost

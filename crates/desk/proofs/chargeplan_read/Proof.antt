@@ -11,27 +11,31 @@ read-requires c κs = search needs
 tell-requires : tie.Need-tell-requires
 tell-requires c κs = search needs
 
+-- from the end to the call that reads
+abbrev called : tie.After-tell → tie.After-read
+called c = c .before .before .before .before .before .before .before .before .before .before .before .before .before
+
 same-length : tie.Need-same-length
-same-length c = search needs
+same-length c = called c .read .kept .1 .1 .0
 
 same-length-2 : tie.Need-same-length-2
-same-length-2 c = search needs
+same-length-2 c = called c .read .kept .1 .1 .1 .0
 
 same-length-3 : tie.Need-same-length-3
-same-length-3 c = search needs
+same-length-3 c = called c .read .kept .1 .1 .1 .1 .0
 
 same-length-4 : tie.Need-same-length-4
-same-length-4 c = search needs
+same-length-4 c = called c .read .kept .1 .1 .1 .1 .1 .0
 
 same-length-5 : tie.Need-same-length-5
-same-length-5 c = search needs
+same-length-5 c = called c .read .kept .1 .1 .1 .1 .1 .1 .0
 
 same-length-6 : tie.Need-same-length-6
-same-length-6 c = search needs
+same-length-6 c = called c .read .kept .1 .1 .1 .1 .1 .1 .1 .0
 
 returns : tie.Need-returns
 returns c =
-    let d = c .before .before .before .before .before .before .before .before .before .before .before .before .before in
+    let d = called c in
     (c .tell .ensures ∙ read-same (d .read .ensures .1 .0) (d .read .ensures .0), d .read .ensures .1 .1)
 
 pub chargeplan-read-spec : {M : Type 1} → statement M

@@ -39,27 +39,31 @@ join-fitted-requires c κs =
     both-hold (knee-given s) (habit-given s) (knee .check-model .result) (habit .check-model2 .result) (knee .check-model .ensures)
     (habit .check-model2 .ensures)
 
+-- from the end to the call that joins: the lists are as long as it leaves them
+abbrev called : tie.After-slice-known12 → tie.After-join-fitted
+called c = c .before .before .before .before .before .before .before .before .before .before .before .before
+
 same-length : tie.Need-same-length
-same-length c = search needs
+same-length c = called c .join-fitted .kept .1 .1 .0
 
 same-length-2 : tie.Need-same-length-2
-same-length-2 c = search needs
+same-length-2 c = called c .join-fitted .kept .1 .1 .1 .0
 
 same-length-3 : tie.Need-same-length-3
-same-length-3 c = search needs
+same-length-3 c = called c .join-fitted .kept .1 .1 .1 .1 .0
 
 same-length-4 : tie.Need-same-length-4
-same-length-4 c = search needs
+same-length-4 c = called c .join-fitted .kept .1 .1 .1 .1 .1 .0
 
 same-length-5 : tie.Need-same-length-5
-same-length-5 c = search needs
+same-length-5 c = called c .join-fitted .kept .1 .1 .1 .1 .1 .1 .0
 
 same-length-6 : tie.Need-same-length-6
-same-length-6 c = search needs
+same-length-6 c = called c .join-fitted .kept .1 .1 .1 .1 .1 .1 .1 .0
 
 returns : tie.Need-returns
 returns c =
-    let call = c .before .before .before .before .before .before .before .before .before .before .before .before in
+    let call = called c in
     let habit = call .before .before .before .before .before .before .before in
     let knee = habit .before in
     let s = start knee in

@@ -55,7 +55,10 @@ write-all-requires c κs =
     let s = start (e .before .before) in
     may-write (s .args .knee) (s .args .habit) (s .pre) (lists-of s) (yes e)
 
--- from where the arcs are written to where the verdict is known
+-- from the end to where the arcs are written, and from there to where the verdict is known
+abbrev written-of : tie.After-numbers → tie.After-write-all
+written-of c = c .before .before .before .before .before .before .before .before .before .before .before .before .before
+
 abbrev told-of : tie.After-write-all → tie.After-enum-told
 told-of w = w .before .before .before .before .before .before .before .before .before
 
@@ -74,26 +77,26 @@ returns c =
     (c .refused .ensures ∙ refused-answer (verdict-on s) (whole s) _ refusal, refused-kept (verdict-on s) (whole s) _ refusal (lists-of s))
 
 same-length : tie.Need-same-length
-same-length c = search needs
+same-length c = written-of c .write-all .kept .1 .1 .0
 
 same-length-2 : tie.Need-same-length-2
-same-length-2 c = search needs
+same-length-2 c = written-of c .write-all .kept .1 .1 .1 .0
 
 same-length-3 : tie.Need-same-length-3
-same-length-3 c = search needs
+same-length-3 c = written-of c .write-all .kept .1 .1 .1 .1 .0
 
 same-length-4 : tie.Need-same-length-4
-same-length-4 c = search needs
+same-length-4 c = written-of c .write-all .kept .1 .1 .1 .1 .1 .0
 
 same-length-5 : tie.Need-same-length-5
-same-length-5 c = search needs
+same-length-5 c = written-of c .write-all .kept .1 .1 .1 .1 .1 .1 .0
 
 same-length-6 : tie.Need-same-length-6
-same-length-6 c = search needs
+same-length-6 c = written-of c .write-all .kept .1 .1 .1 .1 .1 .1 .1 .0
 
 returns-2 : tie.Need-returns-2
 returns-2 c =
-    let w = c .before .before .before .before .before .before .before .before .before .before .before .before .before in
+    let w = written-of c in
     let e = told-of w in
     let s = start (e .before .before) in (
       c .numbers .ensures ∙ joined-numbers (s .args .knee) (s .args .habit) (s .pre) (lists-of s) (yes e) _ _ (w .write-all .ensures),

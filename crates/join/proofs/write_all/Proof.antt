@@ -3,7 +3,7 @@ use Prim.Native.Nat.{_-_}
 use borrow.Author.Needs.{needs}
 use Rattle.model.specs.Lists.{Lists, lists}
 use Rattle.filling.proofs.Writing.{SameLengths, writing-lengths}
-use Rattle.join.proofs.Writing.{AllWriting, all-writing-none, all-writing-row, all-writing-more, all-writing-done}
+use Rattle.join.proofs.Writing.{turn-less, turn-fits, AllWriting, all-writing-none, all-writing-row, all-writing-more, all-writing-done}
 use Rattle.join.proofs.write_all.Statement.{statement}
 use Rattle.join.proofs.write_all.Tie as tie
 
@@ -47,20 +47,26 @@ write-row-requires c κs =
     let a = start head .args in
     all-writing-row (a .t1) (a .habit) (lists-in (start head)) (lists-at head) (head .loop .at) (head .loop .i) (head .loop .inv) (inside .loop-test .taken)
 
+-- from the end of a turn to where its row is written, and to its beginning
+abbrev called-of : tie.After-slice-known12 Inv-loop μ-loop → tie.After-write-row Inv-loop μ-loop
+called-of c = c .before .before .before .before .before .before .before .before .before .before .before .before
+
+abbrev turn-of : tie.After-slice-known12 Inv-loop μ-loop → tie.In-loop Inv-loop μ-loop
+turn-of c = called-of c .before .before .before .before .before .before .before .before
+
 add-i : tie.Need-add-i Inv-loop μ-loop
-add-i c = search needs
+add-i c = let t = turn-of c in turn-fits (t .before .loop .inv .fits .knee) (t .loop-test .taken)
 
 loop-less : tie.Need-loop-less Inv-loop μ-loop
-loop-less c = search needs
+loop-less c = turn-less (turn-of c .loop-test .taken)
 
 loop-again : tie.Need-loop-again Inv-loop μ-loop
 loop-again c =
-    let called = c .before .before .before .before .before .before .before .before .before .before .before .before in
-    let inside = called .before .before .before .before .before .before .before .before in
+    let inside = turn-of c in
     let head = inside .before in
     let a = start head .args in
     all-writing-more (a .t1) (a .habit) (lists-in (start head)) (lists-at head) (head .loop .at) (head .loop .i) (head .loop .inv) (inside .loop-test .taken)
-    _ _ (called .write-row .ensures)
+    _ _ (called-of c .write-row .ensures)
 
 lengths : (d : tie.At-loop Inv-loop μ-loop) → SameLengths (lists-in (start d)) (lists-at d)
 lengths d = writing-lengths _ _ _ _ _ _ (d .loop .inv .writing)

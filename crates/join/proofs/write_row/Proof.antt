@@ -1,14 +1,13 @@
 -- `join::write_row` meets its contract: the loop keeps `RowWriting`. Assumes nothing.
-use mathlib.Core.Path.{ap, _∙_}
 use Prim.Native.Nat.{_-_, _<_}
 use borrow.Author.Needs.{needs}
 use Rattle.limits.specs.Ceilings.{arcsMost}
 use Rattle.model.specs.Lists.{Lists, lists}
 use Rattle.model.proofs.Held.{arcIn}
-use Rattle.filling.specs.Filling.{Narrow, put}
+use Rattle.filling.specs.Filling.{Narrow}
 use Rattle.filling.proofs.Writing.{SameLengths, writing-lengths}
 use Rattle.join.specs.Joined.{joinArc}
-use Rattle.join.proofs.Writing.{RowWriting, row-writing-none, row-writing-skip, row-writing-narrow, row-writing-place, row-writing-put, row-writing-done}
+use Rattle.join.proofs.Writing.{turn-less, RowWriting, row-writing-none, row-writing-skip, row-writing-narrow, row-writing-place, row-writing-made, row-writing-done}
 use Rattle.join.proofs.write_row.Statement.{statement}
 use Rattle.join.proofs.write_row.Tie as tie
 
@@ -49,7 +48,7 @@ add-j : tie.Need-add-j Inv-loop μ-loop
 add-j c = search needs
 
 loop-less : tie.Need-loop-less Inv-loop μ-loop
-loop-less c = search needs
+loop-less c = turn-less (c .before .before .before .before .loop-test .taken)
 
 loop-again : tie.Need-loop-again Inv-loop μ-loop
 loop-again c =
@@ -95,17 +94,17 @@ add-i : tie.Need-add-i Inv-loop μ-loop
 add-i c = let h = place (equal-of c) in search needs
 
 loop-less-2 : tie.Need-loop-less-2 Inv-loop μ-loop
-loop-less-2 c = search needs
+loop-less-2 c = turn-less (taken (equal-of c))
 
 loop-again-2 : tie.Need-loop-again-2 Inv-loop μ-loop
 loop-again-2 c =
     let called = c .before .before .before .before .before .before .before .before .before .before .before .before in
     let made = called .before .before .before .before .before .before .before in
-    let e = made .before in
+    let e = equal-of c in
     let head = head-of e in
     let a = start head .args in
-    row-writing-put (a .k) (a .x) (a .t2) (a .at) (lists-in (start head)) (lists-at head) (head .loop .i) (head .loop .j) (head .loop .inv)
-    (taken e) (e .if1 .left) _ (called .write .ensures ∙ ap {B = Lists} (put (lists-at head) (head .loop .i)) (made .join-arc .ensures))
+    row-writing-made (a .k) (a .x) (a .t2) (a .at) (lists-in (start head)) (lists-at head) (head .loop .i) (head .loop .j) (head .loop .inv)
+    (taken e) (e .if1 .left) _ (made .join-arc .ensures) (called .write .ensures)
 
 lengths : (d : tie.At-loop Inv-loop μ-loop) → SameLengths (lists-in (start d)) (lists-at d)
 lengths d = writing-lengths _ _ _ _ _ _ (d .loop .inv .writing)

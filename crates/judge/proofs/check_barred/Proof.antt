@@ -34,7 +34,7 @@ arc-number : tie.Need-element-copy-out-arc Inv-loop μ-loop
 arc-number c =
     let d = c .before .before in
     let o = d .before .before .pre .1 in
-    omega (arith, o .few, o .below (d .loop .i) (omega arith))
+    omega (arith, o .few, o .below (d .loop .i) (c .before .loop-test .taken))
 
 cast-arc : tie.Need-cast-arc Inv-loop μ-loop
 cast-arc c = omega (arith, arc-number c)
@@ -47,10 +47,11 @@ cast-t17 c = search needs
 
 returns-2 : tie.Need-returns-2 Inv-loop μ-loop
 returns-2 c =
-    let d = c .before .before .before .before .before in
+    let t = c .before .before .before .before in
+    let d = t .before in
     let s = d .before .before in
     let a = s .args in
-    sym (d .loop .inv .1 ∙ barred-stop (a .t1) (a .barred) (a .plan .now) (d .loop .i) (s .pre .0) (s .pre .1) (omega arith) (c .if2 .taken))
+    sym (d .loop .inv .1 ∙ barred-stop (a .t1) (a .barred) (a .plan .now) (d .loop .i) (s .pre .0) (s .pre .1) (t .loop-test .taken) (c .if2 .taken))
 
 add-i : tie.Need-add-i Inv-loop μ-loop
 add-i c = search needs
@@ -60,10 +61,11 @@ loop-less c = search needs
 
 loop-again : tie.Need-loop-again Inv-loop μ-loop
 loop-again c =
-    let d = c .before .before .before .before .before in
+    let t = c .before .before .before .before in
+    let d = t .before in
     let s = d .before .before in
     let a = s .args in
-    (omega arith, d .loop .inv .1 ∙ barred-on (a .t1) (a .barred) (a .plan .now) (d .loop .i) (s .pre .0) (s .pre .1) (omega arith) (c .if2 .left))
+    (omega arith, d .loop .inv .1 ∙ barred-on (a .t1) (a .barred) (a .plan .now) (d .loop .i) (s .pre .0) (s .pre .1) (t .loop-test .taken) (c .if2 .left))
 
 returns-3 : tie.Need-returns-3 Inv-loop μ-loop
 returns-3 c =

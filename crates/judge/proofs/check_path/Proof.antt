@@ -27,10 +27,11 @@ cast-t15 c = search needs
 
 returns : tie.Need-returns Inv-loop μ-loop
 returns c =
-    let d = c .before .before .before in
+    let t = c .before .before in
+    let d = t .before in
     let s = d .before .before in
     let a = s .args in
-    following-number (a .t1) (s .pre .0) (a .plan .now) (d .loop .mode) (d .loop .i) (d .loop .inv) (a .p) (omega arith) (c .if1 .taken)
+    following-number (a .t1) (s .pre .0) (a .plan .now) (d .loop .mode) (d .loop .i) (d .loop .inv) (a .p) (t .loop-test .taken) (c .if1 .taken)
 
 cast-arc : tie.Need-cast-arc Inv-loop μ-loop
 cast-arc c = search needs
@@ -47,11 +48,13 @@ other-mode-requires c κs = search needs
 returns-2 : tie.Need-returns-2 Inv-loop μ-loop
 returns-2 c =
     let e = c .before .before .before .before in
-    let d = e .before .before .before in
+    let t = e .before .before in
+    let d = t .before in
     let s = d .before .before in
     let a = s .args in
     c .other-mode .ensures
-    ∙ following-other (a .t1) (s .pre .0) (a .plan .now) (d .loop .mode) (d .loop .i) (d .loop .inv) (a .p) (omega arith) (e .if1 .left) (c .before .if2 .taken)
+    ∙ following-other (a .t1) (s .pre .0) (a .plan .now) (d .loop .mode) (d .loop .i) (d .loop .inv) (a .p) (t .loop-test .taken)
+    (e .if1 .left) (c .before .if2 .taken)
 
 add-i : tie.Need-add-i Inv-loop μ-loop
 add-i c = search needs
@@ -62,10 +65,11 @@ loop-less c = search needs
 loop-again : tie.Need-loop-again Inv-loop μ-loop
 loop-again c =
     let e = c .before .before .before in
-    let d = e .before .before .before in
+    let t = e .before .before in
+    let d = t .before in
     let s = d .before .before in
     let a = s .args in
-    following-on (a .t1) (s .pre .0) (a .plan .now) (d .loop .mode) (d .loop .i) (d .loop .inv) (a .p) (omega arith) (e .if1 .left) (c .if2 .left)
+    following-on (a .t1) (s .pre .0) (a .plan .now) (d .loop .mode) (d .loop .i) (d .loop .inv) (a .p) (t .loop-test .taken) (e .if1 .left) (c .if2 .left)
 
 shared-slice-read-first : tie.Need-shared-slice-read-first Inv-loop μ-loop
 shared-slice-read-first c = c .before .before .before .before .pre .1

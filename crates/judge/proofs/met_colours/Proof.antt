@@ -35,9 +35,10 @@ shared-slice-read-arc c = search needs
 
 arc-number : tie.Need-element-copy-out-arc Inv-loop μ-loop
 arc-number c =
-    let d = c .before .before .before in
+    let t = c .before .before in
+    let d = t .before in
     let o = d .before .pre .1 in
-    omega (arith, o .few, o .below (d .loop .i) (omega arith))
+    omega (arith, o .few, o .below (d .loop .i) (t .loop-test .taken))
 
 cast-arc : tie.Need-cast-arc Inv-loop μ-loop
 cast-arc c = omega (arith, arc-number c)
@@ -56,9 +57,11 @@ loop-less c = search needs
 
 loop-again : tie.Need-loop-again Inv-loop μ-loop
 loop-again c =
-    let d = c .before .before .before .before .before in
+    let t = c .before .before .before .before in
+    let d = t .before in
     let a = d .before .args in
-    (omega arith, d .loop .inv .1 ∙ met-on (a .t1) (a .arcs .now) (d .loop .i) (d .loop .met) (omega arith) (d .before .pre .1 .below (d .loop .i) (omega arith)))
+    let here = t .loop-test .taken in
+    (omega arith, d .loop .inv .1 ∙ met-on (a .t1) (a .arcs .now) (d .loop .i) (d .loop .met) here (d .before .pre .1 .below (d .loop .i) here))
 
 returns-2 : tie.Need-returns-2 Inv-loop μ-loop
 returns-2 c =

@@ -28,7 +28,7 @@ arc-number : tie.Need-element-copy-out-arc Inv-loop μ-loop
 arc-number c =
     let d = c .before .before in
     let o = d .before .before .pre .0 in
-    omega (arith, o .few, o .below (d .loop .i) (omega arith))
+    omega (arith, o .few, o .below (d .loop .i) (c .before .loop-test .taken))
 
 cast-arc : tie.Need-cast-arc Inv-loop μ-loop
 cast-arc c = omega (arith, arc-number c)
@@ -53,11 +53,13 @@ add-t21 c = search needs
 
 returns : tie.Need-returns Inv-loop μ-loop
 returns c =
-    let d = c .before .before .before .before .before .before in
+    let t = c .before .before .before .before .before in
+    let d = t .before in
     let a = d .before .before .args in
+    let here = t .loop-test .taken in
     sym (d .loop .inv .1
-    ∙ ran-stop (a .t1) (a .bound) (a .arcs .now) (d .loop .i) (a .step) (d .loop .reached) (omega arith)
-    (d .before .before .pre .0 .below (d .loop .i) (omega arith))
+    ∙ ran-stop (a .t1) (a .bound) (a .arcs .now) (d .loop .i) (a .step) (d .loop .reached) here
+    (d .before .before .pre .0 .below (d .loop .i) here)
     (sym (c .before .before .bounded-step .ensures) ∙ c .enum-told .given .1))
 
 add-i : tie.Need-add-i Inv-loop μ-loop
@@ -68,12 +70,14 @@ loop-less c = search needs
 
 loop-again : tie.Need-loop-again Inv-loop μ-loop
 loop-again c =
-    let d = c .before .before .before .before .before .before .before in
-    let a = d .before .before .args in (
+    let t = c .before .before .before .before .before .before in
+    let d = t .before in
+    let a = d .before .before .args in
+    let here = t .loop-test .taken in (
       omega arith,
       d .loop .inv .1
-          ∙ ran-on (a .t1) (a .bound) (a .arcs .now) (d .loop .i) (a .step) (d .loop .reached) (omega arith)
-          (d .before .before .pre .0 .below (d .loop .i) (omega arith)) _ _
+          ∙ ran-on (a .t1) (a .bound) (a .arcs .now) (d .loop .i) (a .step) (d .loop .reached) here
+          (d .before .before .pre .0 .below (d .loop .i) here) _ _
           (sym (c .before .before .before .bounded-step .ensures) ∙ c .before .next .given .1),
     )
 

@@ -36,8 +36,9 @@ returns c =
     let x = c .before .before in
     let d = x .before .before in
     let a = d .before .before .before .args in
+    let here = x .before .loop-test .taken in
     sym (d .loop .inv .2 ∙ turn-spent (a .body .now) (d .loop .h) (d .loop .source) (x .next-edge .result) (x .next-edge .ensures) (a .arcs .now) (d .loop .d)
-    (omega arith) (not-true _ (c .if1 .taken)))
+    here (not-true _ (c .if1 .taken)))
 
 piece-end-requires : tie.Need-piece-end-requires Inv-loop μ-loop
 piece-end-requires c κs = search needs
@@ -63,7 +64,8 @@ part-same-ends-end-2 c =
     let d = x .before .before in
     let a = d .before .before .before .args in
     let f = c .before in
-    omega (arith, end-bounds 10 (a .arcs .now) (d .loop .d) (f .piece-end .result) (omega arith) (f .piece-end .ensures))
+    let here = x .before .loop-test .taken in
+    omega (arith, end-bounds 10 (a .arcs .now) (d .loop .d) (f .piece-end .result) here (f .piece-end .ensures))
 
 same-ends-requires : tie.Need-same-ends-requires Inv-loop μ-loop
 same-ends-requires c κs = search needs
@@ -75,15 +77,18 @@ returns-2 c =
     let x = g .before .before in
     let d = x .before .before in
     let a = d .before .before .before .args in
+    let here = x .before .loop-test .taken in
     sym (d .loop .inv .2 ∙ turn-here (a .body .now) (d .loop .h) (d .loop .source) (x .next-edge .result) (x .next-edge .ensures) (a .arcs .now) (d .loop .d)
-    (f .piece-end .result) false (omega arith) (f .piece-end .ensures) (not-false _ (g .if1 .left)) (sym (c .before .same-ends .ensures) ∙ not-true _ (c .if2 .taken)))
+    (f .piece-end .result) false here (f .piece-end .ensures) (not-false _ (g .if1 .left)) (sym (c .before .same-ends .ensures) ∙ not-true _ (c .if2 .taken)))
 
 loop-less : tie.Need-loop-less Inv-loop μ-loop
 loop-less c =
     let f = c .before .before .before .before in
-    let d = f .before .before .before .before .before in
+    let x = f .before .before .before in
+    let d = x .before .before in
     let a = d .before .before .before .args in
-    omega (arith, end-bounds 10 (a .arcs .now) (d .loop .d) (f .piece-end .result) (omega arith) (f .piece-end .ensures))
+    let here = x .before .loop-test .taken in
+    omega (arith, end-bounds 10 (a .arcs .now) (d .loop .d) (f .piece-end .result) here (f .piece-end .ensures))
 
 loop-again : tie.Need-loop-again Inv-loop μ-loop
 loop-again c =
@@ -92,11 +97,12 @@ loop-again c =
     let x = g .before .before in
     let d = x .before .before in
     let a = d .before .before .before .args in
-    let (low, high) = end-bounds 10 (a .arcs .now) (d .loop .d) (f .piece-end .result) (omega arith) (f .piece-end .ensures) in (
+    let here = x .before .loop-test .taken in
+    let (low, high) = end-bounds 10 (a .arcs .now) (d .loop .d) (f .piece-end .result) here (f .piece-end .ensures) in (
       x .next-edge .ensures .within,
       high,
       d .loop .inv .2 ∙ turn-here (a .body .now) (d .loop .h) (d .loop .source) (x .next-edge .result) (x .next-edge .ensures) (a .arcs .now) (d .loop .d)
-          (f .piece-end .result) true (omega arith) (f .piece-end .ensures) (not-false _ (g .if1 .left)) (sym (c .before .same-ends .ensures) ∙ not-false _ (c .if2 .left)),
+          (f .piece-end .result) true here (f .piece-end .ensures) (not-false _ (g .if1 .left)) (sym (c .before .same-ends .ensures) ∙ not-false _ (c .if2 .left)),
     )
 
 next-edge-requires-2 : tie.Need-next-edge-requires-2 Inv-loop μ-loop

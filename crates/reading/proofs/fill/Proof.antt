@@ -1,12 +1,11 @@
 -- `reading::fill` meets its contract: the loop keeps `WritingTexts`. Assumes nothing.
 use Prim.Native.Nat.{_-_}
 use native.Mathlib.Numerals.{add-one}
-use native.Mathlib.Omega.{arith}
 use lib.ListN.{length}
 use borrow.Author.Needs.{needs}
 use Rattle.model.specs.Lists.{Lists, lists}
 use Rattle.filling.proofs.Writing.{SameLengths, writing-lengths}
-use Rattle.reading.proofs.Writing.{WritingTexts, Turn, turn-ends, write-none, found-narrow, write-next, write-done}
+use Rattle.reading.proofs.Writing.{WritingTexts, Turn, turn-ends, turn-less, turn-fits, write-none, found-narrow, write-next, write-done}
 use Rattle.reading.proofs.fill.Statement.{statement}
 use Rattle.reading.proofs.fill.Tie as tie
 
@@ -95,13 +94,10 @@ write-requires : tie.Need-write-requires Inv-loop μ-loop
 write-requires c κs = search needs
 
 add-i : tie.Need-add-i Inv-loop μ-loop
-add-i c =
-    let h = head (found c) .loop .inv .count in
-    let (low, high) = turn-ends (turn (found c)) in
-    search needs
+add-i c = turn-fits (turn (found c)) (start (head (found c)) .good .1 .0 .1)
 
 loop-less : tie.Need-loop-less Inv-loop μ-loop
-loop-less c = let (low, high) = turn-ends (turn (found c)) in omega (arith, low, high)
+loop-less c = turn-less (turn (found c))
 
 loop-again : tie.Need-loop-again Inv-loop μ-loop
 loop-again c =

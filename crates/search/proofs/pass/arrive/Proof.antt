@@ -1,17 +1,19 @@
 -- `pass::arrive` meets its contract: the arc closes the cycle, the table knows as much, or an entry is added. Assumes nothing.
 use mathlib.Core.Path.{refl, sym, _∙_}
+use Prim.Native.Nat.{_+_, _<_}
 use native.Mathlib.Omega.{arith}
+use lib.ListN.{getD}
 use borrow.Author.Needs.{needs}
 use Rattle.passes.specs.Queue.{closed, knows, rises}
 use Rattle.search.proofs.pass.arrive.Statement.{statement}
 use Rattle.search.proofs.pass.arrive.Tie as tie
 
--- from where the table is too low, and from where the entry is pushed, to the beginning
+-- from where the table is too low to the beginning
 abbrev start : tie.Else2 → tie.Start
 start e = e .before .before .before .before .before .before
 
-abbrev asked : tie.After-push-arg → tie.Start
-asked c = start (c .before)
+low : (e : tie.Else2) → getD (start e .args .best .now) (start e .args .node) 0 < start e .args .charge + 1
+low e = search needs
 
 closes-requires : tie.Need-closes-requires
 closes-requires c κs = search needs
@@ -49,22 +51,23 @@ cast-push-3 : tie.Need-cast-push-3
 cast-push-3 c = search needs
 
 push-requires : tie.Need-push-requires
-push-requires c κs = asked c .pre .room (search needs)
+push-requires c κs = let e = c .before in start e .pre .room (low e)
 
 add-tail : tie.Need-add-tail
-add-tail c = omega (arith, asked (c .before .before .before) .pre .room (search needs))
+add-tail c = let e = c .before .before .before .before in omega (arith, start e .pre .room (low e))
 
 same-length : tie.Need-same-length
 same-length c = search needs
 
 same-length-2 : tie.Need-same-length-2
-same-length-2 c = search needs
+same-length-2 c = c .before .before .push .kept .0
 
 returns-3 : tie.Need-returns-3
 returns-3 c =
-    let k = c .before .before .before .before .before in
+    let e = c .before .before .before .before in
+    let k = e .before .before in
     let p = c .before .before in (
-      rises (sym (k .before .before .closes .ensures) ∙ k .before .if1 .left) (search needs) refl (p .push .ensures) refl refl,
+      rises (sym (k .before .closes .ensures) ∙ k .if1 .left) (low e) refl (p .push .ensures) refl refl,
       (refl, refl),
     )
 

@@ -1,15 +1,14 @@
 -- `plans::decide` meets its contract: where no cycle keeps a peak there is no plan, and else the prefix to the first peak that is kept, and
 -- the cycle behind it, are one. Assumes nothing.
-use mathlib.Core.Path.{refl, sym, _∙_}
+use mathlib.Core.Path.{_≡_, refl, sym, _∙_}
 use Prim.Native.Nat.{_≤_}
 use native.Mathlib.Omega.{arith}
 use lib.ListN.{length}
 use borrow.Author.Needs.{needs}
-use Rattle.refusals.proofs.Verdicts.{clash}
-use Rattle.search.specs.Tasks.{none, found, Searchable}
+use Rattle.search.specs.Tasks.{none, taskNet, Searchable}
 use Rattle.search.proofs.Spaces.{plan-held, buffer-short, prefix-held, cycle-held}
 use Rattle.search.proofs.Tasks.{searchable-kept}
-use Rattle.search.proofs.Written.{plan-found, written-lasso}
+use Rattle.search.proofs.Written.{plan-found, lasso-answered}
 use Rattle.search.proofs.Peaks.{lent-words, lent-zeros, filled-long, filled-count, filled-low, no-plan}
 use Rattle.search.proofs.Peaks.{first-some, first-low, first-peak, first-cycle}
 use Rattle.search.proofs.plans.decide.Statement.{statement}
@@ -62,8 +61,12 @@ first-kept-requires c κs =
     let size = f .find-peaks .kept .1 .1 .1 .0 in
     (searchable-kept able (f .find-peaks .kept .1 .1 .1 .1 .0), (filled-count able peaked size, filled-low able peaked size))
 
+-- the working space is as long as it was
+words-kept : (k : tie.After-first-kept) → length (k .first-kept .last .1 .1 .1 .1 .0) ≡ length (start (peaks-of k) .args .work .now)
+words-kept k = k .first-kept .kept .1 .1 .1 .1 .0 ∙ peaks-of k .find-peaks .kept .1 .1 .1 .1 .0
+
 same-length : tie.Need-same-length
-same-length c = search needs
+same-length c = words-kept (c .before .before .before)
 
 returns : tie.Need-returns
 returns c =
@@ -86,10 +89,7 @@ sub-peak c =
 -- what the inner functions ask still holds of the working space
 able-kept : (e : tie.Else1) → let s = whole e in
     Searchable (s .args .rows .now) (s .args .places .now) (s .args .task) (length (first-of e .first-kept .last .1 .1 .1 .1 .0))
-able-kept e =
-    let k = first-of e in
-    let f = peaks-of k in
-    searchable-kept (start f .pre .0) (k .first-kept .kept .1 .1 .1 .1 .0 ∙ f .find-peaks .kept .1 .1 .1 .1 .0)
+able-kept e = searchable-kept (whole e .pre .0) (words-kept (first-of e))
 
 write-prefix-requires : tie.Need-write-prefix-requires
 write-prefix-requires c κs =
@@ -166,7 +166,10 @@ cast-cycle c =
     omega (arith, held, buffer-short (t .duties) (t .modes) (t .bound) (s .pre .0 .few-duties) (s .pre .0 .product))
 
 same-length-2 : tie.Need-same-length-2
-same-length-2 c = search needs
+same-length-2 c =
+    let y = c .before .before .before .before in
+    let w = prefix-of y in
+    y .write-cycle .kept .1 .1 .1 .1 .1 .0 ∙ w .write-prefix .kept .1 .1 .1 .1 .1 .0 ∙ words-kept (first-of (kept-of w))
 
 same-length-3 : tie.Need-same-length-3
 same-length-3 c = search needs
@@ -178,12 +181,9 @@ returns-2 c =
     let s = whole (kept-of w) in
     let p = w .write-prefix in
     let q = y .write-cycle in
-    let written =
-    found
-    (plan-found (s .pre .0 .few-duties) (s .pre .0 .product) (s .pre .1) (p .ensures) (p .kept .1 .1 .1 .1 .1 .1 .0) (q .ensures)
-    (q .kept .1 .1 .1 .1 .1 .1 .0))
-    in
-    (written-lasso written (λ e. clash (cc)), written)
+    lasso-answered
+    (plan-found {g = taskNet (s .args .rows .now) (s .args .places .now) (s .args .task)} (s .pre .0 .few-duties) (s .pre .0 .product)
+    (s .pre .1) (p .ensures) (p .kept .1 .1 .1 .1 .1 .1 .0) (q .ensures) (q .kept .1 .1 .1 .1 .1 .1 .0))
 
 pub decide-spec : {M : Type 1} → statement M
 decide-spec =
