@@ -1,5 +1,4 @@
 -- What holds of every verdict that judging gives of a plan: of yes, and of 11 to 16, 24 and 17 with the details that each can have. Assumes nothing.
-use mathlib.Core.Path.{_≡_}
 use mathlib.Core.Bool.{not, _&&_, _||_}
 use mathlib.Core.List.{List, [], _∷_}
 use Prim.Native.Nat.{ℕ, suc, _+_, _*_, _≤_, _<_}
