@@ -18,7 +18,7 @@ static struct model knee(struct lists *to)
 }
 
 /* A round of the knee's arc that gains: a wearer in mode 0 with right levels can have it. */
-static const uint8_t gaining[] = {GAINS};
+static const uint8_t gaining[] = {GAINS, GAINS};
 static const struct plan good = {0, 1, gaining, 1};
 
 /* One wearer of each kind: full, empty, in the other mode, in no mode, charged above the bound, with too great a bound. */
@@ -62,7 +62,8 @@ void test_ward_verdicts(void)
         {"verdict 0 of another mode", {0, 1, stays, 1}, 0, {13, 13, 0}},
         {"verdict 11: no cycle", {1, 0, gaining, 1}, 0, {11, 11, 11}},
         {"verdict 11: no plan", {0, 0, NULL, 0}, 0, {11, 11, 11}},
-        {"verdict 11: a longer plan", {0, 1, gaining, 0}, 0, {11, 11, 11}},
+        {"verdict 11: fewer arcs than p + q", {0, 1, gaining, 0}, 0, {11, 11, 11}},
+        {"verdict 11: more arcs than p + q", {0, 1, gaining, 2}, 0, {11, 11, 11}},
         {"verdict 12", {0, 1, no_arc, 1}, 0, {12, 12, 12}},
         {"verdict 14", {0, 1, leaves, 1}, 0, {14, 14, 13}},
         {"verdicts 16 and 15", {0, 1, draws, 1}, 0, {16, 15, 13}},
@@ -349,6 +350,8 @@ void test_ward_plans(void)
     plan.q = MOST + 2;
     plan.length = MOST + 2;
     warded("11: a cycle of 65,537 arcs", &m, wearers, KINDS, plan, CHARGEPLAN_PLAN_LENGTH, 0);
+    plan.q = 1;
+    warded("11: 65,537 arcs, and p + q is 1", &m, wearers, KINDS, plan, CHARGEPLAN_PLAN_LENGTH, 0);
     memset(bytes, DRAWS, 8191);
     plan.p = 8191;
     plan.q = MOST - 8191;
