@@ -106,12 +106,24 @@ static void print_wearer(const struct ward *w, size_t i)
         printf("cannot have it, %u: %s\n", (unsigned)wearer->verdict, sentence == NULL ? "unknown" : sentence);
 }
 
-/* Has the plan found judged for all wearers. Search has not refused the model, so that the ward does not, and every verdict is written. */
+/* Whether the number of a ward is the model's, so that no verdict is written. */
+static int is_of_model(uint32_t number)
+{
+    return number == CHARGEPLAN_MODE_COUNT || number == CHARGEPLAN_ARC_LISTS || number == CHARGEPLAN_COLOUR_COUNT
+        || number == CHARGEPLAN_UNFIT_ARC;
+}
+
+/* Has the plan found judged for all wearers. */
 static int judge_ward(const struct task *task, const struct space *s, struct ward *w)
 {
     struct chargeplan_warded answer = chargeplan_model_ward(w->wearers, w->count, &task->model, task->barred, s->p, s->q, s->plan);
     size_t i;
 
+    /* It is not refused here, since search has planned it. A desk that is handed its plan has to look. */
+    if (is_of_model(answer.number)) {
+        print_refusal("the ward refuses the model", answer.number, answer.detail);
+        return REFUSED;
+    }
     for (i = 0; i < w->count; i++)
         print_wearer(w, i);
     if (answer.number == CHARGEPLAN_YES) {

@@ -12,7 +12,8 @@ enum { DRAWS, GAINS, LEAVES, STAYS, PLAIN, ARCS };
 /* Two modes and a colour. Arcs of mode 0 that draw 1, gain 1, lead to mode 1, or do nothing, and one of mode 1 that stays there. */
 static struct model knee(struct lists *to)
 {
-    static const struct arc arcs[ARCS] = {{0, 0, 1, 0, 1, 0}, {0, 0, 0, 1, 1, 0}, {0, 1, 0, 0, 1, 0}, {1, 1, 0, 0, 1, 0}, {0, 0, 0, 0, 0, 0}};
+    static const struct arc arcs[ARCS] = {
+        {0, 0, 1, 0, 1, 0}, {0, 0, 0, 1, 1, 0}, {0, 1, 0, 0, 1, 0}, {1, 1, 0, 0, 1, 0}, {0, 0, 0, 0, 0, 0}};
 
     return of_arcs(to, 2, 1, arcs, ARCS);
 }
@@ -53,6 +54,21 @@ static void one_order(const struct verdicts *v, const struct model *m, size_t fi
         check(wearers[i].verdict == expected[i], v->what);
 }
 
+/* The example of docs/C-API.md. */
+static void test_example(void)
+{
+    static const struct arc arc = {0, 0, 3, 3, 0, 0};
+    static const uint8_t round[] = {0};
+    struct plan plan = {0, 1, round, 1};
+    struct wearer wearers[] = {{0, 3, 9, 0}, {0, 2, 9, 0}, {0, 4, 3, 0}, {1, 3, 9, 0}};
+    struct lists lists;
+    struct model m = of_arcs(&lists, 1, 0, &arc, 1);
+
+    warded("the example of docs/C-API.md", &m, wearers, 4, plan, CHARGEPLAN_IMPOSSIBLE_STEP, 1);
+    check(wearers[0].verdict == 0 && wearers[1].verdict == 15 && wearers[2].verdict == 6 && wearers[3].verdict == 2,
+        "the example of docs/C-API.md");
+}
+
 /* Every number that can be a verdict. */
 void test_ward_verdicts(void)
 {
@@ -77,6 +93,7 @@ void test_ward_verdicts(void)
     struct model m = knee(&lists);
     size_t i, first;
 
+    test_example();
     for (i = 0; i < sizeof all / sizeof all[0]; i++)
         for (first = 0; first < KINDS; first++) {
             m.barred = all[i].barred;
@@ -128,7 +145,7 @@ void test_ward_empty(void)
     warded("no wearers, a barred colour", &m, NULL, 0, good, CHARGEPLAN_YES, 0);
 }
 
-/* The model is refused before any wearer: of none, of one of each kind, and with a wrong plan. No verdict is written, which ward() checks. */
+/* The model is refused before any wearer: of none, of one of each kind, and with a wrong plan. Here ward() looks for verdicts written. */
 static void model_refused(const char *what, const struct model *m, uint32_t number, uint64_t detail)
 {
     static const struct plan wrong = {1, 1, gaining, 1};
