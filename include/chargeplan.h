@@ -26,9 +26,9 @@
  * cycle ends in the mode where it began. It is feasible where every step is possible in any number of rounds, and accepted
  * where each required colour stands on some arc of the cycle and no barred colour stands on any.
  *
- * BARRED COLOURS. A duty may have to die out: it may be met in the prefix, and never again in the cycle. Judging, search and the walk
- * take a byte `barred` that names such colours: of the k colours, j is barred where bit j is set, and required where it is not. Bits
- * at or above k are ignored, so that no byte is refused. The prefix is free: an arc with a barred colour may stand there, and need
+ * BARRED COLOURS. A duty may have to die out: it may be met in the prefix, and never again in the cycle. Judging, search, the walk and
+ * the ward take a byte `barred` that names such colours: of the k colours, j is barred where bit j is set, and required where it is not.
+ * Bits at or above k are ignored, so that no byte is refused. The prefix is free: an arc with a barred colour may stand there, and need
  * not. With barred 0 each of the k colours is required; with all of them barred any cycle without colours is accepted.
  *
  * THE TEXTS. A model can be read from two texts: one in HOA, version 1, and one in the DIMACS shortest-path form. Their lines, in this
@@ -66,7 +66,7 @@
  * THE WARD. One plan is loaded into many knees, which have one model. Each wearer has a record: the start mode, the credit c and the bound
  * b of that wearer's knee, and a verdict, which the call fills with the number that judging answers for this wearer, 0 where he or she
  * can have the plan. The model is looked at first, before any wearer: where it is unfit (1, 3, 4 or 5) no verdict is written. A wrong
- * start mode (2) or wrong levels (6) are one wearer's, and so they are verdicts.
+ * start mode (2) and wrong levels (6) are one wearer's, and so they are verdicts.
  *
  * LISTS, BUFFERS AND THE GAUGE. A list, buffer or text is a pointer, and a call is told the number of its elements. The caller sees to
  * three things: the memory is as long as the call is told, it is aligned as its type asks, and no two lists, buffers or texts of one
@@ -360,12 +360,12 @@ static inline struct chargeplan_pair chargeplan_model_pair(const struct chargepl
  * m                    the model that their knees have. Its start mode is not looked at: each wearer has one.
  * barred, p, q, plan   as in judging
  *
- * Answers the first of 1, 3, 4 and 5 that applies to the model, with its detail, and leaves all wearers as they were; so it does where
- * there are no wearers. Else every verdict becomes the number that judging answers for the model with this wearer's start mode, c and b: 0,
- * 2, 6, 11 to 16, 24 or 17. Then the answer is 0 where all verdicts are 0, and so where there are no wearers; else it is the first other
- * verdict, with its wearer's place, counted from 0, as detail. What stands in a verdict before the call does not matter. Start mode, c
- * and b of each wearer are as they were; what stands behind a verdict may change. The details of the verdicts are not kept: judging
- * tells that of one wearer.
+ * Answers the first of 1, 3, 4 and 5 that applies to the model, with its detail, also where there are no wearers, and leaves all wearers as
+ * they were: look at the number before the verdicts. Else every verdict becomes the number that judging answers for the model with this
+ * wearer's start mode, c and b: 0, 2, 6, 11 to 16, 24 or 17. Then the answer is 0 where all verdicts are 0, and so where there are no
+ * wearers; else it is the first other verdict, with its wearer's place, counted from 0, as detail. What stands in a verdict before the
+ * call does not matter. Start mode, c and b of each wearer are as they were; what stands behind a verdict may change. The details of the
+ * verdicts are not kept: judging tells that of one wearer.
  */
 static inline struct chargeplan_warded chargeplan_model_ward(struct chargeplan_wearer *wearers, size_t wearers_length,
     const struct chargeplan_model *m, uint8_t barred, uint32_t p, uint32_t q, const uint8_t *plan);

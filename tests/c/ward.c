@@ -145,7 +145,7 @@ void test_ward_empty(void)
     warded("no wearers, a barred colour", &m, NULL, 0, good, CHARGEPLAN_YES, 0);
 }
 
-/* The model is refused before any wearer: of none, of one of each kind, and with a wrong plan. Here ward() looks for verdicts written. */
+/* The model is refused before any wearer: of none, of one of each kind, and with a wrong plan. ward() checks that no verdict is written. */
 static void model_refused(const char *what, const struct model *m, uint32_t number, uint64_t detail)
 {
     static const struct plan wrong = {1, 1, gaining, 1};
