@@ -30,6 +30,7 @@ struct version {
     judge_entry *judge;
     read_entry *read;
     join_entry *join;
+    ward_entry *ward;
 };
 
 /*
@@ -48,9 +49,9 @@ struct family {
 };
 
 static const struct version versions[VERSIONS] = {
-    {"library", chargeplan_search, chargeplan_judge, chargeplan_read, chargeplan_join},
-    {"C -O2", reference_o2_search, reference_o2_judge, reference_o2_read, reference_o2_join},
-    {"C -O3", reference_o3_search, reference_o3_judge, reference_o3_read, reference_o3_join},
+    {"library", chargeplan_search, chargeplan_judge, chargeplan_read, chargeplan_join, chargeplan_ward},
+    {"C -O2", reference_o2_search, reference_o2_judge, reference_o2_read, reference_o2_join, reference_o2_ward},
+    {"C -O3", reference_o3_search, reference_o3_judge, reference_o3_read, reference_o3_join, reference_o3_ward},
 };
 
 /* The lists that reading and the join fill, and the numbers that they answer. */
@@ -68,12 +69,13 @@ struct filled {
 };
 
 /*
- * Allocated once: the inputs of a family, their habits, their plans to be judged, their texts, the buffers of search, the lists to be
- * filled, and what the library left in these.
+ * Allocated once: the inputs of a family, their habits, their plans to be judged, their texts, their wearers, the buffers of search, the
+ * lists to be filled, and what the library left in these.
  */
 static struct input inputs[SET_MOST], habits[SET_MOST];
 static uint8_t judged[SET_MOST][CHARGEPLAN_PLAN_MOST];
 static char hoa[SET_MOST][TEXT_MOST], dimacs[SET_MOST][TEXT_MOST];
+static struct chargeplan_wearer wearers[SET_MOST][WEARERS], library_wearers[WEARERS];
 static uint16_t work[WORK_WORDS], library_work[WORK_WORDS];
 static uint8_t plan[PLAN_BYTES], library_plan[PLAN_BYTES];
 static struct filled filled, library_filled;
@@ -130,6 +132,15 @@ static uint64_t call_join(const struct version *version, const struct input *in)
                                       f->actions, ROOM));
 }
 
+static uint64_t call_ward(const struct version *version, const struct input *in)
+{
+    struct chargeplan_warded warded =
+        version->ward(in->wearers, in->wearers_length, in->n, in->k, in->sources, in->arcs, in->targets, in->arcs, in->draws,
+                      in->arcs, in->gains, in->arcs, in->colours, in->arcs, in->actions, in->arcs, in->barred, in->p, in->q,
+                      in->plan, (size_t)in->p + in->q);
+    return warded.number | warded.detail << 8;
+}
+
 static const struct family families[] = {
     {"search, random, 64 modes, 255 arcs, b 127, with a plan", call_search, make_64_modes, 16, 0, 0, 0, 0},
     {"search, random, 64 modes, 255 arcs, b 127, without", call_search, make_64_modes, 16, 10, 0, 0, 0},
@@ -164,6 +175,9 @@ static const struct family families[] = {
     {"reading, the same with each colour 400 times", call_read, make_descending_model, 4, 0, 0, 0, 400},
     {"join, 255 by 255 arcs, 255 pairs written", call_join, make_large_join, 16, 0, 0, 0, 0},
     {"join, 12 by 4 arcs, 12 pairs written", call_join, make_small_join, 16, 0, 0, 0, 0},
+    {"ward, 1,000 wearers, 255 arcs, a plan of 64 arcs", call_ward, make_ward, 16, 0, 64, 0, 0},
+    {"ward, 1,000 wearers, 255 arcs, a plan of 640 arcs", call_ward, make_ward, 16, 0, 640, 0, 0},
+    {"ward, 1,000 wearers with 6: the checks of 255 arcs alone", call_ward, make_ward_of_sixes, 16, 6, 64, 0, 0},
 };
 
 /* The same junk in the buffers before each comparison and each sample. */
@@ -174,6 +188,9 @@ static void fill_buffers(void)
     for (size_t i = 0; i < PLAN_BYTES; i++)
         plan[i] = (uint8_t)(i * 167 + 1);
     memset(&filled, 0xa5, sizeof filled);
+    for (size_t i = 0; i < SET_MOST; i++)
+        for (size_t w = 0; w < WEARERS; w++)
+            wearers[i][w].verdict = 0xa5;
 }
 
 /* Makes each input until the answer is the family's. */
@@ -188,6 +205,7 @@ static void make_inputs(const struct family *family)
         in->hoa = hoa[i];
         in->dimacs = dimacs[i];
         in->habit = &habits[i];
+        in->wearers = wearers[i];
         do {
             if (tries++ == TRIES_MOST)
                 fail(family, "no such input was made");
@@ -198,7 +216,18 @@ static void make_inputs(const struct family *family)
     }
 }
 
-/* Compares answers, plan buffers, working spaces and filled lists of the references with the library's. */
+/* Whether all wearers are as the library left them; what stands behind a verdict does not count. */
+static bool same_wearers(const struct input *in)
+{
+    for (size_t i = 0; i < in->wearers_length; i++) {
+        const struct chargeplan_wearer *w = &in->wearers[i], *of_library = &library_wearers[i];
+        if (w->start != of_library->start || w->c != of_library->c || w->b != of_library->b || w->verdict != of_library->verdict)
+            return false;
+    }
+    return true;
+}
+
+/* Compares answers, plan buffers, working spaces, filled lists and wearers of the references with the library's. */
 static void compare(const struct family *family, const struct input *in)
 {
     fill_buffers();
@@ -206,6 +235,7 @@ static void compare(const struct family *family, const struct input *in)
     memcpy(library_work, work, sizeof work);
     memcpy(library_plan, plan, sizeof plan);
     memcpy(&library_filled, &filled, sizeof filled);
+    memcpy(library_wearers, in->wearers, sizeof library_wearers);
     for (size_t v = 1; v < VERSIONS; v++) {
         fill_buffers();
         if (family->call(&versions[v], in) != answer)
@@ -216,6 +246,8 @@ static void compare(const struct family *family, const struct input *in)
             fail(family, "plan buffers differ");
         if (memcmp(&library_filled, &filled, sizeof filled) != 0)
             fail(family, "filled lists differ");
+        if (!same_wearers(in))
+            fail(family, "wearers differ");
     }
 }
 

@@ -43,6 +43,7 @@ static void set_numbers(struct input *in, uint32_t n, uint32_t k, uint32_t c, ui
     in->c = c;
     in->b = b;
     in->barred = 0;
+    in->wearers_length = 0;
 }
 
 static void add_move(struct input *in, uint32_t source, uint32_t target, uint16_t draw, uint16_t gain, uint8_t colours)
@@ -339,4 +340,19 @@ void make_small_join(struct input *in)
     add_actions(in, sizeof of_knee, of_knee);
     set_numbers(in->habit, 3, 1, 0, 0);
     add_actions(in->habit, sizeof of_habit, of_habit);
+}
+
+void make_ward(struct input *in)
+{
+    make_plan(in);
+    for (size_t i = 0; i < WEARERS; i++)
+        in->wearers[i] = (struct chargeplan_wearer){in->start, in->c + below(in->b - in->c + 1), in->b, 0};
+    in->wearers_length = WEARERS;
+}
+
+void make_ward_of_sixes(struct input *in)
+{
+    make_ward(in);
+    for (size_t i = 0; i < WEARERS; i++)
+        in->wearers[i].b = in->wearers[i].c - 1;
 }

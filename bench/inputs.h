@@ -1,6 +1,6 @@
 /*
- * The inputs of the benchmark: models with credit and bound, for judging a plan, for reading the texts of a model, and for joining a knee
- * with a habit. An arc with a weight draws or gains; those of two kinds do both.
+ * The inputs of the benchmark: models with credit and bound, for judging a plan, for reading the texts of a model, for joining a knee with
+ * a habit, and for judging a plan for a ward. An arc with a weight draws or gains; those of two kinds do both.
  */
 #ifndef INPUTS_H
 #define INPUTS_H
@@ -33,9 +33,11 @@ struct input {
     size_t hoa_length;
     size_t dimacs_length;
     struct input *habit; /* the model to be joined with this one */
+    struct chargeplan_wearer *wearers; /* of a ward, in a list of WEARERS places */
+    size_t wearers_length;             /* 0 where there is no ward */
 };
 
-enum { TEXT_MOST = 1 << 20 };
+enum { TEXT_MOST = 1 << 20, WEARERS = 1000 };
 
 /* 64 modes, 255 arcs, k 4, b 127. Most arcs draw, and a colour is on one arc in 32, so that some models have a plan and some have none. */
 void make_64_modes(struct input *in);
@@ -117,5 +119,11 @@ void make_large_join(struct input *in);
 
 /* A knee of 4 modes and 12 arcs with the actions 0 to 3, 3 arcs each, and a habit of 3 modes and 4 arcs, one of each action: 12 pairs. */
 void make_small_join(struct input *in);
+
+/* As make_plan, and 1,000 wearers with this bound and any credit from this one up, who can all have the plan. */
+void make_ward(struct input *in);
+
+/* The same with a bound below the credit: each wearer has 6, which is looked at once the model is checked. */
+void make_ward_of_sixes(struct input *in);
 
 #endif

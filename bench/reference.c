@@ -1,7 +1,7 @@
 /*
- * Search, judging and the join in C, to compare the library with: the same checks, passes and scans in the same order, the arcs grouped by
- * source, so that answers and plans are equal. The entries are REFERENCE_search, REFERENCE_judge and REFERENCE_join, where the build names
- * REFERENCE.
+ * Search, judging, the join and the ward in C, to compare the library with: the same checks, passes and scans in the same order, the arcs
+ * grouped by source, so that answers, plans and verdicts are equal. The entries are REFERENCE_search, REFERENCE_judge, REFERENCE_join and
+ * REFERENCE_ward, where the build names REFERENCE.
  */
 #include <stdbool.h>
 #include <stddef.h>
@@ -435,6 +435,34 @@ uint64_t PASTE(REFERENCE, _judge)(uint32_t n, uint32_t start, uint32_t k, const 
     if (answer == CHARGEPLAN_YES)
         answer = check_colours(&m, plan + p, q);
     return answer;
+}
+
+/* The model is checked once before the wearers, and once more for each of them, by judging. */
+struct chargeplan_warded PASTE(REFERENCE, _ward)(struct chargeplan_wearer *wearers, size_t wearers_len, uint32_t n, uint32_t k,
+                                                 const uint8_t *sources, size_t sources_len, const uint8_t *targets,
+                                                 size_t targets_len, const uint16_t *draws, size_t draws_len, const uint16_t *gains,
+                                                 size_t gains_len, const uint8_t *colours, size_t colours_len,
+                                                 const uint8_t *actions, size_t actions_len, uint8_t barred, uint32_t p, uint32_t q,
+                                                 const uint8_t *plan, size_t plan_len)
+{
+    struct model m = {n, 0, k, sources_len, sources, targets, draws, gains, colours, actions, 0, 0, 0};
+    uint64_t answer = check_model(&m, targets_len, draws_len, gains_len, colours_len, actions_len);
+    struct chargeplan_warded warded = {(uint8_t)chargeplan_number(answer), chargeplan_detail(answer)};
+
+    if (answer != CHARGEPLAN_YES)
+        return warded;
+    for (size_t i = 0; i < wearers_len; i++) {
+        struct chargeplan_wearer *w = &wearers[i];
+        answer = PASTE(REFERENCE, _judge)(n, w->start, k, sources, sources_len, targets, targets_len, draws, draws_len, gains,
+                                          gains_len, colours, colours_len, actions, actions_len, w->c, w->b, barred, p, q, plan,
+                                          plan_len);
+        w->verdict = (uint8_t)chargeplan_number(answer);
+        if (w->verdict != CHARGEPLAN_YES && warded.number == CHARGEPLAN_YES) {
+            warded.number = w->verdict;
+            warded.detail = i;
+        }
+    }
+    return warded;
 }
 
 /* How many pairs of arcs have equal actions, and whether one of them draws or gains too much together. */

@@ -1,4 +1,4 @@
-/* The types of the four entries, which the library and the reference share. */
+/* The types of the five entries, which the library and the reference share. */
 #ifndef REFERENCE_H
 #define REFERENCE_H
 
@@ -34,10 +34,17 @@ typedef struct chargeplan_reading join_entry(
     size_t targets_len, uint16_t *draws, size_t draws_len, uint16_t *gains, size_t gains_len, uint8_t *colours,
     size_t colours_len, uint8_t *actions, size_t actions_len);
 
+typedef struct chargeplan_warded ward_entry(struct chargeplan_wearer *wearers, size_t wearers_len, uint32_t n, uint32_t k,
+                                            const uint8_t *sources, size_t sources_len, const uint8_t *targets, size_t targets_len,
+                                            const uint16_t *draws, size_t draws_len, const uint16_t *gains, size_t gains_len,
+                                            const uint8_t *colours, size_t colours_len, const uint8_t *actions, size_t actions_len,
+                                            uint8_t barred, uint32_t p, uint32_t q, const uint8_t *plan, size_t plan_len);
+
 /* bench/reference.c and bench/reader.c, compiled with -O2 and with -O3. */
 search_entry reference_o2_search, reference_o3_search;
 judge_entry reference_o2_judge, reference_o3_judge;
 read_entry reference_o2_read, reference_o3_read;
 join_entry reference_o2_join, reference_o3_join;
+ward_entry reference_o2_ward, reference_o3_ward;
 
 #endif

@@ -1,6 +1,6 @@
 /*
- * chargeplan.h: judging, searching and walking charge plans for a knee joint, reading its model from texts, and joining it with the
- * habit of its wearer, from C99 or C++ on Linux for 64-bit x86 (System V calls).
+ * chargeplan.h: judging, searching and walking charge plans for a knee joint, reading its model from texts, joining it with the habit
+ * of its wearer, and judging one plan for a ward of wearers, from C99 or C++ on Linux for 64-bit x86 (System V calls).
  *
  * Link with target/staticlib/libdesk.a, which `rt staticlib desk` writes once the code is proved. There is no set-up, no
  * state between calls and no heap: calls on different buffers may run at the same time, and no input traps or hangs a call.
@@ -26,9 +26,9 @@
  * cycle ends in the mode where it began. It is feasible where every step is possible in any number of rounds, and accepted
  * where each required colour stands on some arc of the cycle and no barred colour stands on any.
  *
- * BARRED COLOURS. A duty may have to die out: it may be met in the prefix, and never again in the cycle. Judging, search and the walk
- * take a byte `barred` that names such colours: of the k colours, j is barred where bit j is set, and required where it is not. Bits
- * at or above k are ignored, so that no byte is refused. The prefix is free: an arc with a barred colour may stand there, and need
+ * BARRED COLOURS. A duty may have to die out: it may be met in the prefix, and never again in the cycle. Judging, search, the walk and
+ * the ward take a byte `barred` that names such colours: of the k colours, j is barred where bit j is set, and required where it is not.
+ * Bits at or above k are ignored, so that no byte is refused. The prefix is free: an arc with a barred colour may stand there, and need
  * not. With barred 0 each of the k colours is required; with all of them barred any cycle without colours is accepted.
  *
  * THE TEXTS. A model can be read from two texts: one in HOA, version 1, and one in the DIMACS shortest-path form. Their lines, in this
@@ -63,27 +63,36 @@
  * colour does, and no barred one; bit j of `barred` is the knee's colour j, bit k1 + j the habit's colour j.) The joined model goes
  * into every other call as any model does, and chargeplan_model_pair tells of which two arcs a joined arc is made.
  *
+ * THE WARD. One plan is loaded into many knees, which have one model. Each wearer has a record: the start mode, the credit c and the bound
+ * b of that wearer's knee, and a verdict, which the call fills with the number that judging answers for this wearer, 0 where he or she
+ * can have the plan. The model is looked at first, before any wearer: where it is unfit (1, 3, 4 or 5) no verdict is written. A wrong
+ * start mode (2) and wrong levels (6) are one wearer's, and so they are verdicts.
+ *
  * LISTS, BUFFERS AND THE GAUGE. A list, buffer or text is a pointer, and a call is told the number of its elements. The caller sees to
  * three things: the memory is as long as the call is told, it is aligned as its type asks, and no two lists, buffers or texts of one
  * call, nor a gauge, share memory. One without elements may be a null pointer; a gauge may not. Reading and the join write to the
- * lists that they are lent to be filled; every call only reads the lists of a model. No text needs a NUL byte at its end.
+ * lists that they are lent to be filled, and the ward writes the verdicts of the wearers that it is lent; every call only reads the lists
+ * of a model. No text needs a NUL byte at its end.
  *
  * THE ANSWER. One word of 64 bits: bits 0 to 7 the number, 8 to 31 the detail; with a plan found 32 to 47 p, 48 to 63 q; with a
  * walk 32 to 47 the steps made, 48 whether the colour was met. (Starting a gauge answers a struct with that word and the gauge,
- * reading and the join a struct with number and detail in fields of their own.) Number 0 is yes; every other number is a refusal
- * (below), the first that applies, top to bottom; of a join 1 to 5 are first looked at of the knee and then of the habit. The detail is
- * 0 where none is named below, and all bits that are not named are 0.
+ * reading, the join and the ward a struct with number and detail in fields of their own.) Number 0 is yes; every other number is a
+ * refusal (below), the first that applies, top to bottom; of a join 1 to 5 are first looked at of the knee and then of the habit, of a
+ * ward 1, 3, 4 and 5 of the model and then the others wearer by wearer. The detail is 0 where none is named below, and all bits that are
+ * not named are 0.
  *
  * THE CALLS. First the calls over a struct chargeplan_model, which have the model in one argument. They are inline functions over the
  * library's own entries, which come after them and take each list with a length of its own.
  *
  * COST. Stack, with the arguments on it: up to 12,900 bytes for judging, 8,900 for search, 200 for starting a gauge, 4,400 for a step of
- * one, 14,900 for the walk, 600 for reading, 8,700 for the join. Every call but reading reads the six lists of a model once. Judging
+ * one, 14,900 for the walk, 600 for reading, 8,700 for the join, 12,900 for the ward, however many wearers there are. Every call but
+ * reading and the ward reads the six lists of a model once; the ward reads them once for the call, and once more for each wearer. Judging
  * then looks at 2 * p + 4 * q places of the plan at most, at q more where barred is not 0, and the walk at p + q more, or at as many as
  * the allowance for a barred colour that is not met. Search tries arcs at most m * (b + 1) * ((k + 1) * (n + 1) + 2) times, where there
  * are m of them and k colours are required: 25 million times at the ceilings. The slowest search that was found takes some 35 ms, one of
  * a random model of 64 modes 0.2 ms. The time of reading grows in proportion to the texts, where the model is fit. The join looks at each
- * pair of arcs twice, 65,025 pairs at most, in some 80 us. docs/C-API.md says how this was counted and measured.
+ * pair of arcs twice, 65,025 pairs at most, in some 80 us. The ward takes as long as judging for each wearer does: with 255 arcs and a
+ * plan of 64 some 1 us each, 0.7 of them for the lists. docs/C-API.md says how this was counted and measured.
  */
 #ifndef CHARGEPLAN_H
 #define CHARGEPLAN_H
@@ -123,11 +132,13 @@ extern "C" {
 /*
  * The numbers. Search answers 0 to 10; judging 0 to 6, 11 to 16, 24 and 17; starting a gauge 0 to 6; a step of a gauge 0 to 6, 22, 12,
  * 13 and 15, the last four with detail 0; the walk 0 to 6, 11 to 16, 24, 17 and 18; reading 0, 19 to 21 and 1 to 5; the join 0 to 5
- * and 23.
+ * and 23; the ward 0 to 6, 11 to 16, 24 and 17: of these 1, 3, 4 and 5 are the model's, with the detail below, and all others but 0 are
+ * the verdict of the first wearer who cannot have the plan, with that wearer's place in the list, counted from 0, as detail.
  */
 enum {
     CHARGEPLAN_YES = 0,              /* judging: the plan is feasible and accepted; search: a plan is in the buffer; gauge: it is
-                                        started, or has moved on; walk: the steps are made; reading, join: the lists are filled */
+                                        started, or has moved on; walk: the steps are made; reading, join: the lists are filled;
+                                        ward: every verdict is 0 */
     CHARGEPLAN_HOA_LINE = 19,        /* reading: a line of the HOA text is outside the forms above, or missing; detail: the first
                                         such line, counted from 1, one past the last line where the text ends early */
     CHARGEPLAN_DIMACS_LINE = 20,     /* the same of the DIMACS text */
@@ -215,6 +226,18 @@ struct chargeplan_lists {
 /* The two arcs that a joined arc is made of, by their numbers. */
 struct chargeplan_pair {
     uint32_t knee, habit;
+};
+
+/* A wearer of a ward: the start mode, the credit and the bound, and the verdict, a number of judging, which the ward writes. */
+struct chargeplan_wearer {
+    uint32_t start, c, b;
+    uint8_t verdict;
+};
+
+/* What the ward answers: number and detail. */
+struct chargeplan_warded {
+    uint8_t number;
+    uint64_t detail;
 };
 
 /*
@@ -330,6 +353,23 @@ static inline struct chargeplan_reading chargeplan_model_join(struct chargeplan_
 static inline struct chargeplan_pair chargeplan_model_pair(const struct chargeplan_model *knee, const struct chargeplan_model *habit,
     uint32_t arc);
 
+/*
+ * The ward: one plan judged for each of many wearers (THE WARD, above).
+ *
+ * wearers              lent to the call, which writes their verdicts; there may be any number of them, also none
+ * m                    the model that their knees have. Its start mode is not looked at: each wearer has one.
+ * barred, p, q, plan   as in judging
+ *
+ * Answers the first of 1, 3, 4 and 5 that applies to the model, with its detail, also where there are no wearers, and leaves all wearers as
+ * they were: look at the number before the verdicts. Else every verdict becomes the number that judging answers for the model with this
+ * wearer's start mode, c and b: 0, 2, 6, 11 to 16, 24 or 17. Then the answer is 0 where all verdicts are 0, and so where there are no
+ * wearers; else it is the first other verdict, with its wearer's place, counted from 0, as detail. What stands in a verdict before the
+ * call does not matter. Start mode, c and b of each wearer are as they were; what stands behind a verdict may change. The details of the
+ * verdicts are not kept: judging tells that of one wearer.
+ */
+static inline struct chargeplan_warded chargeplan_model_ward(struct chargeplan_wearer *wearers, size_t wearers_length,
+    const struct chargeplan_model *m, uint8_t barred, uint32_t p, uint32_t q, const uint8_t *plan);
+
 /* The library's entry for judging: each list, and the plan, with its own length. */
 uint64_t chargeplan_judge(
     uint32_t n, uint32_t start, uint32_t k,
@@ -429,6 +469,20 @@ struct chargeplan_reading chargeplan_join(
     uint16_t *gains, size_t gains_length,
     uint8_t *colours, size_t colours_length,
     uint8_t *actions, size_t actions_length);
+
+/* The library's entry for the ward. The wearers share no memory with the other lists. */
+struct chargeplan_warded chargeplan_ward(
+    struct chargeplan_wearer *wearers, size_t wearers_length,
+    uint32_t n, uint32_t k,
+    const uint8_t *sources, size_t sources_length,
+    const uint8_t *targets, size_t targets_length,
+    const uint16_t *draws, size_t draws_length,
+    const uint16_t *gains, size_t gains_length,
+    const uint8_t *colours, size_t colours_length,
+    const uint8_t *actions, size_t actions_length,
+    uint8_t barred,
+    uint32_t p, uint32_t q,
+    const uint8_t *plan, size_t plan_length);
 
 /* The number of an answer. */
 static inline uint32_t chargeplan_number(uint64_t answer)
@@ -601,6 +655,13 @@ static inline struct chargeplan_pair chargeplan_model_pair(const struct chargepl
                 return pair;
             }
     return pair;
+}
+
+static inline struct chargeplan_warded chargeplan_model_ward(struct chargeplan_wearer *wearers, size_t wearers_length,
+    const struct chargeplan_model *m, uint8_t barred, uint32_t p, uint32_t q, const uint8_t *plan)
+{
+    return chargeplan_ward(wearers, wearers_length, m->n, m->k, m->sources, m->arcs, m->targets, m->arcs, m->draws, m->arcs, m->gains,
+        m->arcs, m->colours, m->arcs, m->actions, chargeplan_model_actions(m), barred, p, q, plan, (size_t)p + q);
 }
 
 #ifdef __cplusplus

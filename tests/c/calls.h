@@ -170,6 +170,9 @@ struct model random_fit_model(struct lists *lists);
 /* The same; one in five has something unfit. Lists of another length have elements enough. */
 struct model random_model(struct lists *lists);
 
+/* A model with up to 64 modes and 255 arcs, and random barred colours; some of the modes have no arcs. */
+struct model random_large_model(struct lists *lists);
+
 /* Gives the first arcs of the lists random draws and gains up to these; of three, one draws, one gains, and one does both. */
 void random_moves(struct lists *lists, size_t arcs, uint32_t draw_most, uint32_t gain_most);
 
@@ -292,6 +295,18 @@ void test_two_wearers(void);
 void test_barred_duties(void);
 void test_join_functions(void);
 void test_no_actions(void);
+void test_ward_verdicts(void);
+void test_ward_first(void);
+void test_ward_empty(void);
+void test_ward_numbers(void);
+void test_ward_lists(void);
+void test_ward_arcs(void);
+void test_ward_order(void);
+void test_ward_sizes(void);
+void test_ward_barred(void);
+void test_ward_plans(void);
+void test_ward_long(unsigned long count);
+void test_ward_functions(void);
 void test_random(unsigned long models);
 void test_random_large(unsigned long models);
 void test_random_barred(unsigned long models);
@@ -315,5 +330,7 @@ void test_random_joins(unsigned long models);
 void test_random_large_joins(unsigned long models);
 void test_random_joined_plans(unsigned long models);
 void test_random_pairs(unsigned long models);
+void test_random_wards(unsigned long models);
+void test_random_large_wards(unsigned long models);
 
 #endif

@@ -38,6 +38,11 @@ static void test_layout(void)
             && offsetof(struct chargeplan_reading, detail) == 8 && offsetof(struct chargeplan_reading, n) == 16
             && offsetof(struct chargeplan_reading, start) == 20 && offsetof(struct chargeplan_reading, k) == 24
             && offsetof(struct chargeplan_reading, m) == 28, "what reading and the join hand back");
+    check(sizeof(struct chargeplan_wearer) == 16 && offsetof(struct chargeplan_wearer, start) == 0
+            && offsetof(struct chargeplan_wearer, c) == 4 && offsetof(struct chargeplan_wearer, b) == 8
+            && offsetof(struct chargeplan_wearer, verdict) == 12, "a wearer");
+    check(sizeof(struct chargeplan_warded) == 16 && offsetof(struct chargeplan_warded, number) == 0
+            && offsetof(struct chargeplan_warded, detail) == 8, "what a ward hands back");
 }
 
 /* The functions that take an answer apart: each reads its own bits. */

@@ -122,6 +122,7 @@ static void all_answer(const char *what, const struct chargeplan_model *m, uint3
     check(chargeplan_number(chargeplan_model_walk(m, 5, 5, 0, 0, 1, zeros, 0, 1)) == number, what);
     check(chargeplan_model_join(&joined, &lent, m, &none).number == number, what);
     check(chargeplan_model_join(&joined, &lent, &none, m).number == number, what);
+    check(chargeplan_model_ward(NULL, 0, m, 0, 0, 1, zeros).number == number, what);
 }
 
 /* A model initialised by names for version 2 has a null pointer for its actions: 3, where it has arcs. */

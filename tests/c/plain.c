@@ -257,6 +257,34 @@ struct outcome plain_walk(const struct model *m, uint32_t c, uint32_t b, uint32_
     return o;
 }
 
+struct warded plain_ward(const struct model *m, struct wearer *wearers, size_t count, uint32_t p, uint32_t q, const uint8_t *plan,
+    size_t length)
+{
+    struct model own = *m;
+    struct warded answer = {0, 0};
+    struct verdict v;
+    size_t i;
+
+    /* With start mode 0 and these levels neither 2 nor 6 applies, but where 1 does. */
+    own.start = 0;
+    v = plain_fitness(&own, 0, 0);
+    if (v.number != 0) {
+        answer.number = v.number;
+        answer.detail = v.detail;
+        return answer;
+    }
+    for (i = 0; i < count; i++) {
+        own.start = wearers[i].start;
+        wearers[i].verdict = (uint8_t)plain_judge(&own, wearers[i].c, wearers[i].b, p, q, plan, length).number;
+    }
+    for (i = count; i-- > 0;)
+        if (wearers[i].verdict != 0) {
+            answer.number = wearers[i].verdict;
+            answer.detail = i;
+        }
+    return answer;
+}
+
 /* The pair of a mode and a charge after an arc, or -1 where the arc does not leave the pair or is not possible there. */
 static int pair_after(const struct model *m, uint32_t b, uint32_t pair, size_t a)
 {

@@ -1,6 +1,6 @@
 /*
- * Judging, the existence of a plan, gauge and walk, as plainly as document 01 and Asks 2 to 6 of document 02 have them and with no
- * code of the library: what the C tests compare with. The join is in plain_join.h.
+ * Judging, the existence of a plan, gauge, walk and ward, as plainly as document 01 and Asks 2 to 6 and 11 of document 02 have them and
+ * with no code of the library: what the C tests compare with. The join is in plain_join.h.
  */
 #ifndef PLAIN_H
 #define PLAIN_H
@@ -86,6 +86,25 @@ struct outcome {
 /* 1 to 6, 11 to 16, 24, 17 and 18, or the steps of a plain gauge. */
 struct outcome plain_walk(const struct model *m, uint32_t c, uint32_t b, uint32_t p, uint32_t q, const uint8_t *plan, size_t length,
     uint32_t j, uint16_t allowance);
+
+/* A wearer of a ward, with a verdict that may be any byte before a call. */
+struct wearer {
+    uint32_t start, c, b;
+    uint8_t verdict;
+};
+
+/* What a ward answers. */
+struct warded {
+    uint32_t number;
+    uint64_t detail;
+};
+
+/*
+ * 1, 3, 4 and 5 of the model, whose start mode is not looked at, and no verdict; else the verdicts, and the first that is not 0 with its
+ * place.
+ */
+struct warded plain_ward(const struct model *m, struct wearer *wearers, size_t count, uint32_t p, uint32_t q, const uint8_t *plan,
+    size_t length);
 
 /* The most pairs of a mode and a charge that plain_has_plan takes: n * (b + 1). */
 enum { PLAIN_PAIRS_MOST = 64 };

@@ -328,8 +328,7 @@ void test_random(unsigned long models)
     }
 }
 
-/* A model with up to 64 modes and 255 arcs, and random barred colours; some of the modes have no arcs. */
-static struct model random_large_model(struct lists *lists)
+struct model random_large_model(struct lists *lists)
 {
     uint32_t n = 1 + below(CHARGEPLAN_MODES_MOST), k = below(5), arcs = below(CHARGEPLAN_ARCS_MOST + 1), with_arcs = 1 + below(n), a;
     struct model m = listed(n, k, lists, arcs);

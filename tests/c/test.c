@@ -132,6 +132,21 @@ static void test_random_joins_over_structs(void)
     test_random_pairs(random_models / 50);
 }
 
+static void test_ward_of_any_length(void)
+{
+    test_ward_long(random_models * 84ul);
+}
+
+static void test_random_wards_of_small_models(void)
+{
+    test_random_wards(random_models / 2);
+}
+
+static void test_random_wards_of_large_models(void)
+{
+    test_random_large_wards(random_models / 20);
+}
+
 static const struct {
     const char *name;
     void (*run)(void);
@@ -218,6 +233,18 @@ static const struct {
     {"join, one knee and two wearers", test_two_wearers},
     {"join, barred duties of knee and habit", test_barred_duties},
     {"join over structs, and the two arcs of a joined arc", test_join_functions},
+    {"ward, every verdict", test_ward_verdicts},
+    {"ward, the first other verdict and its place", test_ward_first},
+    {"ward, no wearers", test_ward_empty},
+    {"ward, 1 and 4 of the model", test_ward_numbers},
+    {"ward, 3 of the model", test_ward_lists},
+    {"ward, 5 of the model", test_ward_arcs},
+    {"ward, the order of the refusals", test_ward_order},
+    {"ward, start modes, credits and bounds of every size", test_ward_sizes},
+    {"ward, every byte of barred colours", test_ward_barred},
+    {"ward, long plans", test_ward_plans},
+    {"ward, lists of any length", test_ward_of_any_length},
+    {"ward over a struct", test_ward_functions},
     {"header", test_header},
     {"random models and plans", test_random_models},
     {"random models with many arcs", test_random_large_models},
@@ -242,6 +269,8 @@ static const struct {
     {"random joins with many arcs", test_random_joins_of_large_models},
     {"random joins, searched and judged", test_random_plans_of_joined_models},
     {"random joins over structs, and their pairs", test_random_joins_over_structs},
+    {"random wards", test_random_wards_of_small_models},
+    {"random wards with many arcs", test_random_wards_of_large_models},
 };
 
 int main(int argc, char **argv)
