@@ -415,20 +415,25 @@ static void long_ward(const char *what, struct chargeplan_wearer *wearers, size_
         wearers[other].start = 0;
 }
 
-/* Long lists, one as long as asked for, with the other verdict at places beyond 8, 16 and, where the list is as long, 24 bits. */
+/*
+ * Lists of many lengths, the last as long as asked for, with the other verdict at places beyond 8, 16 and, where the last list is as long,
+ * 24 bits; and lists of the first lengths without another verdict.
+ */
 void test_ward_long(unsigned long count)
 {
-    static const size_t places[] = {0, 254, 255, 256, 257, 511, 512, 65534, 65535, 65536, 65537, 131072};
-    size_t shorter = 131080, i;
-    struct chargeplan_wearer *wearers = many(shorter);
+    static const size_t places[] = {0, 254, 255, 256, 257, 511, 512}, far[] = {65535, 65536};
+    size_t shorter = 520, longer = 65544, i;
+    struct chargeplan_wearer *wearers = many(longer);
 
     for (i = 0; i < sizeof places / sizeof places[0]; i++)
-        long_ward("a place in a long list", wearers, shorter, places[i]);
-    long_ward("a long list", wearers, shorter, shorter);
+        long_ward("a place in a list", wearers, shorter, places[i]);
+    long_ward("a list without another verdict", wearers, shorter, shorter);
+    for (i = 0; i < sizeof far / sizeof far[0]; i++)
+        long_ward("a place in a long list", wearers, longer, far[i]);
+    long_ward("a long list without another verdict", wearers, longer, longer);
     free(wearers);
     wearers = many(count);
     long_ward("the last place of a long list", wearers, count, count - 1);
-    long_ward("a longer list", wearers, count, count);
     free(wearers);
 }
 

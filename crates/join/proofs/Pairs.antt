@@ -13,6 +13,7 @@ use lib.ListN.{length, getD, length-map}
 use borrow.Author.Tests.{eqb-true, eq-eqb}
 use Rattle.model.specs.declared.Arc.{Arc}
 use Rattle.model.specs.Automaton.{Automaton, noArc, arcAt}
+use Rattle.model.proofs.Places.{getD-map-lt}
 use Rattle.join.specs.Joined.{joinArc, keep, joinRow, joinArcs, joined}
 use Rattle.join.proofs.Every.{Every, every-append, every-at, every-map}
 
@@ -193,12 +194,6 @@ pairs-sorted (x ∷ xs) a ys =
     (every-map (InRow (x .action) a ys 0) (λ p. Every (Before p) rest)
     (λ p h. every-map (InPairs xs (suc a) ys) (Before p) (λ q k. inl (omega (arith, h .knee, k .knee))) rest (pairs-each xs (suc a) ys))
     (row (x .action) a ys 0) (row-each (x .action) a ys 0))
-
--- the element of a mapped list at a place that it has, whatever stands for one that it has not
-getD-map-lt : {A B : Type 0} (f : A → B) (l : List A) (z : ℕ) (d : A) (e : B) → z < length l → getD (map f l) z e ≡ f (getD l z d)
-getD-map-lt f [] z d e h = absurd (omega arith)
-getD-map-lt f (x ∷ l) zero d e h = refl
-getD-map-lt f (x ∷ l) (suc z) d e h = getD-map-lt f l z d e (omega arith)
 
 -- The same of models: g the knee, h the habit.
 module _ (g h : Automaton) where

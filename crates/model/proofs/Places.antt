@@ -2,7 +2,7 @@
 -- Each law pins every part of the definition that it is about. Assumes nothing.
 use mathlib.Core.Path.{_≡_, refl, sym, ap, _∙_, subst}
 use mathlib.Core.Bool.{true, false, true≢false}
-use mathlib.Core.List.{List, [], _∷_, _++_}
+use mathlib.Core.List.{List, [], _∷_, _++_, map}
 use mathlib.Core.Logic.{_↔_}
 use Prim.Native.Nat.{ℕ, zero, suc, _+_, _-_, _≤_, _<_, min}
 use native.Mathlib.Omega.{arith}
@@ -15,6 +15,12 @@ use Rattle.model.specs.Automaton.{Automaton, arcAt, bit, meets, moveOf, 
 use Rattle.model.specs.Plans.{Plan, Leads, IsPlan, walkedArcs, Accepted}
 use Rattle.model.proofs.Leads.{leads-append}
 use Rattle.model.proofs.SomeArc.{some-at}
+
+-- the element of a mapped list at a place that it has, whatever stands for one that it has not
+pub getD-map-lt : {A B : Type 0} (f : A → B) (l : List A) (z : ℕ) (d : A) (e : B) → z < length l → getD (map f l) z e ≡ f (getD l z d)
+getD-map-lt f [] z d e h = absurd (omega arith)
+getD-map-lt f (x ∷ l) zero d e h = refl
+getD-map-lt f (x ∷ l) (suc z) d e h = getD-map-lt f l z d e (omega arith)
 
 module _ (g : Automaton) where
   -- the mode before place i of the arcs w: s before the first, else the one that the arc before entered

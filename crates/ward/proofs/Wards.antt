@@ -3,8 +3,7 @@
 use mathlib.Core.Path.{_≡_, refl, sym, ap, _∙_}
 use mathlib.Core.Logic.{_↔_, _≢_}
 use mathlib.Core.List.{List, [], _∷_, map, map-map}
-use Prim.Native.Nat.{ℕ, zero, suc, _<_}
-use native.Mathlib.Nat.{not-suc-le-zero, le-of-suc-le-suc}
+use Prim.Native.Nat.{ℕ, _<_}
 use native.Mathlib.Omega.{arith}
 use lib.ListN.{length, getD, length-map}
 use Rattle.refusals.specs.declared.Answer.{Answer}
@@ -16,6 +15,7 @@ use Rattle.refusals.proofs.Numbers.{refusal-number}
 use Rattle.model.specs.Lists.{Lists, automatonOf}
 use Rattle.model.specs.Fitness.{EqualLists, Fit}
 use Rattle.model.proofs.Fitness.{fitness-yes}
+use Rattle.model.proofs.Places.{getD-map-lt}
 use Rattle.judge.specs.Judged.{judgedAnswer, Right}
 use Rattle.judge.proofs.Judged.{judged-zero}
 use Rattle.ward.specs.declared.Wearer.{Wearer}
@@ -28,12 +28,6 @@ use Rattle.ward.proofs.Unfit.{ward-fitness-yes, fit-ward}
 pub filled-length : (v : Verdict) (f : Wearer → ℕ) (ys : List Wearer) → length (filledIf v f ys) ≡ length ys
 filled-length Yes f ys = length-map ys (λ y. withVerdict y (f y))
 filled-length (Refused r) f ys = refl
-
--- what stands at a place of a list that was put through f
-getD-mapped : {A B : Type 0} (f : A → B) (ys : List A) (j : ℕ) (d : A) (e : B) → j < length ys → getD (map f ys) j e ≡ f (getD ys j d)
-getD-mapped f [] j d e h = absurd (not-suc-le-zero h)
-getD-mapped f (y ∷ ys) zero d e h = refl
-getD-mapped f (y ∷ ys) (suc j) d e h = getD-mapped f ys j d e (le-of-suc-le-suc h)
 
 module _ (n k : ℕ) (l : Lists) (x p q : ℕ) (w : List ℕ) where
   -- the plan is right for the wearer y: feasible and accepted, with the wearer's start mode, bound and credit
@@ -75,7 +69,7 @@ module _ {n k : ℕ} {l : Lists} {x p q : ℕ} {w : List ℕ} {ys zs : List Wear
   unfolding verdictOf
   ward-verdict e j i =
       ap (λ (us : List Wearer). getD us j noWearer) (ward-fit e .1)
-      ∙ getD-mapped (λ y. withVerdict y (verdictOf n k l x p q w y)) ys j noWearer noWearer i
+      ∙ getD-map-lt (λ y. withVerdict y (verdictOf n k l x p q w y)) ys j noWearer noWearer i
 
   -- a model that is not fit is refused by its number
   number-fit : r .number ≡ 0 → wardFitness n k l ≡ Yes
@@ -100,11 +94,11 @@ module _ {n k : ℕ} {l : Lists} {x p q : ℕ} {w : List ℕ} {ys zs : List Wear
       let long = length-map ys f in (
         λ e j i.
             verdict-right n k l x p q w (getD ys j noWearer) .0
-            (sym (getD-mapped f ys j noWearer 0 i) ∙ all .0 (sym told ∙ e) j (omega (arith, long))),
+            (sym (getD-map-lt f ys j noWearer 0 i) ∙ all .0 (sym told ∙ e) j (omega (arith, long))),
         λ g.
             told ∙ all .1 (λ j i.
             let i′ : j < length ys = omega (arith, long) in
-            getD-mapped f ys j noWearer 0 i′ ∙ verdict-right n k l x p q w (getD ys j noWearer) .1 (g j i′)),
+            getD-map-lt f ys j noWearer 0 i′ ∙ verdict-right n k l x p q w (getD ys j noWearer) .1 (g j i′)),
       )
 
   -- in all: number 0 exactly where the model is fit and the plan is right for every wearer
@@ -142,7 +136,7 @@ module _ {n k : ℕ} {l : Lists} {x p q : ℕ} {w : List ℕ} {ys zs : List Wear
   ward-place fit other =
       let first = ward-other fit (r .detail) (r .number) other .0 refl in
       let i : r .detail < length zs = omega (arith, first .within, length-map zs (λ (z : Wearer). z .verdict)) in
-      (omega (arith, i, ward-length), sym (getD-mapped (λ (z : Wearer). z .verdict) zs (r .detail) noWearer 0 i) ∙ first .here)
+      (omega (arith, i, ward-length), sym (getD-map-lt (λ (z : Wearer). z .verdict) zs (r .detail) noWearer 0 i) ∙ first .here)
 
 -- two lists of wearers that agree in start mode, c and b
 abbrev pub SameButVerdicts : List Wearer → List Wearer → Type 0
