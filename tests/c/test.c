@@ -1,7 +1,10 @@
 /*
  * The C entries with valid, edge and broken inputs, and with random ones against the plain reading of document 01.
  *
- *     test [RANDOM]    RANDOM: how many random models, 200,000 where it is left out
+ *     test [RANDOM [FIRST STEP]]
+ *
+ * RANDOM: how many random models, 200,000 where it is left out. FIRST and STEP: of the tests, numbered from 0, those with the numbers FIRST,
+ * FIRST + STEP and so on; all where they are left out.
  *
  * A line for each test with its checks; the last line is 'N passed, M failed', and the exit status is 0 where none failed.
  */
@@ -276,11 +279,15 @@ static const struct {
 int main(int argc, char **argv)
 {
     unsigned passed = 0, failed = 0;
-    size_t i;
+    size_t i = 0, step = 1;
 
     if (argc > 1)
         random_models = (unsigned)strtoul(argv[1], NULL, 10);
-    for (i = 0; i < sizeof tests / sizeof tests[0]; i++) {
+    if (argc > 3) {
+        i = strtoul(argv[2], NULL, 10);
+        step = strtoul(argv[3], NULL, 10);
+    }
+    for (; i < sizeof tests / sizeof tests[0]; i += step) {
         unsigned long checks_before = checks, failures_before = failures;
 
         tests[i].run();

@@ -1,4 +1,4 @@
--- A ward of three wearers, and one of none whose model is unfit, from the definitions, with models of document 01's examples. Assumes nothing.
+-- A ward of four wearers, and one of none whose model is unfit, from the definitions, with models of document 01's examples. Assumes nothing.
 use mathlib.Core.Path.{_≡_}
 use mathlib.Core.List.{List, [], _∷_}
 use Prim.Native.Nat.{ℕ}
@@ -18,11 +18,11 @@ use Rattle.ward.specs.Ward.{verdictOf, wardFitness, firstOther, WardOf}
 abbrev wearer : ℕ → ℕ → ℕ → ℕ → Wearer
 wearer s c b v = record { start = s; c = c; b = b; verdict = v }
 
--- E's model and plan, with 9 in each verdict field at entry: yes with c 4 and b 10, 6 with c above b, and 2 from a mode that is not below n. The first
--- that is not yes is the 6, at place 1.
+-- E's model and plan, with 9 in each verdict field at entry: yes as in E, 15 as in F, 2 from a mode that is not below n, and 6 with c above b. The first
+-- that is not yes is the 15, at place 1.
 pub ward-example : {zs : List Wearer} {r : Answer}
-    → WardOf 2 0 (ofE 10 10 Found .arcs) 0 0 2 (0 ∷ 1 ∷ []) (wearer 0 4 10 9 ∷ wearer 0 10 4 9 ∷ wearer 2 4 10 9 ∷ []) zs r
-    → (r ≡ answer 6 1) × (zs ≡ wearer 0 4 10 0 ∷ wearer 0 10 4 6 ∷ wearer 2 4 10 2 ∷ [])
+    → WardOf 2 0 (ofE 10 10 Found .arcs) 0 0 2 (0 ∷ 1 ∷ []) (wearer 0 10 10 9 ∷ wearer 0 2 2 9 ∷ wearer 5 1 1 9 ∷ wearer 0 3 2 9 ∷ []) zs r
+    → (r ≡ answer 15 1) × (zs ≡ wearer 0 10 10 0 ∷ wearer 0 2 2 15 ∷ wearer 5 1 1 2 ∷ wearer 0 3 2 6 ∷ [])
 unfolding verdictOf wardFitness firstOther judged judgedLevels judgedPlan servesOf fitness header unfitLists arcsVerdict unfitArc levelsOf shape lengthOf numbers chain closing charges rounds secondRound ran stepped acceptedOf barredFrom coloursOf missingFrom
 ward-example h = (h .answered, h .filled)
 

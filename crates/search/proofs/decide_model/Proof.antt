@@ -40,10 +40,10 @@ decide-requires c κs =
     solvable-searchable (start d .args .barred) (start d .pre) (d .group .ensures) (k .count-required .ensures) (differ-no (start d .args .barred) 0 .0)
 
 same-length : tie.Need-same-length
-same-length c = c .before .before .before .before .decide .kept .1 .1 .1 .0
+same-length c = search needs
 
 same-length-2 : tie.Need-same-length-2
-same-length-2 c = c .before .before .before .before .decide .kept .1 .1 .1 .1 .0
+same-length-2 c = search needs
 
 returns : tie.Need-returns
 returns c =

@@ -59,20 +59,16 @@ clear-requires c κs = search needs
 enum-known-verdict : tie.Need-enum-known-verdict
 enum-known-verdict c = search needs
 
--- from the cleared working space to the decision
-abbrev decided : tie.After-clear → tie.After-decide-model
-decided d = d .before .before .before .before .before .before
-
 same-length : tie.Need-same-length
-same-length c = let d = c .before .before in d .clear .kept .0 ∙ decided d .decide-model .kept .1 .1 .1 .1 .0
+same-length c = search needs
 
 same-length-2 : tie.Need-same-length-2
-same-length-2 c = decided (c .before .before) .decide-model .kept .1 .1 .1 .1 .1 .0
+same-length-2 c = search needs
 
 returns : tie.Need-returns
 returns c =
     let clear = c .before .before in
-    let e = decided clear in
+    let e = clear .before .before .before .before .before .before in
     let y = e .decide-model in
     let t = e .before .before .before in
     let d = checked t in

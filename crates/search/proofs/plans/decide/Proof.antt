@@ -166,10 +166,7 @@ cast-cycle c =
     omega (arith, held, buffer-short (t .duties) (t .modes) (t .bound) (s .pre .0 .few-duties) (s .pre .0 .product))
 
 same-length-2 : tie.Need-same-length-2
-same-length-2 c =
-    let y = c .before .before .before .before in
-    let w = prefix-of y in
-    y .write-cycle .kept .1 .1 .1 .1 .1 .0 ∙ w .write-prefix .kept .1 .1 .1 .1 .1 .0 ∙ words-kept (first-of (kept-of w))
+same-length-2 c = search needs
 
 same-length-3 : tie.Need-same-length-3
 same-length-3 c = search needs

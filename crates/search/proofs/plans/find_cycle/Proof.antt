@@ -40,7 +40,7 @@ run-requires c κs =
     pass-asked (s .pre .0) (omega arith) refl (table-blank (s .pre .0)) (s .args .task .barred) (s .pre .1 .0) (s .pre .1 .1)
 
 same-length : tie.Need-same-length
-same-length c = c .before .before .before .run .kept .1 .1 .1 .1 .1 .1 .1 .0
+same-length c = search needs
 
 returns : tie.Need-returns
 unfolding node

@@ -25,10 +25,10 @@ run-requires c κs =
     pass-asked able (omega arith) (sym (one-mul _)) (s .pre .1) false (able .fits .starts) (able .credit)
 
 same-length : tie.Need-same-length
-same-length c = c .before .before .before .before .run .kept .1 .1 .1 .1 .1 .1 .0
+same-length c = search needs
 
 same-length-2 : tie.Need-same-length-2
-same-length-2 c = c .before .before .before .before .run .kept .1 .1 .1 .1 .1 .1 .1 .0
+same-length-2 c = search needs
 
 returns : tie.Need-returns
 returns c =

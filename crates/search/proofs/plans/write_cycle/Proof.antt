@@ -45,7 +45,7 @@ add-result c =
     omega (arith, slice-write-part c, t .trace .kept .1 .1 .0, start (pass-of t) .good .1 .1 .1 .1 .1 .1 .0)
 
 same-length : tie.Need-same-length
-same-length c = pass-of (c .before .before .before) .find-cycle .kept .1 .1 .1 .1 .1 .0
+same-length c = search needs
 
 same-length-2 : tie.Need-same-length-2
 same-length-2 c = search needs

@@ -44,10 +44,10 @@ trace-requires c κs =
     (peaked .linked (here .result) (here .ensures .0), omega (arith, here .ensures .0, peaked .few, start d .pre .1 .1))
 
 same-length : tie.Need-same-length
-same-length c = pass-of (c .before .before .before .before) .find-peaks .kept .1 .1 .1 .1 .0
+same-length c = search needs
 
 same-length-2 : tie.Need-same-length-2
-same-length-2 c = c .before .before .trace .kept .1 .1 .0
+same-length-2 c = search needs
 
 returns : tie.Need-returns
 returns c =
