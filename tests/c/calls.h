@@ -131,6 +131,18 @@ struct model model(uint32_t n, uint32_t k, size_t arcs, const uint8_t *sources, 
 /* A model with start mode 0 and no arcs. */
 struct model without_arcs(uint32_t n, uint32_t k);
 
+/* So many arcs that change nothing, where the lists of a set, which has a bit for each, have another length. */
+struct model unequal(size_t arcs, unsigned set, size_t length);
+
+/* What a test does with a model that is refused by this number and detail. */
+typedef void refusing(const char *what, const struct model *m, uint32_t number, uint64_t detail);
+
+/* 1 and 4: a fit model with each of many wrong n and k, which are not cut down. */
+void each_wrong_number(const struct model *fit, refusing *refused);
+
+/* 3: each list in turn is shorter or longer than the others, and all are too long. */
+void each_wrong_list(refusing *refused);
+
 /* The model without its last arc, if it has any; the lists are of one length. */
 struct model without_last(const struct model *m);
 

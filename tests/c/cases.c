@@ -145,8 +145,7 @@ void test_numbers(void)
 /* A set of all lists of a model, by their places, with a bit for each. */
 enum { ALL_LISTS = (1 << MODEL_LISTS) - 1 };
 
-/* So many arcs that change nothing, where the lists of a set have another length. */
-static struct model unequal(size_t arcs, unsigned set, size_t length)
+struct model unequal(size_t arcs, unsigned set, size_t length)
 {
     struct model m = model(1, 0, arcs, zeros, zeros, nothing, nothing, zeros);
     size_t *lengths[MODEL_LISTS] = {
@@ -157,6 +156,40 @@ static struct model unequal(size_t arcs, unsigned set, size_t length)
         if (set >> list & 1)
             *lengths[list] = length;
     return m;
+}
+
+void each_wrong_number(const struct model *fit, refusing *refused)
+{
+    static const uint32_t modes[] = {0, CHARGEPLAN_MODES_MOST + 1, 256, 258, 65538, 0x80000002u, UINT32_MAX},
+                          colours[] = {CHARGEPLAN_COLOURS_MOST + 1, 8, 32, 256, 257, 65537, UINT32_MAX};
+    struct model m = *fit;
+    size_t i;
+
+    for (i = 0; i < sizeof modes / sizeof modes[0]; i++) {
+        m.n = modes[i];
+        refused("1: modes", &m, CHARGEPLAN_MODE_COUNT, 0);
+    }
+    m.n = fit->n;
+    for (i = 0; i < sizeof colours / sizeof colours[0]; i++) {
+        m.k = colours[i];
+        refused("4: colours", &m, CHARGEPLAN_COLOUR_COUNT, 0);
+    }
+}
+
+void each_wrong_list(refusing *refused)
+{
+    static const struct {
+        size_t arcs, length;
+    } lengths[] = {{3, 2}, {3, 4}, {3, 0}, {0, 1}, {255, 254}, {255, 256}, {256, 255}, {256, 0}, {256, 256}};
+    unsigned list;
+    size_t i;
+
+    for (list = 0; list < MODEL_LISTS; list++)
+        for (i = 0; i < sizeof lengths / sizeof lengths[0]; i++) {
+            struct model m = unequal(lengths[i].arcs, 1u << list, lengths[i].length);
+
+            refused("3: lists", &m, CHARGEPLAN_ARC_LISTS, 0);
+        }
 }
 
 /* One list with another length. */

@@ -179,7 +179,7 @@ void test_join_empty(void)
 }
 
 /* The knee, the habit, or both are refused by this number and detail, with room and without. */
-static void one_refused(const char *what, const struct model *m, uint32_t number, uint32_t detail)
+static void one_refused(const char *what, const struct model *m, uint32_t number, uint64_t detail)
 {
     struct lists lists;
     struct model fit = habit_of_three(&lists);
@@ -194,55 +194,21 @@ static void one_refused(const char *what, const struct model *m, uint32_t number
 /* 1, 2 and 4, and numbers that are not cut down. */
 void test_join_numbers(void)
 {
-    static const uint32_t modes[] = {0, CHARGEPLAN_MODES_MOST + 1, 256, 258, 65538, 0x80000002u, UINT32_MAX},
-                          starts[] = {2, 3, 256, 65536, 0x55555556u, UINT32_MAX}, colours[] = {5, 8, 32, 256, 257, 65537, UINT32_MAX};
+    static const uint32_t starts[] = {2, 3, 256, 65536, 0x55555556u, UINT32_MAX};
     struct lists lists;
-    struct model m;
+    struct model m = knee_of_two(&lists);
     size_t i;
 
-    for (i = 0; i < sizeof modes / sizeof modes[0]; i++) {
-        m = knee_of_two(&lists);
-        m.n = modes[i];
-        one_refused("1: modes", &m, CHARGEPLAN_MODE_COUNT, 0);
-    }
+    each_wrong_number(&m, one_refused);
     for (i = 0; i < sizeof starts / sizeof starts[0]; i++) {
-        m = knee_of_two(&lists);
         m.start = starts[i];
         one_refused("2: start mode", &m, CHARGEPLAN_START_MODE, 0);
     }
-    for (i = 0; i < sizeof colours / sizeof colours[0]; i++) {
-        m = knee_of_two(&lists);
-        m.k = colours[i];
-        one_refused("4: colours", &m, CHARGEPLAN_COLOUR_COUNT, 0);
-    }
 }
 
-/* So many arcs that change nothing, where one list has another length. */
-static struct model unequal(unsigned list, size_t arcs, size_t length)
-{
-    struct model m = model(1, 0, arcs, zeros, zeros, nothing, nothing, zeros);
-    size_t *lengths[MODEL_LISTS] = {
-        &m.sources_length, &m.targets_length, &m.draws_length, &m.gains_length, &m.colours_length, &m.actions_length};
-
-    *lengths[list] = length;
-    return m;
-}
-
-/* 3: each list in turn is shorter or longer than the others, and all are too long. */
 void test_join_unequal(void)
 {
-    static const struct {
-        size_t arcs, length;
-    } lengths[] = {{3, 2}, {3, 4}, {3, 0}, {0, 1}, {255, 254}, {255, 256}, {256, 255}, {256, 0}, {256, 256}};
-    unsigned list;
-    size_t i;
-
-    for (list = 0; list < MODEL_LISTS; list++)
-        for (i = 0; i < sizeof lengths / sizeof lengths[0]; i++) {
-            struct model m = unequal(list, lengths[i].arcs, lengths[i].length);
-
-            one_refused("3: lists", &m, CHARGEPLAN_ARC_LISTS, 0);
-        }
+    each_wrong_list(one_refused);
 }
 
 /* The arc of a knee or habit of three modes and two colours at this place is unfit; then those behind it are, too. */
@@ -253,10 +219,10 @@ static void one_unfit(size_t at, struct arc arc)
     size_t a;
 
     put(&lists, at, arc);
-    one_refused("5: an arc", &m, CHARGEPLAN_UNFIT_ARC, (uint32_t)at);
+    one_refused("5: an arc", &m, CHARGEPLAN_UNFIT_ARC, at);
     for (a = at; a < 4; a++)
         put(&lists, a, arc);
-    one_refused("5: the lowest arc", &m, CHARGEPLAN_UNFIT_ARC, (uint32_t)at);
+    one_refused("5: the lowest arc", &m, CHARGEPLAN_UNFIT_ARC, at);
 }
 
 /* 5 by every part, at every place; and by every action above 15, each at one of the places. */

@@ -39,7 +39,7 @@ struct reading join_models(const char *what, const struct model *knee, const str
     return first;
 }
 
-void joined_as(const char *what, const struct model *knee, const struct model *habit, uint32_t number, uint32_t detail)
+void joined_as(const char *what, const struct model *knee, const struct model *habit, uint32_t number, uint64_t detail)
 {
     struct reading r = join_models(what, knee, habit, equal_rooms(CHARGEPLAN_ARCS_MOST), NULL), expected = {number, detail, 0, 0, 0, 0};
 

@@ -13,7 +13,7 @@
 struct reading join_models(const char *what, const struct model *knee, const struct model *habit, struct rooms rooms, struct lists *to);
 
 /* The join into lists as long as they need be is refused by this number and detail, or is not where the number is 0. */
-void joined_as(const char *what, const struct model *knee, const struct model *habit, uint32_t number, uint32_t detail);
+void joined_as(const char *what, const struct model *knee, const struct model *habit, uint32_t number, uint64_t detail);
 
 /* The joined model of an answer and the lists that were filled with it. */
 struct model joined_model(struct reading r, const struct lists *lists);

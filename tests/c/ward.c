@@ -163,22 +163,10 @@ static void model_refused(const char *what, const struct model *m, uint32_t numb
 /* 1 and 4, with numbers that are not cut down. */
 void test_ward_numbers(void)
 {
-    static const uint32_t modes[] = {0, CHARGEPLAN_MODES_MOST + 1, 256, 258, 65538, 0x80000002u, UINT32_MAX},
-                          colours[] = {CHARGEPLAN_COLOURS_MOST + 1, 8, 32, 256, 257, 65537, UINT32_MAX};
     struct lists lists;
-    struct model m;
-    size_t i;
+    struct model m = knee(&lists);
 
-    for (i = 0; i < sizeof modes / sizeof modes[0]; i++) {
-        m = knee(&lists);
-        m.n = modes[i];
-        model_refused("1: modes", &m, CHARGEPLAN_MODE_COUNT, 0);
-    }
-    for (i = 0; i < sizeof colours / sizeof colours[0]; i++) {
-        m = knee(&lists);
-        m.k = colours[i];
-        model_refused("4: colours", &m, CHARGEPLAN_COLOUR_COUNT, 0);
-    }
+    each_wrong_number(&m, model_refused);
     m = without_arcs(0, 0);
     model_refused("1: n 0 and start mode 0", &m, CHARGEPLAN_MODE_COUNT, 0);
     m.n = CHARGEPLAN_MODES_MOST + 1;
@@ -186,24 +174,9 @@ void test_ward_numbers(void)
     model_refused("1 and not 2", &m, CHARGEPLAN_MODE_COUNT, 0);
 }
 
-/* 3: each list in turn is shorter or longer than the others, and all are too long. */
 void test_ward_lists(void)
 {
-    static const struct {
-        size_t arcs, length;
-    } lengths[] = {{3, 2}, {3, 4}, {3, 0}, {0, 1}, {255, 254}, {255, 256}, {256, 255}, {256, 256}};
-    unsigned list;
-    size_t i;
-
-    for (list = 0; list < MODEL_LISTS; list++)
-        for (i = 0; i < sizeof lengths / sizeof lengths[0]; i++) {
-            struct model m = model(1, 0, lengths[i].arcs, zeros, zeros, nothing, nothing, zeros);
-            size_t *of[MODEL_LISTS] = {
-                &m.sources_length, &m.targets_length, &m.draws_length, &m.gains_length, &m.colours_length, &m.actions_length};
-
-            *of[list] = lengths[i].length;
-            model_refused("3: lists", &m, CHARGEPLAN_ARC_LISTS, 0);
-        }
+    each_wrong_list(model_refused);
 }
 
 /* 5 by every part at every place, with the lowest such arc as detail; and at every place of 255 arcs. */

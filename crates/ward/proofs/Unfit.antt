@@ -6,6 +6,7 @@ use mathlib.Core.List.{List}
 use mathlib.Core.Logic.{_↔_}
 use Prim.Native.Nat.{ℕ, zero, suc, _^_, _<_, _≤_}
 use native.Mathlib.Omega.{arith}
+use native.Mathlib.Decide.{decLe}
 use lib.Dec.{leb, ltb, eqb}
 use lib.ListN.{length}
 use borrow.Author.Tests.{le-leb, lt-leb}
@@ -67,20 +68,6 @@ module _ (n k : ℕ) (l : Lists) where
   unfolding wardFitness
   ward-order = fitness-order 0 ∙ no-start n (refuse listsUnfit ArcLists (refuse (ltb coloursMost k) ColourCount (arcsFitness n (2 ^ k) l)))
 
-  -- where none of them applies
-  record NoneUnfit : Type 0 where
-    modes : modesUnfit ≡ false
-    lists : listsUnfit ≡ false
-    colours : ltb coloursMost k ≡ false
-    arcs : arcsFitness n (2 ^ k) l ≡ Yes
-
-  none-unfit : wardFitness n k l ≡ Yes → NoneUnfit
-  none-unfit e =
-      let one = refuse-yes modesUnfit ModeCount _ .0 (sym ward-order ∙ e) in
-      let three = refuse-yes listsUnfit ArcLists _ .0 (one .1) in
-      let four = refuse-yes (ltb coloursMost k) ColourCount _ .0 (three .1) in
-      record { modes = one .0; lists = three .0; colours = four .0; arcs = four .1 }
-
   -- in the words of the model
   pub ward-fitness-yes : (wardFitness n k l ≡ Yes) ↔ (EqualLists l × Fit (automatonOf n 0 k l))
   unfolding wardFitness
@@ -92,23 +79,20 @@ module _ (n k : ℕ) (l : Lists) where
 
   -- a model that is fit with some start mode is so for a ward
   pub fit-ward : (s : ℕ) → fitness n s k l ≡ Yes → wardFitness n k l ≡ Yes
-  fit-ward s e =
-      let one = refuse-yes modesUnfit ModeCount _ .0 (sym (fitness-order s) ∙ e) in
-      let two = refuse-yes (leb n s) StartMode _ .0 (one .1) in
-      ward-order ∙ refuse-yes modesUnfit ModeCount _ .1 (one .0, two .1)
+  fit-ward s e = ward-fitness-same s (fitness-yes n s k l .0 e .1 .starts) ∙ e
 
   -- "2 and 6 are verdicts": where the model is fit, of 1 to 5 only 2 is left for a wearer; 6 and what judging checks of a plan follow
   pub ward-wearer : wardFitness n k l ≡ Yes → (s x b c p q : ℕ) (w : List ℕ)
       → judged n s k l x b c p q w ≡ refuse (leb n s) StartMode (judgedLevels (automatonOf n s k l) x b c p q w)
   unfolding judged
   ward-wearer e s x b c p q w =
-      let none = none-unfit e in
-      rw (fitness-order s, none .modes, none .lists, none .colours, none .arcs) (refused (leb n s))
-    where
-      refused : (t : Bool) → andThen (refuse t StartMode Yes) (judgedLevels (automatonOf n s k l) x b c p q w)
-          ≡ refuse t StartMode (judgedLevels (automatonOf n s k l) x b c p q w)
-      refused true = refl
-      refused false = refl
+      let modes = refuse-yes modesUnfit ModeCount _ .0 (sym ward-order ∙ e) .0 in
+      elim (decLe n s) [
+        | yes h ↦ rw (fitness-order s, modes, le-leb n s h) refl
+        | no h ↦
+            let below : s < n = omega arith in
+            rw (lt-leb n s below, sym (ward-fitness-same s below) ∙ e) refl
+      ]
 
   -- .. 2 for a start mode that is not below n, whatever b, c and the plan are,
   pub ward-start : wardFitness n k l ≡ Yes → (s x b c p q : ℕ) (w : List ℕ) → n ≤ s → judgedAnswer n s k l x b c p q w ≡ answer 2 0

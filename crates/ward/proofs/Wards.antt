@@ -45,18 +45,20 @@ module _ (n k : ℕ) (l : Lists) (x p q : ℕ) (w : List ℕ) where
   verdict-unread y v = refl
 
 module _ {n k : ℕ} {l : Lists} {x p q : ℕ} {w : List ℕ} {ys zs : List Wearer} {r : Answer} (h : WardOf n k l x p q w ys zs r) where
+  -- by what is said of the model
+  by-fitness : (v : Verdict) → wardFitness n k l ≡ v → (r ≡ answeredIf v (verdictOf n k l x p q w) ys) × (zs ≡ filledIf v (verdictOf n k l x p q w) ys)
+  by-fitness v e =
+      let f = verdictOf n k l x p q w in
+      (h .answered ∙ ap (λ (u : Verdict). answeredIf u f ys) e, h .filled ∙ ap (λ (u : Verdict). filledIf u f ys) e)
+
   -- "An unfit model met before any wearer (1, 3, 4, 5) ends the call with its number and detail and no verdict written, even on an empty list"
   pub ward-unfit : (z : Refusal) → wardFitness n k l ≡ Refused z → (r ≡ numbered z) × (zs ≡ ys)
-  ward-unfit z e =
-      let f = verdictOf n k l x p q w in
-      (h .answered ∙ ap (λ (v : Verdict). answeredIf v f ys) e, h .filled ∙ ap (λ (v : Verdict). filledIf v f ys) e)
+  ward-unfit z = by-fitness (Refused z)
 
   -- else the answer is that of the verdicts, and each is written
   ward-fit : wardFitness n k l ≡ Yes
       → (r ≡ firstOther (map (verdictOf n k l x p q w) ys) 0) × (zs ≡ map (λ y. withVerdict y (verdictOf n k l x p q w y)) ys)
-  ward-fit e =
-      let f = verdictOf n k l x p q w in
-      (h .answered ∙ ap (λ (v : Verdict). answeredIf v f ys) e, h .filled ∙ ap (λ (v : Verdict). filledIf v f ys) e)
+  ward-fit = by-fitness Yes
 
   pub ward-length : length zs ≡ length ys
   ward-length = ap (λ (us : List Wearer). length us) (h .filled) ∙ filled-length (wardFitness n k l) (verdictOf n k l x p q w) ys

@@ -46,18 +46,10 @@ fn check_ward(
 {
     let fitted = check_model(n, 0, k, sources, targets, draws, gains, colours, actions);
     let verdict = fitted.verdict;
+    let answer = verdict.answer();
     match verdict {
-        Verdict::Yes => Checked {
-            answer: Answer {
-                number: 0,
-                detail: 0,
-            },
-            count,
-        },
-        Verdict::Refused(refusal) => Checked {
-            answer: refusal.answer(),
-            count: 0,
-        },
+        Verdict::Yes => Checked { answer, count },
+        Verdict::Refused(_) => Checked { answer, count: 0 },
     }
 }
 
