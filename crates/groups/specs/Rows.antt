@@ -1,5 +1,5 @@
 -- The arcs of a model as rows of words, one after the other, by the numbers that they are given. Document 02, Ask 7: "Plans still carry the
--- given arc numbers." A row says which required colours the arc meets, and whether it has a barred one (Ask 6).
+-- given arc numbers." A row says which required colours the arc meets, whether it has a barred one (Ask 6), and whether it is on (Ask 9).
 use Prim.Native.Nat.{ℕ, zero, suc, _+_, _*_, _/_, _%_}
 use mathlib.Core.Path.{_≡_}
 use mathlib.Core.Bool.{Bool, not}
@@ -12,11 +12,12 @@ use Rattle.model.specs.declared.Arc.{Arc}
 use Rattle.model.specs.declared.Model.{Model}
 use Rattle.model.specs.Automaton.{noArc}
 use Rattle.model.specs.Required.{digit, compressed}
+use Rattle.switches.specs.Switches.{isOn}
 use Rattle.groups.specs.Filled.{filledTo}
 
 -- the words of a row
 abbrev pub rowWords : ℕ
-rowWords = 5
+rowWords = 6
 
 -- the words of all rows
 abbrev pub wordsMost : ℕ
@@ -31,26 +32,26 @@ barredIn x y = not (eqb (bitAnd y x) 0)
 abbrev pub colourWord : ℕ → ℕ → ℕ
 colourWord x y = 2 * compressed x y + digit (barredIn x y)
 
--- source, target, draw, gain, colours
-abbrev pub rowOf : ℕ → Arc → List ℕ
-rowOf x a = a .source ∷ a .target ∷ a .draw ∷ a .gain ∷ colourWord x (a .colours) ∷ []
+-- source, target, draw, gain, colours, and 1 where the arc is on
+abbrev pub rowOf : ℕ → Bool → Arc → List ℕ
+rowOf x o a = a .source ∷ a .target ∷ a .draw ∷ a .gain ∷ colourWord x (a .colours) ∷ digit o ∷ []
 
 -- the rows of m arcs
-abbrev pub rowsUpTo : ℕ → (ℕ → Arc) → ℕ → List ℕ
-rowsUpTo x arc zero = []
-rowsUpTo x arc (suc m) = rowsUpTo x arc m ++ rowOf x (arc m)
+abbrev pub rowsUpTo : ℕ → List ℕ → (ℕ → Arc) → ℕ → List ℕ
+rowsUpTo x on arc zero = []
+rowsUpTo x on arc (suc m) = rowsUpTo x on arc m ++ rowOf x (isOn on m) (arc m)
 
 -- the rows, and 0 up to the end
-abbrev pub rowsAnd : ℕ → (ℕ → Arc) → ℕ → List ℕ
-rowsAnd x arc m = filledTo wordsMost (rowsUpTo x arc m)
+abbrev pub rowsAnd : ℕ → List ℕ → (ℕ → Arc) → ℕ → List ℕ
+rowsAnd x on arc m = filledTo wordsMost (rowsUpTo x on arc m)
 
 -- arc a, as the code holds it
 abbrev pub arcIn : Model → ℕ → Arc
 arcIn g a = getD (g .arcs) a noArc
 
 -- the rows of a model
-abbrev pub rowsOf : Model → ℕ → List ℕ
-rowsOf g x = rowsAnd x (arcIn g) (g .count)
+abbrev pub rowsOf : Model → ℕ → List ℕ → List ℕ
+rowsOf g x on = rowsAnd x on (arcIn g) (g .count)
 
 -- what is read of the row of arc a
 abbrev pub sourceAt : List ℕ → ℕ → ℕ
@@ -77,11 +78,16 @@ coloursAt w a = colourWordAt w a / 2
 abbrev pub barredAt : List ℕ → ℕ → Bool
 barredAt w a = eqb (colourWordAt w a % 2) 1
 
--- what is read of row a is the arc y
-pub record ReadsArc (x : ℕ) (w : List ℕ) (a : ℕ) (y : Arc) : Type 0 where
+-- whether it is on
+abbrev pub onAt : List ℕ → ℕ → Bool
+onAt w a = eqb (getD w (rowWords * a + 5) 0) 1
+
+-- what is read of row a is the arc y, on or off as o says
+pub record ReadsArc (x : ℕ) (o : Bool) (w : List ℕ) (a : ℕ) (y : Arc) : Type 0 where
   pub source : sourceAt w a ≡ y .source
   pub target : targetAt w a ≡ y .target
   pub draw : drawAt w a ≡ y .draw
   pub gain : gainAt w a ≡ y .gain
   pub colours : coloursAt w a ≡ compressed x (y .colours)
   pub barred : barredAt w a ≡ barredIn x (y .colours)
+  pub on : onAt w a ≡ o

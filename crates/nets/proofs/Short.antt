@@ -12,7 +12,8 @@ use Rattle.walks.specs.Moves.{charge, Possible}
 use Rattle.walks.proofs.Charges.{charge-append, possible-append, charge-bound}
 use Rattle.model.specs.Automaton.{Automaton}
 use Rattle.model.specs.Fitness.{Fit}
-use Rattle.model.specs.Plans.{Plan, Serves, SomePlan}
+use Rattle.model.specs.Plans.{Plan}
+use Rattle.switches.specs.PlansOn.{ServesOn, SomePlanOn}
 use Rattle.model.proofs.Required.{required-room}
 use Rattle.nets.specs.Graph.{moves, Leads}
 use Rattle.nets.specs.Net.{Net, Usable, Lasts, Fits, AcceptedLasso}
@@ -155,15 +156,15 @@ lasso-short g b c fits hc p =
     let (k′, n) = kept-short g b s e fits hs he (l .kept) in
     record { lasso = record { mode = s; charged = e; reached = r′; kept = k′ }; prefix-short = rw one-mul at m; cycle-short = n }
 
--- where any plan exists, one exists with a run-in of at most n(b+1) and a round of at most (k+1)n(b+1) arcs
-pub plan-short : (g : Automaton) (x b c : ℕ) → Fit g → c ≤ b → SomePlan g x b c
-    → (p : Plan) × Serves g x b c p × (length (p .prefix) ≤ g .modes * (b + 1)) × (length (p .cycle) ≤ (g .colours + 1) * g .modes * (b + 1))
-plan-short g x b c f hc p =
-    let h = lasso-short (whole g x) b c (whole-fits g x f) hc (whole-lasso g x b c (f .few-colours) .0 p) in
+-- "where any plan exists, one exists with a run-in of at most n(b+1) and a round of at most (k+1)n(b+1) arcs", of the arcs that are on
+pub plan-short : (g : Automaton) (x : ℕ) (on : List ℕ) (b c : ℕ) → Fit g → c ≤ b → SomePlanOn g x on b c
+    → (p : Plan) × ServesOn g x on b c p × (length (p .prefix) ≤ g .modes * (b + 1)) × (length (p .cycle) ≤ (g .colours + 1) * g .modes * (b + 1))
+plan-short g x on b c f hc p =
+    let h = lasso-short (whole g x on) b c (whole-fits g x on f) hc (whole-lasso g x on b c (f .few-colours) .0 p) in
     let l = h .lasso in
     let more = simp add-one at (required-room x (g .colours) 1 (g .modes) (b + 1)) in (
       record { prefix = l .reached .arcs; cycle = l .kept .arcs },
-      reached-serves g x b c (f .few-colours) (l .mode) (l .charged) (l .reached) (l .kept),
+      reached-serves g x on b c (f .few-colours) (l .mode) (l .charged) (l .reached) (l .kept),
       simp add-one (omega (arith, h .prefix-short)),
       simp add-one (omega (arith, h .cycle-short, more)),
     )

@@ -146,16 +146,16 @@ visited-tried {P} {w = w} {best′ = best′} {head = head} {closes = closes} re
       covers =
           λ off e i.
           record {
-            knows = λ u x s. covered off i (s .known) (s .leaves) .knows u x s;
-            passes = λ u x s. covered off i (s .known) (s .leaves) .passes u x s;
+            knows = λ u x s. covered off i (s .known) (s .allowed) (s .leaves) .knows u x s;
+            passes = λ u x s. covered off i (s .known) (s .allowed) (s .leaves) .passes u x s;
           };
       closing = t .closing;
     }
   where
-    covered : closes ≡ false → (i : ℕ) → i < P .net .count → P .net .graph .source i ≡ nodeAt w head % P .net .modes
+    covered : closes ≡ false → (i : ℕ) → i < P .net .count → P .ok i ≡ true → P .net .graph .source i ≡ nodeAt w head % P .net .modes
         → Covers P best′ i (nodeAt w head) (chargeAt w head)
-    covered off i known leaves =
-        let (j, p, e) = ready .grouped .placed i known in
+    covered off i known allowed leaves =
+        let (j, p, e) = ready .grouped .placed i known (ready .allows i allowed) in
         let q : InGroup (P .places) (nodeAt w head % P .net .modes) j = rw leaves at p in
         rw e at (t .covers off j (q .from) (q .below))
 

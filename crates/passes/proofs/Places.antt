@@ -1,5 +1,6 @@
--- What a pass that is ready has at the places of a mode: arcs of its net, which leave the mode. Assumes nothing.
+-- What a pass that is ready has at the places of a mode: arcs of its net, which are on and leave the mode. Assumes nothing.
 use mathlib.Core.Path.{_≡_}
+use mathlib.Core.Bool.{true}
 use Prim.Native.Nat.{ℕ, _<_}
 use native.Mathlib.Omega.{arith}
 use Rattle.limits.specs.Ceilings.{arcsMost}
@@ -15,6 +16,10 @@ module _ {P : Pass} {m size s i : ℕ} (r : Ready P m size) (mode : s < P .net .
   -- the arc there is one of the net's ..
   pub place-known : arcPlaced (P .places) i < P .net .count
   place-known = r .grouped .known s i mode p
+
+  -- .. is on ..
+  pub place-stands : P .net .on (arcPlaced (P .places) i) ≡ true
+  place-stands = r .grouped .stands s i mode p
 
   -- .. and leaves the mode
   pub place-leaves : P .net .graph .source (arcPlaced (P .places) i) ≡ s

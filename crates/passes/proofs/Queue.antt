@@ -59,7 +59,7 @@ along-inside {P} {m} {size} {a} {v} r h s =
     let n = P .net .modes in
     let l = next (P .net) (P .last) (v / n) a in
     let low = raised-low (P .last) (v / n) (P .net .meets (v / n) a) (node-levels r h .0) in
-    let inside = paired-bound (suc (P .last)) n l (P .net .graph .target a) (omega arith) (r .targets a (s .known)) in
+    let inside = paired-bound (suc (P .last)) n l (P .net .graph .target a) (omega arith) (r .targets a (s .known) (r .allows a (s .allowed))) in
     omega (arith, s .enters, r .table)
 
 -- one store moves the sum by the difference
@@ -70,7 +70,7 @@ sum-set (x ∷ xs) zero v h = omega arith
 sum-set (x ∷ xs) (suc i) v h = let ih = sum-set xs i v (omega arith) in omega arith
 
 -- words up to y add up to no more than y for each
-sum-le : (l : List ℕ) (y : ℕ) → ((v : ℕ) → getD l v 0 ≤ y) → sum l ≤ length l * y
+pub sum-le : (l : List ℕ) (y : ℕ) → ((v : ℕ) → getD l v 0 ≤ y) → sum l ≤ length l * y
 unfolding sum
 sum-le [] y h = omega arith
 sum-le (x ∷ xs) y h = let ih = sum-le xs y (λ v. h (suc v)) in omega (arith, h 0, suc-mul (length xs) y)

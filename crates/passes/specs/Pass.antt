@@ -52,8 +52,9 @@ pub record Ready (P : Pass) (m size : ℕ) : Type 0 where
   pub some-mode : 0 < P .net .modes
   pub few-modes : P .net .modes ≤ modesMost
   pub few-arcs : P .net .count ≤ arcsMost
-  pub targets : (a : ℕ) → a < P .net .count → P .net .graph .target a < P .net .modes
-  pub grouped : Grouped (P .net .graph .source) (P .net .modes) (P .net .count) (P .places)
+  pub targets : (a : ℕ) → a < P .net .count → P .net .on a ≡ true → P .net .graph .target a < P .net .modes
+  pub allows : (a : ℕ) → P .ok a ≡ true → P .net .on a ≡ true
+  pub grouped : Grouped (P .net .graph .source) (P .net .on) (P .net .modes) (P .net .count) (P .places)
   pub levels : P .last ≤ coloursMost
   pub low : P .bound ≤ boundMost
   pub table : m ≡ nodes (P .net .modes) (P .last)
