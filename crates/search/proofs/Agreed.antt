@@ -65,17 +65,17 @@ given-leads n s k l w = (λ given. (last, leads-places g w s last .1 (joins give
         known i low = omega (arith, f i low .0, arcs-length l (length (l .sources)) 0)
 
 -- two answers where none of 1 to 9 applies: both 10 or both a plan, where each is 10 just where the other is
-answered-agree : {v : Verdict} {g g′ : Automaton} {x b c x′ b′ c′ : ℕ} {plan plan′ plan₂ plan₂′ : List ℕ} {r r₂ : Searched} → v ≡ Yes
-    → Answered g x b c plan plan′ r → Answered g′ x′ b′ c′ plan₂ plan₂′ r₂ → (r ≡ noPlan → r₂ ≡ noPlan) → (r₂ ≡ noPlan → r ≡ noPlan) → Agreed v r r₂
+answered-agree : {v : Verdict} {g g′ : Automaton} {x b c x′ b′ c′ : ℕ} {on on′ : List ℕ} {plan plan′ plan₂ plan₂′ : List ℕ} {r r₂ : Searched} → v ≡ Yes
+    → Answered g x on b c plan plan′ r → Answered g′ x′ on′ b′ c′ plan₂ plan₂′ r₂ → (r ≡ noPlan → r₂ ≡ noPlan) → (r₂ ≡ noPlan → r ≡ noPlan) → Agreed v r r₂
 answered-agree e (none h) (none k) to from = tens e
 answered-agree e (found f) (found g) to from = plans e
 answered-agree e (none h) (found g) to from = let off = to refl in clash (cc)
 answered-agree e (found f) (none k) to from = let off = from refl in clash (cc)
 
-module _ (n s k : ℕ) (l : Lists) (x b c : ℕ) {work plan work′ plan′ : List ℕ} where
+module _ (n s k : ℕ) (l : Lists) (x : ℕ) (on : List ℕ) (b c : ℕ) {work plan work′ plan′ : List ℕ} where
   -- "Every answer and detail equals that of the ungrouped model": whatever stands in the buffers, two answers to a call agree
   pub search-agrees : {work₂ plan₂ work₂′ plan₂′ : List ℕ} {r r₂ : Searched} → length work₂ ≡ length work → length plan₂ ≡ length plan
-      → SearchOf n s k l x b c work plan work′ plan′ r → SearchOf n s k l x b c work₂ plan₂ work₂′ plan₂′ r₂
+      → SearchOf n s k l x on b c work plan work′ plan′ r → SearchOf n s k l x on b c work₂ plan₂ work₂′ plan₂′ r₂
       → Agreed (searchable n s k l b c (length work) (length plan)) r r₂
   search-agrees {work₂} {plan₂} {r = r} {r₂ = r₂} ew ep h h₂ = go (searchable n s k l b c (length work) (length plan)) refl
     where
@@ -84,18 +84,18 @@ module _ (n s k : ℕ) (l : Lists) (x b c : ℕ) {work plan work′ plan′ : Li
 
       go : (v : Verdict) → searchable n s k l b c (length work) (length plan) ≡ v → Agreed (searchable n s k l b c (length work) (length plan)) r r₂
       go Yes e =
-          let one = search-none n s k l x b c h e in
-          let two = search-none n s k l x b c h₂ (same ∙ e) in
+          let one = search-none n s k l x on b c h e in
+          let two = search-none n s k l x on b c h₂ (same ∙ e) in
           answered-agree e (h .decided e .answered) (h₂ .decided (same ∙ e) .answered) (λ q. two .1 (one .0 q)) (λ q. one .1 (two .0 q))
       go (Refused y) e =
           subst₂ (λ (r z : Searched). Agreed (searchable n s k l b c (length work) (length plan)) r z) (sym (h .refused y e .0))
           (sym (h₂ .refused y (same ∙ e) .0)) (refusals e)
 
   -- "Plans still carry the given arc numbers": the bytes of a plan are numbers of the arcs in the lists as they are given
-  pub search-numbers : {p q : ℕ} → SearchOf n s k l x b c work plan work′ plan′ (outcome.Plan p q) → GivenNumbers l s (take (p + q) plan′)
+  pub search-numbers : {p q : ℕ} → SearchOf n s k l x on b c work plan work′ plan′ (outcome.Plan p q) → GivenNumbers l s (take (p + q) plan′)
   search-numbers {p} {q} h =
-      let f = answered-found (h .decided (plan-searchable n s k l x b c h) .answered) in
-      let path = f .serves .plan in
+      let f = answered-found (h .decided (plan-searchable n s k l x on b c h) .answered) in
+      let path = f .serves .serves .plan in
       given-leads n s k l (take (p + q) plan′) .1
       (path .mode, leads-cut (automatonOf n s k l) p (take (p + q) plan′) s (path .mode) .1 (path .mode, path .leads-in, path .leads-cycle))
 
@@ -118,8 +118,8 @@ agreed-answer (tens e) = refl
 agreed-answer (plans e) = refl
 
 -- by the numbers that are answered: two answers to a call have the same number and detail, and the same p and q where it is not a plan
-pub numbers-agree : (v : Verdict) {g : Automaton} {x b c : ℕ} {plan plan′ plan₂ plan₂′ : List ℕ} {a a₂ : SearchAnswer}
-    → SearchByNumber v g x b c plan plan′ a → SearchByNumber v g x b c plan₂ plan₂′ a₂
+pub numbers-agree : (v : Verdict) {g : Automaton} {x : ℕ} {on : List ℕ} {b c : ℕ} {plan plan′ plan₂ plan₂′ : List ℕ} {a a₂ : SearchAnswer}
+    → SearchByNumber v g x on b c plan plan′ a → SearchByNumber v g x on b c plan₂ plan₂′ a₂
     → (a .answer ≡ a₂ .answer) × ((a .answer .number ≡ 0 → ⊥) → (a .p ≡ a₂ .p) × (a .q ≡ a₂ .q))
 numbers-agree (Refused y) h h₂ =
     let (e, p, q) = h .refused y refl in

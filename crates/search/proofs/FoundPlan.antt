@@ -11,7 +11,7 @@ use Rattle.model.specs.Plans.{Plan}
 use Rattle.judge.specs.Shape.{planOf}
 use Rattle.search.specs.Search.{Found}
 
-module _ {g : Automaton} {x b c p q : ℕ} {plan plan′ : List ℕ} (f : Found g x b c p q plan plan′) where
+module _ {g : Automaton} {x : ℕ} {on : List ℕ} {b c p q : ℕ} {plan plan′ : List ℕ} (f : Found g x on b c p q plan plan′) where
   abbrev bytes : Plan
   bytes = planOf p (take (p + q) plan′)
 

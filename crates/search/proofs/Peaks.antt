@@ -13,10 +13,11 @@ use Rattle.nets.proofs.Tables.{table-bound}
 use Rattle.nets.proofs.Criterion.{criterion}
 use Rattle.passes.specs.Pass.{node}
 use Rattle.passes.specs.Outcome.{Peak, Peaked, FirstKept}
-use Rattle.search.specs.declared.plans.Task.{Task}
-use Rattle.search.specs.Tasks.{taskNet, Searchable}
+use Rattle.passes.specs.declared.pass.Task.{Task}
+use Rattle.passes.specs.Tasks.{taskNet}
 use Rattle.passes.proofs.Nodes.{node-first}
 use Rattle.limits.specs.Ceilings.{modesMost}
+use Rattle.search.specs.Tasks.{Searchable}
 use Rattle.search.proofs.Tasks.{take-replicate}
 
 -- the array as it is made

@@ -19,7 +19,7 @@ use Rattle.model.specs.declared.Fitted.{Fitted}
 use Rattle.model.specs.declared.Model.{Model}
 use Rattle.model.specs.Lists.{Lists, automatonOf, held}
 use Rattle.model.specs.Fitness.{fitness, levelsOf, fittedOf, EqualLists, Fit, Holds}
-use Rattle.model.specs.Plans.{SomePlan}
+use Rattle.switches.specs.PlansOn.{SomePlanOn}
 use Rattle.model.proofs.Fitness.{fitness-yes, levels-yes, fitted-held, fitted-holds}
 use Rattle.search.specs.declared.Searched.{Searched}
 use Rattle.search.specs.declared.Searched.the-variants as outcome
@@ -115,22 +115,22 @@ module _ (n s k : ℕ) (l : Lists) (b c words bytes : ℕ) {y : Fitted} (told : 
         buffer = subst₂ (λ (x z : ℕ). planBuffer x z b ≤ bytes) (sym colours) (sym modes) (a .buffer);
       }
 
-module _ {g : Automaton} {x b c : ℕ} {plan plan′ : List ℕ} where
+module _ {g : Automaton} {x : ℕ} {on : List ℕ} {b c : ℕ} {plan plan′ : List ℕ} where
   -- where none of 1 to 9 applies, 10 is the number of one answer alone ..
-  answered-ten : {r : Searched} → Answered g x b c plan plan′ r → (searchAnswer r .answer .number ≡ 10) ↔ (r ≡ noPlan)
+  answered-ten : {r : Searched} → Answered g x on b c plan plan′ r → (searchAnswer r .answer .number ≡ 10) ↔ (r ≡ noPlan)
   answered-ten (none e) = (λ h. refl, λ h. refl)
   answered-ten (found f) = (λ h. absurd (omega arith), λ h. clash (cc))
 
   -- .. and any other is a plan's
-  answered-otherwise : {r : Searched} → Answered g x b c plan plan′ r → (searchAnswer r .answer .number ≡ 10 → ⊥)
-      → (searchAnswer r .answer ≡ answer 0 0) × Found g x b c (searchAnswer r .p) (searchAnswer r .q) plan plan′
+  answered-otherwise : {r : Searched} → Answered g x on b c plan plan′ r → (searchAnswer r .answer .number ≡ 10 → ⊥)
+      → (searchAnswer r .answer ≡ answer 0 0) × Found g x on b c (searchAnswer r .p) (searchAnswer r .q) plan plan′
   answered-otherwise (none e) h = absurd (h refl)
   answered-otherwise (found f) h = (refl, f)
 
-module _ {v : Verdict} {g : Automaton} {x b c : ℕ} {work plan : List ℕ} where
+module _ {v : Verdict} {g : Automaton} {x : ℕ} {on : List ℕ} {b c : ℕ} {work plan : List ℕ} where
   -- what search answers says the same by its number
   pub in-numbers : {work′ plan′ : List ℕ} {r : Searched} → ((y : Refusal) → v ≡ Refused y → r ≡ outcome.Refused y)
-      → (v ≡ Yes → Decided g x b c work plan work′ plan′ r) → SearchByNumber v g x b c plan plan′ (searchAnswer r)
+      → (v ≡ Yes → Decided g x on b c work plan work′ plan′ r) → SearchByNumber v g x on b c plan plan′ (searchAnswer r)
   in-numbers refused decided =
       record {
         refused = λ y e. rw (refused y e) (refl, refl, refl);
@@ -140,7 +140,7 @@ module _ {v : Verdict} {g : Automaton} {x b c : ℕ} {work plan : List ℕ} wher
       }
 
   -- where the verdict is a refusal, that is answered and both buffers are left as they were
-  pub search-refused : {y : Refusal} → v ≡ Refused y → Search v g x b c work plan work plan (outcome.Refused y)
+  pub search-refused : {y : Refusal} → v ≡ Refused y → Search v g x on b c work plan work plan (outcome.Refused y)
   search-refused {y} told =
       record {
         refused = λ z e. (cc, refl, refl);
@@ -149,10 +149,10 @@ module _ {v : Verdict} {g : Automaton} {x b c : ℕ} {work plan : List ℕ} wher
       }
 
   -- where it is yes, search is decided and the working space cleared
-  pub search-decided : {work′ plan′ : List ℕ} {r : Searched} → v ≡ Yes → ((r ≡ noPlan) ↔ (SomePlan g x b c → ⊥))
-      → Answered g x b c plan plan′ r → work′ ≡ replicate (length work) 0 → Search v g x b c work plan work′ plan′ r
+  pub search-decided : {work′ plan′ : List ℕ} {r : Searched} → v ≡ Yes → ((r ≡ noPlan) ↔ (SomePlanOn g x on b c → ⊥))
+      → Answered g x on b c plan plan′ r → work′ ≡ replicate (length work) 0 → Search v g x on b c work plan work′ plan′ r
   search-decided {work′} {plan′} {r} told ten answered cleared =
-      let decided : Decided g x b c work plan work′ plan′ r = record { no-plan = ten; answered = answered; cleared = cleared } in
+      let decided : Decided g x on b c work plan work′ plan′ r = record { no-plan = ten; answered = answered; cleared = cleared } in
       record {
         refused = λ y e. clash (cc);
         decided = λ e. decided;

@@ -1,20 +1,21 @@
 -- Laws of a task: its passes are ready, what they leave, and the table of the code that the pass from a mode is lent. Assumes nothing.
 use mathlib.Core.Path.{_≡_, refl, sym, ap, subst, fun-ext, _∙_}
-use mathlib.Core.Bool.{Bool, true, false, not, _&&_}
+use mathlib.Core.Bool.{Bool, true, false, not, _&&_, and-eq-true-iff}
 use mathlib.Core.List.{List}
 use Prim.Native.Nat.{ℕ, zero, suc, _+_, _*_, _≤_, _<_}
 use native.Mathlib.Nat.{one-mul, mul-le-mul, mul-le-mul-right}
 use native.Mathlib.Omega.{arith}
 use lib.ListN.{length, take, replicate, length-replicate}
 use Rattle.limits.specs.Ceilings.{modesMost, coloursMost}
-use Rattle.groups.specs.Rows.{barredAt}
+use Rattle.groups.specs.Rows.{barredAt, onAt}
 use Rattle.passes.specs.Pass.{Pass, Ready, node, room}
 use Rattle.passes.specs.Queue.{Passed}
 use Rattle.passes.specs.Outcome.{Peaked, CyclePassed}
-use Rattle.search.specs.declared.plans.Task.{Task}
-use Rattle.search.specs.Tasks.{taskNet, passOf, Searchable}
+use Rattle.passes.specs.declared.pass.Task.{Task}
+use Rattle.passes.specs.Tasks.{taskNet, passOf}
 use Rattle.passes.proofs.Outcomes.{peaksPass, cyclePass, passed-peaked, passed-cycle}
 use Rattle.passes.proofs.Queue.{ready-kept}
+use Rattle.search.specs.Tasks.{Searchable}
 
 -- the most nodes of a pass
 abbrev pub nodesMost : ℕ
@@ -51,7 +52,8 @@ module _ {rows places : List ℕ} {t : Task} {words : ℕ} (able : Searchable ro
           some-mode = able .some-mode;
           few-modes = able .few-modes;
           few-arcs = able .few-arcs;
-          targets = λ a h. able .fits .targets a (h, refl);
+          targets = λ a h o. able .fits .targets a (h, o);
+          allows = λ a o. and-eq-true-iff (not (lasting && barredAt rows a)) (onAt rows a) .0 o .1;
           grouped = able .grouped;
           levels = omega (arith, few-levels);
           low = able .low;
@@ -91,9 +93,16 @@ module _ {rows places : List ℕ} {t : Task} {words : ℕ} (able : Searchable ro
       })
       (fun-ext (λ a. same a (t .barred) (able .unbarred)))
     where
-      same : (a : ℕ) (s : Bool) → (s ≡ false → (a : ℕ) → barredAt rows a ≡ false) → not (s && barredAt rows a) ≡ not (barredAt rows a)
-      same a true none = refl
-      same a false none = ap {B = Bool} not (sym (none refl a))
+      both : (o t : Bool) → (t && o) ≡ (o && t)
+      both true true = refl
+      both true false = refl
+      both false true = refl
+      both false false = refl
+
+      same : (a : ℕ) (s : Bool) → (s ≡ false → (a : ℕ) → barredAt rows a ≡ false)
+          → (not (s && barredAt rows a) && onAt rows a) ≡ (onAt rows a && not (barredAt rows a))
+      same a true none = both (onAt rows a) (not (barredAt rows a))
+      same a false none = both (onAt rows a) true ∙ ap {B = Bool} (λ (t : Bool). onAt rows a && not t) (sym (none refl a))
 
   -- what the pass from mode m with charge e leaves
   pub cycle-left : {m e : ℕ} {table best w : List ℕ} {found : Bool} {head a tail : ℕ} → m < t .modes
@@ -101,7 +110,8 @@ module _ {rows places : List ℕ} {t : Task} {words : ℕ} (able : Searchable ro
       → Passed (taskPass rows places t (t .barred) (t .duties) (node (t .modes) (t .duties) m) e) m e best w found head a tail
       → CyclePassed (taskNet rows places t) (t .bound) m e w found head a
   cycle-left {m} {e} {best = best} {w} {found} {head} {a} {tail} hm q hb hw p =
-      passed-cycle (taskNet rows places t) places (t .bound) (able .fits) m e hm (pass-ready (omega arith) refl q true hb hw)
+      passed-cycle (taskNet rows places t) places (t .bound) (able .fits) m e hm
+      (subst (λ (x : Pass). Ready x (length best) (length w)) (cycle-same m e) (pass-ready (omega arith) refl q (t .barred) hb hw))
       (subst (λ (x : Pass). Passed x m e best w found head a tail) (cycle-same m e) p)
 
   -- the nodes of the pass from a mode fit the table of the code

@@ -146,12 +146,12 @@ pub lasso-answered : {g : Net} {b c p q : ℕ} {plan plan′ : List ℕ} → Las
 lasso-answered f = (written-lasso (found f) (λ e. clash (cc)), found f)
 
 -- in the words of the model, where the net stands for it
-pub written-answered : (g : Automaton) (x : ℕ) {b c : ℕ} {plan plan′ : List ℕ} {r : Searched} → g .colours ≤ coloursMost
-    → Written (whole g x) b c plan plan′ r → Answered g x b c plan plan′ r
-written-answered g x {b} {c} few (none e) = search.none e
-written-answered g x {b} {c} few (found f) =
+pub written-answered : (g : Automaton) (x : ℕ) (on : List ℕ) {b c : ℕ} {plan plan′ : List ℕ} {r : Searched} → g .colours ≤ coloursMost
+    → Written (whole g x on) b c plan plan′ r → Answered g x on b c plan plan′ r
+written-answered g x on {b} {c} few (none e) = search.none e
+written-answered g x on {b} {c} few (found f) =
     search.found (record {
-      serves = rw (f .same) at (lasso-serves g x b c few (f .lasso));
+      serves = rw (f .same) at (lasso-serves g x on b c few (f .lasso));
       within = f .within;
       short = f .short;
       prefix-short = f .prefix-short;
@@ -160,7 +160,7 @@ written-answered g x {b} {c} few (found f) =
     })
 
 -- an answer without the refusal 10 has a plan
-pub answered-plan : {g : Automaton} {x b c : ℕ} {plan plan′ : List ℕ} {r : Searched} → Answered g x b c plan plan′ r → (r ≡ noPlan → ⊥)
-    → (p : ℕ) × (q : ℕ) × (r ≡ outcome.Plan p q) × Found g x b c p q plan plan′
+pub answered-plan : {g : Automaton} {x : ℕ} {on : List ℕ} {b c : ℕ} {plan plan′ : List ℕ} {r : Searched} → Answered g x on b c plan plan′ r → (r ≡ noPlan → ⊥)
+    → (p : ℕ) × (q : ℕ) × (r ≡ outcome.Plan p q) × Found g x on b c p q plan plan′
 answered-plan (search.none e) not = absurd (not refl)
 answered-plan (search.found {p} {q} f) not = (p, q, refl, f)

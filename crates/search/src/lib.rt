@@ -1,33 +1,30 @@
 // Search: a plan for a model, or that there is none. Refusals 1 to 10.
 //
-// A pass finds the greatest charge with which each node, a level and a mode, is reached. One pass over a single level finds the peaks, the
-// greatest charges of the modes. Then a pass from each mode with its peak, over the arcs without a barred colour and the levels 0 to r, of r
-// required colours, looks for an arc that comes back to the mode in the last level with the peak or more. The first that is found closes a
-// cycle; the prefix leads to its mode.
+// A pass (crate passes) finds the greatest charge with which each node, a level and a mode, is reached. One pass over a single level finds
+// the peaks, the greatest charges of the modes. Then a pass from each mode with its peak, over the arcs without a barred colour and the levels
+// 0 to r, of r required colours, looks for an arc that comes back to the mode in the last level with the peak or more. The first that is found
+// closes a cycle; the prefix leads to its mode.
 ghost use mathlib.Core.Path.{_≡_};
 ghost use Prim.Native.Nat.{_≤_};
 ghost use Rattle.limits.specs.Ceilings.{modesMost, coloursMost, boundMost};
 ghost use Rattle.model.specs.Lists.{lists, held};
-ghost use Rattle.model.specs.Plans.{SomePlan};
+ghost use Rattle.switches.specs.PlansOn.{SomePlanOn};
 ghost use Rattle.model.specs.Required.{required};
 ghost use mathlib.Core.Logic.{_↔_};
 ghost use lib.ListN.{length};
 ghost use Rattle.search.specs.Search.{noPlan, Answered, spaces, levelsAndSpaces, searchAnswer, SearchOf};
 ghost use Rattle.search.specs.Tasks.{Solvable, checkedOf};
 
-mod arcs;
-mod entries;
-mod pass;
 mod plans;
 
-use entries::clear;
 use groups::group;
 use limits::Limits;
 use model::Fitted;
 use model::Model;
 use model::check_levels;
 use model::check_model;
-use plans::Task;
+use passes::entries::clear;
+use passes::pass::Task;
 use plans::decide;
 use refusals::Answer;
 use refusals::Refusal;
@@ -155,20 +152,21 @@ fn count_required(k: u32, barred: u8) -> u32
     count
 }
 
-// A plan for a fit model, or that there is none, by its groups and rows, "made inside the call, never lent" (document 02, Ask 7).
+// A plan for a fit model, of arcs that are on, or that there is none, by its groups and rows, "made inside the call, never lent" (document 02, Ask 7).
 fn decide_model(
     model: Model,
     c: u16,
     b: u16,
     barred: u8,
+    on: [u64; switches::WORDS],
     work: &mut [u16],
     plan: &mut [u8],
 ) -> Searched
     requires { ⌜ Solvable model b c (length (now work)) (length (now plan)) ⌝ }
-    ensures no_plan { λ r. ⌜ (r ≡ noPlan) ↔ (SomePlan (held model) barred b c → ⊥) ⌝ }
-    ensures answered { λ r. ⌜ Answered (held model) barred b c (now (plan .entry)) (now (plan .exit)) r ⌝ }
+    ensures no_plan { λ r. ⌜ (r ≡ noPlan) ↔ (SomePlanOn (held model) barred on b c → ⊥) ⌝ }
+    ensures answered { λ r. ⌜ Answered (held model) barred on b c (now (plan .entry)) (now (plan .exit)) r ⌝ }
 {
-    let groups = group(model, barred);
+    let groups = group(model, barred, on);
     let modes = model.modes as usize;
     let start = model.start as usize;
     let colours = model.colours as u32;
@@ -185,8 +183,8 @@ fn decide_model(
     decide(&groups.rows, &groups.places, task, work, plan)
 }
 
-// Search, with a byte of barred colours: p and q of a plan in the plan buffer, or 10 where there is none, or the first of 1 to 9 that applies.
-// For all numbers, lists and buffers. Which plan is handed back is free, its p and q with it.
+// Search, with a byte of barred colours and the switches of the arcs: p and q of a plan in the plan buffer, or 10 where there is none of arcs that are on, or the
+// first of 1 to 9 that applies. For all numbers, lists and buffers. Which plan is handed back is free, its p and q with it.
 // work: at least 4 × (k + 1) × n × (b + 1) words. plan: at least (k + 2) × n × (b + 1) bytes. Longer ones are fine, and what stands in them
 // does not matter. Refusals 1 to 9 leave both as they were. After 10 or a plan every word of work is 0. After 10 plan is as it was; else the
 // prefix is in its first p bytes and the cycle in the next q, and later bytes are as they were.
@@ -203,10 +201,11 @@ pub fn search(
     c: u32,
     b: u32,
     barred: u8,
+    on: [u64; switches::WORDS],
     work: &mut [u16],
     plan: &mut [u8],
 ) -> Searched
-    ensures { λ r. ⌜ SearchOf n start k (lists (now (sources .entry)) (now (targets .entry)) (now (draws .entry)) (now (gains .entry)) (now (colours .entry)) (now (actions .entry))) barred b c (now (work .entry)) (now (plan .entry)) (now (work .exit)) (now (plan .exit)) r ⌝ }
+    ensures { λ r. ⌜ SearchOf n start k (lists (now (sources .entry)) (now (targets .entry)) (now (draws .entry)) (now (gains .entry)) (now (colours .entry)) (now (actions .entry))) barred on b c (now (work .entry)) (now (plan .entry)) (now (work .exit)) (now (plan .exit)) r ⌝ }
 {
     let checked = check_search(
         n,
@@ -227,7 +226,7 @@ pub fn search(
     let model = checked.model;
     match verdict {
         Verdict::Yes => {
-            let searched = decide_model(model, c as u16, b as u16, barred, work, plan);
+            let searched = decide_model(model, c as u16, b as u16, barred, on, work, plan);
             clear(work);
             searched
         }

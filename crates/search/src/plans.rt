@@ -8,34 +8,25 @@ ghost use Rattle.nets.specs.Table.{KeptCycle};
 ghost use Rattle.nets.specs.Net.{AcceptedLasso};
 ghost use Rattle.passes.specs.Pass.{nodes, room};
 ghost use Rattle.passes.specs.Outcome.{Peak, Peaked, CyclePassed, FirstKept, PrefixWritten, CycleWritten};
+ghost use Rattle.passes.specs.Tasks.{taskNet};
 ghost use Rattle.search.specs.Search.{noPlan};
-ghost use Rattle.search.specs.Tasks.{taskNet, Searchable, Written};
+ghost use Rattle.search.specs.Tasks.{Searchable, Written};
 use crate::Searched;
-use crate::entries::entry_of;
-use crate::entries::trace;
-use crate::pass;
-use crate::pass::Aim;
-use crate::pass::Outcome;
 use groups::PLACES;
 use groups::WORDS;
 use limits::Limits;
+use passes::entries::entry_of;
+use passes::entries::trace;
+use passes::pass;
+use passes::pass::Aim;
+use passes::pass::Outcome;
+use passes::pass::Task;
 use refusals::Refusal;
 
 // The most modes of a model, and the most nodes of a pass.
 const MODES: usize = Limits::MODES as usize;
 
 const NODES: usize = ((Limits::COLOURS as usize) + 1) * MODES;
-
-// What a search is for: the model's modes, its start mode and the number of its required colours, which are the duties; whether an arc may have
-// a barred colour; the credit and the bound. The model's arcs are in the rows, and grouped in the places.
-pub struct Task {
-    pub modes: usize,
-    pub start: usize,
-    pub duties: usize,
-    pub barred: bool,
-    pub credit: u16,
-    pub bound: u16,
-}
 
 // The pass for the peaks: from the start mode with the credit, over a single level; least is above the bound, so that no arc closes a cycle.
 // Returns the number of entries.

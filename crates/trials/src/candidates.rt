@@ -1,378 +1,177 @@
 // A plain search over pairs of a mode and a charge, which shares no code with the real one. At first every pair is a candidate. A pair is
 // removed where, for some required colour, no walk over candidates leads from it to an arc with the colour (where there is none, to any arc);
 // these walks use no arc with a barred colour. When none is removed any more, the candidates are the pairs from which every required colour can
-// be met again and again, and no barred one is met. A plan exists where a prefix, over any arcs, leads from the start mode with the credit to one.
-use crate::lists::byte;
-use crate::lists::fill;
-use crate::lists::put;
-use crate::models::Numbers;
+// be met again and again, and no barred one is met. A plan exists where a prefix, over any pairs and arcs, leads from the start mode with the
+// credit to one. Arcs that are off are used by neither.
+//
+// A list has a number for each pair: while candidates are removed 0 for one that is removed, 1 for a candidate, 2 for one that is marked; while
+// prefixes are sought 0, and 1 for one that is marked. Its place 0, for no pair, is 0.
+use crate::models::Arc;
+use crate::models::Model;
+use crate::models::arc_of;
+use crate::models::is_on;
 use crate::pairs::pair_after;
 use crate::pairs::pair_of;
+use limits::Limits;
+
+// The most pairs of a node and a charge, (k + 1) × n × (b + 1), that the program keeps space for, and the places of the list for them.
+pub const ROOM: usize = Limits::PROGRAM as usize;
+
+const PLACES: usize = ROOM + 1;
 
 // A mask that no arc has a colour of, as no model has eight colours.
 const NEVER: u8 = 128;
 
 // What a walk is to come to, and by which arcs: an arc with a colour of the mask (where that is 0, any arc), by arcs with no colour of `barred`.
+// free, marked: the numbers of pairs that can be walked over, and of those from which the walk is known.
 struct Sought {
     mask: u8,
     barred: u8,
+    free: u8,
+    marked: u8,
 }
 
-// Whether an arc counts: it has a colour of the mask, or the mask is 0, which asks for no colour.
-fn counts(colours: &[u8], a: usize, mask: u8) -> bool {
-    if mask == 0 {
-        return true;
+// The number of a pair.
+fn number_of(pairs: &[u8; PLACES], pair: usize) -> u8 {
+    if pair < PLACES {
+        return pairs[pair];
     }
-    byte(colours, a) & mask != 0
+    0
 }
 
-// Whether an arc, which leads to a pair (as pair_after has it), has no barred colour, leads to a candidate, and either counts or leads to a pair
-// that is marked.
-fn leads_by(
-    colours: &[u8],
-    a: usize,
-    sought: Sought,
-    after: usize,
-    candidates: &[u8],
-    marked: &[u8],
-) -> bool {
-    if after == 0 {
+// Marks a pair that is free; whether it was.
+fn mark(sought: Sought, pair: usize, pairs: &mut [u8; PLACES]) -> bool {
+    if number_of(pairs, pair) != sought.free || pair >= PLACES {
         return false;
     }
-    if byte(candidates, after - 1) != 1 {
-        return false;
-    }
-    if byte(colours, a) & sought.barred != 0 {
-        return false;
-    }
-    if counts(colours, a, sought.mask) {
-        return true;
-    }
-    byte(marked, after - 1) == 1
+    pairs[pair] = sought.marked;
+    true
 }
 
-// Whether some arc from a pair does so.
-fn leads_on(
-    sources: &[u8],
-    targets: &[u8],
-    draws: &[u16],
-    gains: &[u16],
-    colours: &[u8],
-    bound: u32,
-    sought: Sought,
-    pair: usize,
-    candidates: &[u8],
-    marked: &[u8],
-) -> bool {
-    let mut a = 0;
-    while a < sources.len() {
-        let after = pair_after(sources, targets, draws, gains, bound, pair, a);
-        if leads_by(colours, a, sought, after, candidates, marked) {
-            return true;
-        }
-        a += 1;
-    }
-    false
-}
-
-// Whether a pair is to be marked: it is a candidate, not marked, and leads on.
-fn is_next(
-    sources: &[u8],
-    targets: &[u8],
-    draws: &[u16],
-    gains: &[u16],
-    colours: &[u8],
-    bound: u32,
-    sought: Sought,
-    pair: usize,
-    candidates: &[u8],
-    marked: &[u8],
-) -> bool {
-    if byte(candidates, pair) != 1 {
+// Takes the mark off a candidate, or removes it where it has none; whether it is removed.
+fn lower(pair: usize, pairs: &mut [u8; PLACES]) -> bool {
+    let number = number_of(pairs, pair);
+    if number == 0 || pair >= PLACES {
         return false;
     }
-    if byte(marked, pair) == 1 {
-        return false;
-    }
-    leads_on(
-        sources,
-        targets,
-        draws,
-        gains,
-        colours,
-        bound,
-        sought,
-        pair,
-        candidates,
-        marked,
-    )
+    pairs[pair] = number - 1;
+    number == 1
 }
 
-// Sets a byte of a list where the test says so; returns the test.
-fn put_if(test: bool, list: &mut [u8], at: usize, value: u8) -> bool {
-    if test {
-        put(list, at, value);
+// The least number of a pair that an arc is to lead to: of one that is free where the arc has a colour that is sought, else of one that is marked.
+// For an arc with a barred colour it is 255, which no pair has. It is never 0, which stands for no pair.
+fn least_of(arc: Arc, sought: Sought) -> u8 {
+    if arc.mask & sought.barred != 0 {
+        return 255;
     }
-    test
+    if sought.mask == 0 || arc.mask & sought.mask != 0 {
+        return sought.free;
+    }
+    sought.marked
 }
 
-// Marks the pairs that lead on, each looked at once; whether there was one.
-fn sweep(
-    sources: &[u8],
-    targets: &[u8],
-    draws: &[u16],
-    gains: &[u16],
-    colours: &[u8],
-    bound: u32,
-    sought: Sought,
-    candidates: &[u8],
-    marked: &mut [u8],
-) -> bool {
+// Marks the free pairs from which an arc leads so, each looked at once; whether there was one.
+fn sweep_arc(arc: Arc, bound: u32, sought: Sought, pairs: &mut [u8; PLACES]) -> bool {
+    let least = least_of(arc, sought);
     let mut more = false;
-    let mut pair = 0;
-    while pair < candidates.len() {
-        let test = is_next(
-            sources,
-            targets,
-            draws,
-            gains,
-            colours,
-            bound,
-            sought,
-            pair,
-            candidates,
-            marked,
-        );
-        if put_if(test, marked, pair, 1) {
-            more = true;
+    for charge in 0..=bound {
+        let pair = pair_of(arc.source, charge, bound);
+        let after = pair_after(arc, bound, pair);
+        if number_of(pairs, after) >= least {
+            if mark(sought, pair, pairs) {
+                more = true;
+            }
         }
-        pair += 1;
     }
     more
 }
 
-// Marks, beyond the pairs that are marked, those from which a walk over candidates leads to one or to an arc that counts. Each sweep but the last
-// marks one more.
-fn spread(
-    sources: &[u8],
-    targets: &[u8],
-    draws: &[u16],
-    gains: &[u16],
-    colours: &[u8],
-    bound: u32,
-    sought: Sought,
-    candidates: &[u8],
-    marked: &mut [u8],
-) {
-    let mut sweeps = 0;
-    let mut more = true;
-    while sweeps < candidates.len() {
-        if !more {
+// Marks the free pairs from which some arc that is on leads so; whether there was one.
+fn sweep(model: Model, sought: Sought, pairs: &mut [u8; PLACES]) -> bool {
+    let mut more = false;
+    let mut a = 0;
+    while a < model.arcs {
+        if is_on(model, a) {
+            if sweep_arc(arc_of(model, a), model.bound, sought, pairs) {
+                more = true;
+            }
+        }
+        a += 1;
+    }
+    more
+}
+
+// Marks the free pairs from which a walk leads to a pair that is marked or to an arc that is sought. Each sweep but the last marks one more.
+fn spread(model: Model, sought: Sought, last: usize, pairs: &mut [u8; PLACES]) {
+    for _ in 0..last {
+        if !sweep(model, sought, pairs) {
             return;
         }
-        more = sweep(
-            sources,
-            targets,
-            draws,
-            gains,
-            colours,
-            bound,
-            sought,
-            candidates,
-            marked,
-        );
-        sweeps += 1;
     }
 }
 
-// Marks the pairs from which a walk over candidates leads to an arc that counts, and no other.
-fn mark(
-    sources: &[u8],
-    targets: &[u8],
-    draws: &[u16],
-    gains: &[u16],
-    colours: &[u8],
-    bound: u32,
-    sought: Sought,
-    candidates: &[u8],
-    marked: &mut [u8],
-) {
-    fill(marked, 0);
-    spread(
-        sources,
-        targets,
-        draws,
-        gains,
-        colours,
-        bound,
-        sought,
-        candidates,
-        marked,
-    );
-}
-
-// Removes the candidates that are not marked; whether there was one.
-fn keep_marked(candidates: &mut [u8], marked: &[u8]) -> bool {
+// Removes the candidates that are not marked, and takes the marks off the others; whether there was one to remove.
+fn keep_marked(last: usize, pairs: &mut [u8; PLACES]) -> bool {
     let mut removed = false;
-    let mut pair = 0;
-    while pair < candidates.len() {
-        let test = candidates[pair] != byte(marked, pair);
-        if put_if(test, candidates, pair, 0) {
+    for pair in 0..=last {
+        if lower(pair, pairs) {
             removed = true;
         }
-        pair += 1;
     }
     removed
 }
 
-// The mask of a colour; 0, for no colour, where there is none or it is barred.
-fn mask_of(numbers: Numbers, colour: u32) -> u8 {
-    if numbers.colours == 0 {
+// The mask of a colour; 0, for no colour, where it is barred or is none of the model's.
+fn mask_of(model: Model, colour: u32) -> u8 {
+    if colour >= model.colours {
         return 0;
     }
     let mask = 1u8 << (colour % 8);
-    if mask & numbers.barred != 0 {
+    if mask & model.barred != 0 {
         return 0;
     }
     mask
 }
 
-// How many masks are asked for: one for each colour, and one for none.
-fn masks(k: u32) -> u32 {
-    if k == 0 {
-        return 1;
-    }
-    k
-}
-
-// Removes the candidates that cannot meet one of the required colours; whether there was one.
-fn remove(
-    sources: &[u8],
-    targets: &[u8],
-    draws: &[u16],
-    gains: &[u16],
-    colours: &[u8],
-    numbers: Numbers,
-    candidates: &mut [u8],
-    marked: &mut [u8],
-) -> bool {
-    let count = masks(numbers.colours);
+// Removes the candidates that cannot meet one of the required colours, or can go no further; whether there was one.
+fn remove(model: Model, last: usize, pairs: &mut [u8; PLACES]) -> bool {
     let mut removed = false;
-    let mut colour = 0;
-    while colour < count {
+    for colour in 0..=model.colours {
         let sought = Sought {
-            mask: mask_of(numbers, colour),
-            barred: numbers.barred,
+            mask: mask_of(model, colour),
+            barred: model.barred,
+            free: 1,
+            marked: 2,
         };
-        mark(
-            sources,
-            targets,
-            draws,
-            gains,
-            colours,
-            numbers.bound,
-            sought,
-            candidates,
-            marked,
-        );
-        if keep_marked(candidates, marked) {
+        spread(model, sought, last, pairs);
+        if keep_marked(last, pairs) {
             removed = true;
         }
-        colour += 1;
     }
     removed
 }
 
-// Removes candidates until none is removed any more. Each round but the last removes one, and after the last the marked pairs are the candidates.
-fn remove_all(
-    sources: &[u8],
-    targets: &[u8],
-    draws: &[u16],
-    gains: &[u16],
-    colours: &[u8],
-    numbers: Numbers,
-    candidates: &mut [u8],
-    marked: &mut [u8],
-) {
-    fill(candidates, 1);
-    let mut rounds = 0;
-    while rounds <= candidates.len() {
-        if !remove(
-            sources,
-            targets,
-            draws,
-            gains,
-            colours,
-            numbers,
-            candidates,
-            marked,
-        ) {
+// Removes candidates until none is removed any more. Each round but the last removes one.
+fn remove_all(model: Model, last: usize, pairs: &mut [u8; PLACES]) {
+    for _ in 0..last {
+        if !remove(model, last, pairs) {
             return;
         }
-        rounds += 1;
     }
 }
 
-// Marks the pairs from which a prefix, over any pairs and arcs, leads to one that is marked. The candidates are not needed any more.
-fn mark_prefixes(
-    sources: &[u8],
-    targets: &[u8],
-    draws: &[u16],
-    gains: &[u16],
-    colours: &[u8],
-    bound: u32,
-    candidates: &mut [u8],
-    marked: &mut [u8],
-) {
-    fill(candidates, 1);
+// Whether a plan exists; last: the last pair of the model.
+pub fn has_plan(model: Model, last: usize) -> bool {
+    let mut pairs = [1u8; PLACES];
+    pairs[0] = 0;
+    remove_all(model, last, &mut pairs);
     let sought = Sought {
         mask: NEVER,
         barred: 0,
+        free: 0,
+        marked: 1,
     };
-    spread(
-        sources,
-        targets,
-        draws,
-        gains,
-        colours,
-        bound,
-        sought,
-        candidates,
-        marked,
-    );
-}
-
-// Whether a plan exists.
-pub fn has_plan(
-    sources: &[u8],
-    targets: &[u8],
-    draws: &[u16],
-    gains: &[u16],
-    colours: &[u8],
-    numbers: Numbers,
-    candidates: &mut [u8],
-    marked: &mut [u8],
-) -> bool {
-    remove_all(
-        sources,
-        targets,
-        draws,
-        gains,
-        colours,
-        numbers,
-        candidates,
-        marked,
-    );
-    mark_prefixes(
-        sources,
-        targets,
-        draws,
-        gains,
-        colours,
-        numbers.bound,
-        candidates,
-        marked,
-    );
-    let first = pair_of(numbers.start, numbers.credit, numbers.bound);
-    byte(marked, first) == 1
+    spread(model, sought, last, &mut pairs);
+    let first = pair_of(model.start, model.credit, model.bound);
+    number_of(&pairs, first) == 1
 }

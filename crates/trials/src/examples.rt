@@ -1,57 +1,51 @@
 // Document 01's examples M and N.
 use crate::answers::BYTES;
-use crate::answers::WORDS;
-use crate::lists::is_clear;
-use crate::lists::is_junk;
-use crate::lists::is_untouched;
-use crate::lists::junk_plan;
-use crate::lists::junk_work;
-use crate::print::print_end;
-use crate::print::print_next;
+use crate::answers::WORK;
+use crate::buffers::is_clear;
+use crate::buffers::is_junk;
+use crate::buffers::is_untouched;
+use crate::buffers::junk_plan;
+use crate::buffers::junk_work;
+use crate::calls::searched;
+use crate::calls::walked;
+use crate::models::Model;
+use crate::models::without_arcs;
 use crate::print::print_number;
 use crate::print::print_word;
-use planwalk::walk;
-use search::search;
+
+// A number that search answers, and whether it leaves the buffers as it should.
+struct Left {
+    number: u8,
+    right: bool,
+}
+
+// G's model: a loop of mode 0 that gains 1, an arc to mode 1 that draws 5, and a loop there with colour 0.
+fn model_g() -> Model {
+    let mut model = without_arcs(2, 0, 1, 0, 5);
+    model.arcs = 3;
+    model.gains[0] = 1;
+    model.targets[1] = 1;
+    model.draws[1] = 5;
+    model.sources[2] = 1;
+    model.targets[2] = 1;
+    model.masks[2] = 1;
+    model
+}
 
 // M: the number that the walk of I for colour 0 answers, with an allowance, met or spent, and the steps. I: G's model, run-in 0 0 0 0 0 1, round 2.
 fn print_walk(allowance: u16) {
-    let sources = [0u8, 0u8, 1u8];
-    let targets = [0u8, 1u8, 1u8];
-    let draws = [0u16, 5u16, 0u16];
-    let gains = [1u16, 0u16, 0u16];
-    let colours = [0u8, 0u8, 1u8];
-    let actions = [0u8, 0u8, 0u8];
     let plan = [0u8, 0u8, 0u8, 0u8, 0u8, 1u8, 2u8];
-    let walked = walk(
-        2,
-        0,
-        1,
-        &sources,
-        &targets,
-        &draws,
-        &gains,
-        &colours,
-        &actions,
-        0,
-        5,
-        0,
-        6,
-        1,
-        &plan,
-        0,
-        allowance,
-    );
-    let result = walked.answer();
+    let result = walked(model_g(), 6, 1, &plan, 0, allowance);
     let answer = result.answer;
     print_word(b"M");
     print_number(answer.number as u32);
     if result.met {
-        print_next(b"met");
+        print_word(b" met");
     } else {
-        print_next(b"spent");
+        print_word(b" spent");
     }
     print_number(result.steps as u32);
-    print_end();
+    print_word(b"\n");
 }
 
 // Whether search leaves buffers that held junk as it should: after 10 the working space is clear, after 1 to 9 untouched; the plan buffer is
@@ -66,49 +60,36 @@ fn are_right(number: u8, work: &[u16], plan: &[u8]) -> bool {
     is_junk(work)
 }
 
-// N: n, start mode, k and b of a model without arcs, the number that search answers, and whether it leaves the buffers as it should.
-fn print_search(n: u32, start: u32, k: u32, b: u32) {
-    let sources = [0u8; 1];
-    let targets = [0u8; 1];
-    let draws = [0u16; 1];
-    let gains = [0u16; 1];
-    let colours = [0u8; 1];
-    let actions = [0u8; 1];
-    let mut work = [0u16; WORDS];
+// What search answers to a model in buffers of junk: the number, and whether it leaves them as it should.
+fn search_junk(model: Model) -> Left {
+    let mut work = [0u16; WORK];
     let mut plan = [0u8; BYTES];
-    let none = 0;
     junk_work(&mut work);
     junk_plan(&mut plan);
-    let searched = search(
-        n,
-        start,
-        k,
-        &sources[..none],
-        &targets[..none],
-        &draws[..none],
-        &gains[..none],
-        &colours[..none],
-        &actions[..none],
-        0,
-        b,
-        0,
-        &mut work,
-        &mut plan,
-    );
-    let result = searched.answer();
-    let answer = result.answer;
+    let answer = searched(model, &mut work, &mut plan);
+    let result = answer.answer();
+    let refused = result.answer;
+    Left {
+        number: refused.number,
+        right: are_right(refused.number, &work, &plan),
+    }
+}
+
+// N: n, start mode, k and b of a model without arcs, the number that search answers, and whether it leaves the buffers as it should.
+fn print_search(n: u32, start: u8, k: u32, b: u32) {
+    let left = search_junk(without_arcs(n, start, k, 0, b));
     print_word(b"N");
     print_number(n);
-    print_number(start);
+    print_number(start as u32);
     print_number(k);
     print_number(b);
-    print_number(answer.number as u32);
-    if are_right(answer.number, &work, &plan) {
-        print_next(b"right");
+    print_number(left.number as u32);
+    if left.right {
+        print_word(b" right");
     } else {
-        print_next(b"wrong");
+        print_word(b" wrong");
     }
-    print_end();
+    print_word(b"\n");
 }
 
 // A line for each call.

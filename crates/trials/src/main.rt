@@ -1,14 +1,15 @@
 // Tries search: document 01's examples M and N, and random models, each compared with a plain search over mode and charge. The buffers hold
-// junk before each call; every plan handed back is judged, walked for each colour, and walked plainly. Prints the examples' answers, and for
-// each family of models how many there were, how many have a plan, how many have none, and the differences.
+// junk before each call; every plan handed back is judged, walked for each colour, and walked plainly, by arcs that are on. Prints the examples'
+// answers, and for each family of models how many there were, how many have a plan, how many have none, and the differences.
 //
-// The random models and the plain search (lists, models, pairs, candidates, rounds) share no code with search, judging or walk: of the planner
-// they use the ceilings alone.
+// The random models and the plain search (models, pairs, candidates, rounds) share no code with search, judging, walk or switches: of the
+// planner they use the ceilings and the count of the switches' words alone.
 mod answers;
+mod buffers;
+mod calls;
 mod candidates;
 mod checks;
 mod examples;
-mod lists;
 mod models;
 mod pairs;
 mod print;
@@ -18,8 +19,7 @@ use answers::Outcome;
 use answers::try_model;
 use limits::Limits;
 use models::Family;
-use print::print_end;
-use print::print_next;
+use models::model_of;
 use print::print_number;
 use print::print_word;
 
@@ -47,6 +47,7 @@ fn small(models: u16) -> Family {
         both_span: 1,
         repeats: false,
         bars: false,
+        switches: false,
     }
 }
 
@@ -98,13 +99,13 @@ fn all_colours(models: u16) -> Family {
 fn print_family(name: &[u8], models: u16, plans: u32, none: u32, differences: u32) {
     print_word(name);
     print_number(models as u32);
-    print_next(b"plans");
+    print_word(b" plans");
     print_number(plans);
-    print_next(b"none");
+    print_word(b" none");
     print_number(none);
-    print_next(b"differences");
+    print_word(b" differences");
     print_number(differences);
-    print_end();
+    print_word(b"\n");
 }
 
 // Tries the models of a family, from a state of the generator, and prints the line of the family. Returns the next state.
@@ -115,9 +116,10 @@ fn try_family(name: &[u8], family: Family, first: u32) -> u32 {
     let mut differences = 0u32;
     let mut i = 0u16;
     while i < family.models {
-        let tried = try_model(family, state);
-        state = tried.state;
-        let outcome = tried.outcome;
+        let made = model_of(family, state);
+        let model = made.model;
+        state = made.state;
+        let outcome = try_model(model, state as usize);
         match outcome {
             Outcome::Plan => plans += 1,
             Outcome::NoPlan => none += 1,
@@ -129,7 +131,7 @@ fn try_family(name: &[u8], family: Family, first: u32) -> u32 {
     state
 }
 
-// Families with small and with medium numbers, with bound 0, with arcs equal in all fields and with no arcs.
+// Families with small and with medium numbers, with bound 0, with arcs equal in all fields but the action, and with no arcs.
 fn try_small(first: u32) -> u32 {
     let mut zero = small(1000);
     zero.bound_span = 1;
@@ -188,7 +190,7 @@ fn try_two_parts(first: u32) -> u32 {
 }
 
 // Families with barred colours: with small numbers, with medium numbers whose arcs draw and gain, and with all four colours.
-fn try_barred(first: u32) {
+fn try_barred(first: u32) -> u32 {
     let mut few = small(2000);
     few.modes_least = 2;
     few.modes_span = 5;
@@ -206,10 +208,32 @@ fn try_barred(first: u32) {
     colours.bars = true;
     let second = try_family(b"barred", few, first);
     let third = try_family(b"medium-barred", more, second);
-    try_family(b"4-colours-barred", colours, third);
+    try_family(b"4-colours-barred", colours, third)
+}
+
+// Families with arcs that are off: with small numbers, with medium numbers whose arcs draw and gain and with barred colours, and with 64 modes, whose
+// arcs have switches in all four words.
+fn try_switched(first: u32) {
+    let mut few = small(4000);
+    few.arcs_span = 16;
+    few.net_low = 3;
+    few.switches = true;
+    let mut more = medium(1000);
+    more.net_low = 8;
+    more.both_span = 12;
+    more.bars = true;
+    more.switches = true;
+    let mut modes = all_modes(64);
+    modes.net_low = 70;
+    modes.both_span = 64;
+    modes.switches = true;
+    let second = try_family(b"switched", few, first);
+    let third = try_family(b"medium-switched", more, second);
+    try_family(b"64-modes-switched", modes, third);
 }
 
 fn main() {
     examples::print_examples();
-    try_barred(try_two_parts(try_large(try_small(20261115))));
+    let state = try_two_parts(try_large(try_small(20261115)));
+    try_switched(try_barred(state));
 }

@@ -1,31 +1,53 @@
-// Random models: a fixed generator, families of models, and the six lists of one.
+// Random models: a fixed generator, families of models, and a model of one.
 ghost use Prim.Native.Nat.{_≤_};
-use crate::lists::put;
-use crate::lists::put_word;
 use limits::Limits;
-
-// The draws and the gains that an arc may have.
-const DRAWS: u32 = (Limits::DRAW as u32) + 1;
-
-const GAINS: u32 = (Limits::GAIN as u32) + 1;
+use switches::WORDS;
 
 // The actions that an arc may have.
-const ACTIONS: usize = (Limits::ACTION as usize) + 1;
+const ACTIONS: u8 = (Limits::ACTION as u8) + 1;
 
-// The numbers of a model, with credit, bound and barred colours; arcs: how many it has.
-pub struct Numbers {
+// A word of switches with every bit set.
+const ALL: u64 = 18446744073709551615;
+
+// An arc; mask: its colours.
+pub struct Arc {
+    pub source: u8,
+    pub target: u8,
+    pub draw: u16,
+    pub gain: u16,
+    pub mask: u8,
+    pub action: u8,
+}
+
+// A model, with credit, bound, barred colours and switches. Its arcs stand in the first `arcs` places of the six lists. It goes by value through
+// the program: what has few parameters is checked faster.
+pub struct Model {
+    pub arcs: u8,
+    pub sources: [u8; Limits::ARCS],
+    pub targets: [u8; Limits::ARCS],
+    pub draws: [u16; Limits::ARCS],
+    pub gains: [u16; Limits::ARCS],
+    pub masks: [u8; Limits::ARCS],
+    pub actions: [u8; Limits::ARCS],
     pub modes: u32,
-    pub start: u32,
+    pub start: u8,
     pub colours: u32,
-    pub arcs: u32,
     pub credit: u32,
     pub bound: u32,
     pub barred: u8,
+    pub on: [u64; WORDS],
+}
+
+// A model, and the next state of the generator.
+pub struct Made {
+    pub model: Model,
+    pub state: u32,
 }
 
 // A family of models: from `least` on, `span` values of each number. An arc's gain less its draw is a number below net_span less net_low; beyond
 // that it draws and gains a number below both_span, the same, so that with 1 no arc has both parts. Where `repeats`, an arc is as likely as not
-// equal in all fields to the one before. Where `bars`, the barred byte is any byte, also with bits at or above k; else it is 0.
+// equal in all fields but its action to the one before. Where `bars`, the barred byte is any byte, also with bits at or above k; else it is 0.
+// Where `switches`, the bits of the switches are random, also those at or above m; else all are set.
 pub struct Family {
     pub models: u16,
     pub modes_least: u16,
@@ -41,6 +63,66 @@ pub struct Family {
     pub both_span: u16,
     pub repeats: bool,
     pub bars: bool,
+    pub switches: bool,
+}
+
+// A model without arcs, with nothing barred and every switch on.
+pub fn without_arcs(modes: u32, start: u8, colours: u32, credit: u32, bound: u32) -> Model {
+    Model {
+        arcs: 0,
+        sources: [0; Limits::ARCS],
+        targets: [0; Limits::ARCS],
+        draws: [0; Limits::ARCS],
+        gains: [0; Limits::ARCS],
+        masks: [0; Limits::ARCS],
+        actions: [0; Limits::ARCS],
+        modes,
+        start,
+        colours,
+        credit,
+        bound,
+        barred: 0,
+        on: [ALL; WORDS],
+    }
+}
+
+// The model with one arc more; as it was where there is no place for one.
+fn with_arc(model: Model, arc: Arc) -> Model {
+    let at = model.arcs as usize;
+    if at >= Limits::ARCS {
+        return model;
+    }
+    let mut more = model;
+    more.sources[at] = arc.source;
+    more.targets[at] = arc.target;
+    more.draws[at] = arc.draw;
+    more.gains[at] = arc.gain;
+    more.masks[at] = arc.mask;
+    more.actions[at] = arc.action;
+    more.arcs = model.arcs + 1;
+    more
+}
+
+// What stands at a place of the lists, which is an arc where is_on says so.
+pub fn arc_of(model: Model, a: u8) -> Arc {
+    let at = (a as usize) % Limits::ARCS;
+    Arc {
+        source: model.sources[at],
+        target: model.targets[at],
+        draw: model.draws[at],
+        gain: model.gains[at],
+        mask: model.masks[at],
+        action: model.actions[at],
+    }
+}
+
+// Whether an arc is the model's, and on.
+pub fn is_on(model: Model, a: u8) -> bool {
+    if a >= model.arcs {
+        return false;
+    }
+    let word = (a / 64) as usize;
+    (model.on[word] >> (a % 64)) % 2 == 1
 }
 
 // The generator: x ↦ 48271·x modulo 2³¹ − 1.
@@ -59,32 +141,17 @@ fn pick(state: u32, limit: u32) -> u32
 }
 
 // The state after those that an arc, or a model's numbers, are picked by: six, so that none serves twice.
-pub fn skip(state: u32) -> u32 {
+fn skip(state: u32) -> u32 {
     next(next(next(next(next(next(state))))))
 }
 
-// The low byte of a number.
-fn low_byte(x: u32) -> u8 {
-    (x % 256) as u8
-}
-
-// By how much x is above y; 0 where it is not.
-fn excess(x: u32, y: u32) -> u32 {
+// By how much x is above y, and some more.
+fn excess(x: u32, y: u32, more: u32) -> u16 {
+    let rest = more % 32768;
     if x < y {
-        return 0;
+        return rest as u16;
     }
-    x - y
-}
-
-// What an arc draws whose gain less draw is x less low: low less x where that is above 0, and what it both draws and gains. No family makes it
-// greater than a draw may be.
-fn drawn(x: u32, low: u32, both: u32) -> u16 {
-    ((excess(low, x) % DRAWS + both % DRAWS) % DRAWS) as u16
-}
-
-// What it gains: x less low where that is above 0, and what it both draws and gains. No family makes it greater than a gain may be.
-fn gained(x: u32, low: u32, both: u32) -> u16 {
-    ((excess(x, low) % GAINS + both % GAINS) % GAINS) as u16
+    ((x - y) % 32768 + rest) as u16
 }
 
 // A number of a family: least, or up to span − 1 more.
@@ -94,131 +161,89 @@ fn number(state: u32, least: u16, span: u16) -> u32
     (least as u32) + pick(state, span as u32)
 }
 
-// The barred byte of a model of a family, by the state after a state.
-fn barred_of(family: Family, state: u32) -> u8 {
-    if !family.bars {
-        return 0;
-    }
-    low_byte(pick(next(state), 256))
+// A word of switches, by a state: three numbers of another generator, x ↦ 16807·x modulo 2³¹ − 1, one over the other. So a bit is set with one
+// chance in two or, where two numbers meet, with three in four.
+fn word_of(state: u32) -> u64 {
+    let first = (state as u64) * 16807 % 2147483647;
+    let second = first * 16807 % 2147483647;
+    let third = second * 16807 % 2147483647;
+    (first << 33) | (second << 17) | third
 }
 
-// The numbers with every bit of the barred byte at or above k turned.
-pub fn turned(numbers: Numbers) -> Numbers {
-    let mut other = numbers;
-    other.barred = numbers.barred ^ (255u8 << (numbers.colours % 8));
-    other
-}
-
-// The numbers of a model of a family, by the seven states after a state. Its first arc is picked by later ones.
-pub fn numbers_of(family: Family, state: u32) -> Numbers {
+// A model of a family without its arcs, by the seven states after a state. Its first arc is picked by later ones.
+fn numbers_of(family: Family, state: u32) -> Model {
     let first = next(state);
     let second = next(first);
-    let third = next(second);
-    let fourth = next(third);
+    let fourth = next(next(second));
     let fifth = next(fourth);
     let sixth = next(fifth);
     let modes = number(first, family.modes_least, family.modes_span);
     let bound = number(fourth, family.bound_least, family.bound_span);
-    Numbers {
-        modes,
-        start: pick(fifth, modes),
-        colours: number(second, family.colours_least, family.colours_span),
-        arcs: number(third, family.arcs_least, family.arcs_span),
-        credit: pick(sixth, bound + 1),
-        bound,
-        barred: barred_of(family, sixth),
+    let colours = number(second, family.colours_least, family.colours_span);
+    let start = (pick(fifth, modes) % 256) as u8;
+    let mut model = without_arcs(modes, start, colours, pick(sixth, bound + 1), bound);
+    if family.bars {
+        model.barred = (pick(next(sixth), 256) % 256) as u8;
     }
+    model
 }
 
-// Writes what an arc of a family draws and gains, by two states of the generator, at a place of the lists.
-fn put_move(
-    family: Family,
-    state: u32,
-    last: u32,
-    at: usize,
-    draws: &mut [u16],
-    gains: &mut [u16],
-) {
-    let x = pick(state, family.net_span as u32);
-    let low = family.net_low as u32;
-    let both = pick(last, family.both_span as u32);
-    put_word(draws, at, drawn(x, low, both));
-    put_word(gains, at, gained(x, low, both));
+// The model with random switches, by states after a state.
+fn with_switches(model: Model, state: u32) -> Model {
+    let second = skip(state);
+    let third = skip(second);
+    let on = [
+        word_of(state),
+        word_of(second),
+        word_of(third),
+        word_of(skip(third)),
+    ];
+    let mut switched = model;
+    switched.on = on;
+    switched
 }
 
-// Writes the arc that a seed gives, by the six states after it, at a place of the lists.
-fn put_arc(
-    seed: u32,
-    numbers: Numbers,
-    family: Family,
-    at: usize,
-    sources: &mut [u8],
-    targets: &mut [u8],
-    draws: &mut [u16],
-    gains: &mut [u16],
-    colours: &mut [u8],
-    actions: &mut [u8],
-) {
-    let first = next(seed);
-    let second = next(first);
+// The arc of a family that a seed gives, by the six states after it, for a model.
+fn random_arc(family: Family, model: Model, seed: u32) -> Arc {
+    let second = next(next(seed));
     let third = next(second);
     let fourth = next(third);
     let fifth = next(fourth);
     // No family has more than 4 colours; the remainder keeps the shift within its word.
-    let masks = 1u32 << (numbers.colours % 8);
-    put(sources, at, low_byte(pick(first, numbers.modes)));
-    put(targets, at, low_byte(pick(second, numbers.modes)));
-    put_move(family, third, next(fifth), at, draws, gains);
-    put(
-        colours,
-        at,
-        low_byte(pick(fourth, masks) & pick(fifth, masks)),
-    );
-    // All actions in turn: they change no answer.
-    put(actions, at, (at % ACTIONS) as u8);
-}
-
-// The seed of the next arc: the last one again where the family repeats arcs and the state says so.
-fn seed_of(family: Family, state: u32, last: u32) -> u32 {
-    if family.repeats {
-        if pick(state, 2) == 0 {
-            return last;
-        }
+    let masks = 1u32 << (model.colours % 8);
+    let net = pick(third, family.net_span as u32);
+    let low = family.net_low as u32;
+    let both = pick(next(fifth), family.both_span as u32);
+    // No family makes a draw or a gain that is too great. All actions come in turn: they change no answer.
+    Arc {
+        source: (pick(next(seed), model.modes) % 256) as u8,
+        target: (pick(second, model.modes) % 256) as u8,
+        draw: excess(low, net, both),
+        gain: excess(net, low, both),
+        mask: ((pick(fourth, masks) & pick(fifth, masks)) % 256) as u8,
+        action: model.arcs % ACTIONS,
     }
-    state
 }
 
-// Fills the lists with random arcs, and returns the next state.
-pub fn put_arcs(
-    state: u32,
-    numbers: Numbers,
-    family: Family,
-    sources: &mut [u8],
-    targets: &mut [u8],
-    draws: &mut [u16],
-    gains: &mut [u16],
-    colours: &mut [u8],
-    actions: &mut [u8],
-) -> u32 {
-    let mut seed = state;
-    let mut reached = state;
-    let mut i = 0;
-    while i < numbers.arcs {
+// A model of a family, from a state of the generator.
+pub fn model_of(family: Family, state: u32) -> Made {
+    let count = number(next(next(next(state))), family.arcs_least, family.arcs_span);
+    let mut model = numbers_of(family, state);
+    if family.switches {
+        model = with_switches(model, state);
+    }
+    let mut reached = skip(state);
+    let mut seed = reached;
+    for _ in 0..count {
         reached = skip(reached);
-        seed = seed_of(family, reached, seed);
-        put_arc(
-            seed,
-            numbers,
-            family,
-            i as usize,
-            sources,
-            targets,
-            draws,
-            gains,
-            colours,
-            actions,
-        );
-        i += 1;
+        // The last arc once more, where the family repeats arcs and the state says so.
+        if !family.repeats || pick(reached, 2) != 0 {
+            seed = reached;
+        }
+        model = with_arc(model, random_arc(family, model, seed));
     }
-    skip(reached)
+    Made {
+        model,
+        state: skip(reached),
+    }
 }

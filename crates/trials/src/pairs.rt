@@ -1,7 +1,6 @@
-// Pairs of a mode and a charge, as numbers, and the pair that an arc leads to from another.
-ghost use Prim.Native.Nat.{_+_, _*_, _≤_};
-use crate::lists::byte;
-use crate::lists::word;
+// Pairs of a mode and a charge, as numbers from 1 on, and the pair that an arc leads to from another. 0 stands for no pair.
+ghost use Prim.Native.Nat.{_+_, _≤_};
+use crate::models::Arc;
 
 // The charge that a draw and a gain lead to, cut off at the bound, plus 1; 0 where the charge is less than the draw.
 fn charge_after(charge: usize, draw: u16, gain: u16, bound: u32) -> usize
@@ -20,30 +19,31 @@ fn charge_after(charge: usize, draw: u16, gain: u16, bound: u32) -> usize
     rest + 1
 }
 
-// The number of the pair of a mode and a charge.
-pub fn pair_of(mode: u32, charge: u32, bound: u32) -> usize
-    ensures { λ r. ⌜ r ≤ mode * 4294967296 + charge ⌝ }
-{
-    (mode as usize) * ((bound as usize) + 1) + (charge as usize)
+// The pair of a mode and a charge.
+pub fn pair_of(mode: u8, charge: u32, bound: u32) -> usize {
+    (mode as usize) * ((bound as usize) + 1) + (charge as usize) + 1
 }
 
-// The number of the pair that an arc leads to from a pair, plus 1; 0 where it leads nowhere.
-pub fn pair_after(
-    sources: &[u8],
-    targets: &[u8],
-    draws: &[u16],
-    gains: &[u16],
-    bound: u32,
-    pair: usize,
-    a: usize,
-) -> usize {
-    let charges = (bound as usize) + 1;
-    if (byte(sources, a) as usize) != pair / charges {
+// The mode of a pair; 255, which is none, where there is no pair.
+pub fn mode_of(pair: usize, bound: u32) -> usize {
+    if pair == 0 {
+        return 255;
+    }
+    (pair - 1) / ((bound as usize) + 1)
+}
+
+// The pair that an arc leads to from a pair; 0 where it leads nowhere.
+pub fn pair_after(arc: Arc, bound: u32, pair: usize) -> usize {
+    if pair == 0 {
         return 0;
     }
-    let after = charge_after(pair % charges, word(draws, a), word(gains, a), bound);
+    if mode_of(pair, bound) != arc.source as usize {
+        return 0;
+    }
+    let charge = (pair - 1) % ((bound as usize) + 1);
+    let after = charge_after(charge, arc.draw, arc.gain, bound);
     if after == 0 {
         return 0;
     }
-    pair_of(byte(targets, a) as u32, (after - 1) as u32, bound) + 1
+    pair_of(arc.target, (after - 1) as u32, bound)
 }

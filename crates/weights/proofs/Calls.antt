@@ -11,7 +11,8 @@ use Rattle.walks.specs.Weights.{weighed}
 use Rattle.refusals.specs.declared.Verdict.{Verdict}
 use Rattle.refusals.specs.Refusals.{andThen}
 use Rattle.model.specs.Lists.{Lists}
-use Rattle.model.specs.Plans.{Plan, SomePlan}
+use Rattle.model.specs.Plans.{Plan}
+use Rattle.switches.specs.PlansOn.{SomePlanOn}
 use Rattle.judge.specs.Shape.{planOf}
 use Rattle.judge.specs.Charges.{ranOn, ran, afterRan, secondRound, rounds, charges}
 use Rattle.judge.specs.Judged.{servesOf, judgedPlan, judgedLevels, judged}
@@ -21,10 +22,10 @@ use Rattle.planwalk.specs.Walked.{stepsOfPlan, gaugeWalk, walkOf}
 use Rattle.search.specs.declared.Searched.{Searched}
 use Rattle.search.specs.Search as search
 use Rattle.search.proofs.Searchable.{in-numbers}
-use Rattle.weights.specs.Models.{WeightLists, listsOf, modelBy, OnePart, weightAt, fitnessByWeight, SomePlanByWeight}
+use Rattle.weights.specs.Models.{WeightLists, listsOf, modelBy, OnePart, weightAt, fitnessByWeight, SomePlanOnByWeight}
 use Rattle.weights.specs.Calls as by
 use Rattle.weights.proofs.Parts.{one-part}
-use Rattle.weights.proofs.Models.{fitness-same, step-same, serves-same}
+use Rattle.weights.proofs.Models.{fitness-same, step-same, serves-on-same}
 
 module _ (n s k : ℕ) (l : WeightLists) where
   ran-same : (b : ℕ) (w : List ℕ) (i e : ℕ) (f h : ℕ → Verdict) → ((x : ℕ) → f x ≡ h x)
@@ -80,9 +81,10 @@ module _ (n s k : ℕ) (l : WeightLists) where
   searchable-same b c words bytes = rw (fitness-same l n s k) refl
 
   -- .. the plan ..
-  found-same : (x b c p q : ℕ) (plan plan′ : List ℕ) → search.Found (modelBy n s k l) x b c p q plan plan′ ↔ by.FoundByWeight n s k l x b c p q plan plan′
-  found-same x b c p q plan plan′ =
-      let same = serves-same l n s k x b c _ in (
+  found-same : (x : ℕ) (on : List ℕ) (b c p q : ℕ) (plan plan′ : List ℕ)
+      → search.Found (modelBy n s k l) x on b c p q plan plan′ ↔ by.FoundByWeight n s k l x on b c p q plan plan′
+  found-same x on b c p q plan plan′ =
+      let same = serves-on-same l n s k x on b c _ in (
         λ f. record {
           serves = same .0 (f .serves);
           within = f .within;
@@ -101,27 +103,28 @@ module _ (n s k : ℕ) (l : WeightLists) where
         },
       )
 
-  answered-same : (x b c : ℕ) (plan plan′ : List ℕ) (r : Searched)
-      → search.Answered (modelBy n s k l) x b c plan plan′ r ↔ by.AnsweredByWeight n s k l x b c plan plan′ r
-  answered-same x b c plan plan′ r = (to r, from r)
+  answered-same : (x : ℕ) (on : List ℕ) (b c : ℕ) (plan plan′ : List ℕ) (r : Searched)
+      → search.Answered (modelBy n s k l) x on b c plan plan′ r ↔ by.AnsweredByWeight n s k l x on b c plan plan′ r
+  answered-same x on b c plan plan′ r = (to r, from r)
     where
-      to : (r : Searched) → search.Answered (modelBy n s k l) x b c plan plan′ r → by.AnsweredByWeight n s k l x b c plan plan′ r
+      to : (r : Searched) → search.Answered (modelBy n s k l) x on b c plan plan′ r → by.AnsweredByWeight n s k l x on b c plan plan′ r
       to r (search.none e) = by.none e
-      to r (search.found {p} {q} f) = by.found (found-same x b c p q plan plan′ .0 f)
+      to r (search.found {p} {q} f) = by.found (found-same x on b c p q plan plan′ .0 f)
 
-      from : (r : Searched) → by.AnsweredByWeight n s k l x b c plan plan′ r → search.Answered (modelBy n s k l) x b c plan plan′ r
+      from : (r : Searched) → by.AnsweredByWeight n s k l x on b c plan plan′ r → search.Answered (modelBy n s k l) x on b c plan plan′ r
       from r (by.none e) = search.none e
-      from r (by.found {p} {q} f) = search.found (found-same x b c p q plan plan′ .1 f)
+      from r (by.found {p} {q} f) = search.found (found-same x on b c p q plan plan′ .1 f)
 
   -- .. that there is one ..
-  some-same : (x b c : ℕ) → (SomePlan (modelBy n s k l) x b c → ⊥) ↔ (SomePlanByWeight n s k l x b c → ⊥)
-  some-same x b c = (λ f (p, h). f (p, serves-same l n s k x b c p .1 h), λ f (p, h). f (p, serves-same l n s k x b c p .0 h))
+  some-same : (x : ℕ) (on : List ℕ) (b c : ℕ) → (SomePlanOn (modelBy n s k l) x on b c → ⊥) ↔ (SomePlanOnByWeight n s k l x on b c → ⊥)
+  some-same x on b c =
+      let same = serves-on-same l n s k x on b c in (λ f (p, h). f (p, same p .1 h), λ f (p, h). f (p, same p .0 h))
 
-  decided-same : (x b c : ℕ) (work plan work′ plan′ : List ℕ) (r : Searched)
-      → search.Decided (modelBy n s k l) x b c work plan work′ plan′ r ↔ by.DecidedByWeight n s k l x b c work plan work′ plan′ r
-  decided-same x b c work plan work′ plan′ r =
-      let some = some-same x b c in
-      let answered = answered-same x b c plan plan′ r in (
+  decided-same : (x : ℕ) (on : List ℕ) (b c : ℕ) (work plan work′ plan′ : List ℕ) (r : Searched)
+      → search.Decided (modelBy n s k l) x on b c work plan work′ plan′ r ↔ by.DecidedByWeight n s k l x on b c work plan work′ plan′ r
+  decided-same x on b c work plan work′ plan′ r =
+      let some = some-same x on b c in
+      let answered = answered-same x on b c plan plan′ r in (
         λ d. record {
           no-plan = (λ e. some .0 (d .no-plan .0 e), λ f. d .no-plan .1 (some .1 f));
           answered = answered .0 (d .answered);
@@ -135,11 +138,11 @@ module _ (n s k : ℕ) (l : WeightLists) where
       )
 
   -- .. and the call
-  pub search-same : (x b c : ℕ) (work plan work′ plan′ : List ℕ) (r : Searched)
-      → search.SearchOf n s k (listsOf l) x b c work plan work′ plan′ r ↔ by.SearchByWeight n s k l x b c work plan work′ plan′ r
-  search-same x b c work plan work′ plan′ r =
+  pub search-same : (x : ℕ) (on : List ℕ) (b c : ℕ) (work plan work′ plan′ : List ℕ) (r : Searched)
+      → search.SearchOf n s k (listsOf l) x on b c work plan work′ plan′ r ↔ by.SearchByWeight n s k l x on b c work plan work′ plan′ r
+  search-same x on b c work plan work′ plan′ r =
       let v = searchable-same b c (length work) (length plan) in
-      let decided = decided-same x b c work plan work′ plan′ r in (
+      let decided = decided-same x on b c work plan work′ plan′ r in (
         λ h. record { refused = λ y e. h .refused y (v ∙ e); decided = λ e. decided .0 (h .decided (v ∙ e)) },
         λ h. record {
           refused = λ y e. h .refused y (sym v ∙ e);
@@ -177,6 +180,6 @@ module _ {l : Lists} {w : WeightLists} (same : by.SameAnswers l w) (n s k : ℕ)
   pub walks-same : (x b c p q : ℕ) (v : List ℕ) (j t : ℕ) → walkOf n s k l x b c p q v j t ≡ by.walkByWeight n s k w x b c p q v j t
   walks-same = same .walking n s k
 
-  pub searches-same : (x b c : ℕ) (work plan work′ plan′ : List ℕ) (r : Searched)
-      → search.SearchOf n s k l x b c work plan work′ plan′ r ↔ by.SearchByWeight n s k w x b c work plan work′ plan′ r
+  pub searches-same : (x : ℕ) (on : List ℕ) (b c : ℕ) (work plan work′ plan′ : List ℕ) (r : Searched)
+      → search.SearchOf n s k l x on b c work plan work′ plan′ r ↔ by.SearchByWeight n s k w x on b c work plan work′ plan′ r
   searches-same = same .searching n s k

@@ -25,9 +25,10 @@ use Rattle.model.specs.Automaton.{noArc, arcAt, moveOf}
 use Rattle.model.specs.Lists.{arcsFrom}
 use Rattle.model.specs.Fitness.{unfitLists, header, headerOf, unfitArc, arcsVerdict, fitness}
 use Rattle.model.specs.Plans.{Plan, walkedArcs, Feasible, Serves}
+use Rattle.switches.specs.PlansOn.{ServesOn}
 use Rattle.model.proofs.Arcs.{arcs-length, arcs-here}
 use Rattle.model.proofs.Weights.{weighted-move}
-use Rattle.weights.specs.Models.{WeightLists, listsOf, modelBy, weightAt, weightLeast, weightMost, headerByWeight, arcsByWeight, fitnessByWeight, walkedByWeight, FeasibleByWeight, ServesByWeight}
+use Rattle.weights.specs.Models.{WeightLists, listsOf, modelBy, weightAt, weightLeast, weightMost, headerByWeight, arcsByWeight, fitnessByWeight, walkedByWeight, FeasibleByWeight, ServesByWeight, ServesOnByWeight}
 
 -- the two ranges are the weight's
 draw-range : (w : ℤ) → ltb drawMost (drawOf w) ≡ ltZ w weightLeast
@@ -145,4 +146,12 @@ module _ (l : WeightLists) where
     serves-same x b c p = (
       λ h. record { plan = h .plan; feasible = feasible-same b c p .0 (h .feasible); accepted = h .accepted },
       λ h. record { plan = h .plan; feasible = feasible-same b c p .1 (h .feasible); accepted = h .accepted },
+    )
+
+    -- .. and with arcs that are on alone
+    pub serves-on-same : (x : ℕ) (on : List ℕ) (b c : ℕ) (p : Plan)
+        → ServesOn (modelBy n s k l) x on b c p ↔ ServesOnByWeight n s k l x on b c p
+    serves-on-same x on b c p = (
+      λ h. record { serves = serves-same x b c p .0 (h .serves); prefix-on = h .prefix-on; cycle-on = h .cycle-on },
+      λ h. record { serves = serves-same x b c p .1 (h .serves); prefix-on = h .prefix-on; cycle-on = h .cycle-on },
     )

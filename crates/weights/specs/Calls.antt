@@ -32,7 +32,7 @@ use Rattle.planwalk.specs.Walked.{stepsOfPlan, metOr, walkIf, walkOn, walkOf}
 use Rattle.search.specs.declared.Searched.{Searched}
 use Rattle.search.specs.declared.Searched.the-variants as outcome
 use Rattle.search.specs.Search.{levelsAndSpaces, noPlan, SearchOf}
-use Rattle.weights.specs.Models.{WeightLists, modelBy, weightAt, fitnessByWeight, ServesByWeight, SomePlanByWeight}
+use Rattle.weights.specs.Models.{WeightLists, modelBy, weightAt, fitnessByWeight, ServesOnByWeight, SomePlanOnByWeight}
 
 -- Judging. What follows step i goes on from the charge that it leads to; 15 where it is not possible
 abbrev pub ranOnByWeight : Step → ℕ → (ℕ → Verdict) → Verdict
@@ -91,8 +91,8 @@ walkByWeight n s k l x b c p q w j t =
     (walkOn (startedByWeight n s k l b c) (gaugeWalkByWeight n s k l b j (stepsOfPlan (planOf p w) t) 0))
 
 -- Search: what holds of the plan that is handed back ..
-pub record FoundByWeight (n s k : ℕ) (l : WeightLists) (x b c p q : ℕ) (plan plan′ : List ℕ) : Type 0 where
-  pub serves : ServesByWeight n s k l x b c (planOf p (take (p + q) plan′))
+pub record FoundByWeight (n s k : ℕ) (l : WeightLists) (x : ℕ) (on : List ℕ) (b c p q : ℕ) (plan plan′ : List ℕ) : Type 0 where
+  pub serves : ServesOnByWeight n s k l x on b c (planOf p (take (p + q) plan′))
   pub within : p + q ≤ length plan′
   pub short : p + q ≤ planMost
   pub prefix-short : p ≤ n * (b + 1)
@@ -100,25 +100,28 @@ pub record FoundByWeight (n s k : ℕ) (l : WeightLists) (x b c p q : ℕ) (plan
   pub later : drop (p + q) plan′ ≡ drop (p + q) plan
 
 -- .. 10, with the buffer untouched, or such a plan in it ..
-pub data AnsweredByWeight (n s k : ℕ) (l : WeightLists) (x b c : ℕ) (plan plan′ : List ℕ) : Searched → Type 0 where
-  none : plan′ ≡ plan → AnsweredByWeight n s k l x b c plan plan′ noPlan
-  found : {p q : ℕ} → FoundByWeight n s k l x b c p q plan plan′ → AnsweredByWeight n s k l x b c plan plan′ (outcome.Plan p q)
+pub data AnsweredByWeight (n s k : ℕ) (l : WeightLists) (x : ℕ) (on : List ℕ) (b c : ℕ) (plan plan′ : List ℕ) : Searched → Type 0 where
+  none : plan′ ≡ plan → AnsweredByWeight n s k l x on b c plan plan′ noPlan
+  found : {p q : ℕ} → FoundByWeight n s k l x on b c p q plan plan′ → AnsweredByWeight n s k l x on b c plan plan′ (outcome.Plan p q)
 
 -- .. demand 3 ..
-pub record DecidedByWeight (n s k : ℕ) (l : WeightLists) (x b c : ℕ) (work plan work′ plan′ : List ℕ) (r : Searched) : Type 0 where
-  pub no-plan : (r ≡ noPlan) ↔ (SomePlanByWeight n s k l x b c → ⊥)
-  pub answered : AnsweredByWeight n s k l x b c plan plan′ r
+pub record DecidedByWeight (n s k : ℕ) (l : WeightLists) (x : ℕ) (on : List ℕ) (b c : ℕ)
+    (work plan work′ plan′ : List ℕ) (r : Searched) : Type 0 where
+  pub no-plan : (r ≡ noPlan) ↔ (SomePlanOnByWeight n s k l x on b c → ⊥)
+  pub answered : AnsweredByWeight n s k l x on b c plan plan′ r
   pub cleared : work′ ≡ replicate (length work) 0
 
 -- .. over all inputs, v being what 1 to 9 say ..
-pub record SearchIfByWeight (v : Verdict) (n s k : ℕ) (l : WeightLists) (x b c : ℕ) (work plan work′ plan′ : List ℕ) (r : Searched) : Type 0 where
+pub record SearchIfByWeight (v : Verdict) (n s k : ℕ) (l : WeightLists) (x : ℕ) (on : List ℕ) (b c : ℕ)
+    (work plan work′ plan′ : List ℕ) (r : Searched) : Type 0 where
   pub refused : (y : Refusal) → v ≡ Refused y → (r ≡ outcome.Refused y) × (work′ ≡ work) × (plan′ ≡ plan)
-  pub decided : v ≡ Yes → DecidedByWeight n s k l x b c work plan work′ plan′ r
+  pub decided : v ≡ Yes → DecidedByWeight n s k l x on b c work plan work′ plan′ r
 
 -- .. and the call
-abbrev pub SearchByWeight : ℕ → ℕ → ℕ → WeightLists → ℕ → ℕ → ℕ → List ℕ → List ℕ → List ℕ → List ℕ → Searched → Type 0
-SearchByWeight n s k l x b c work plan work′ plan′ r =
-    SearchIfByWeight (andThen (fitnessByWeight n s k l) (levelsAndSpaces n k b c (length work) (length plan))) n s k l x b c work plan work′ plan′ r
+abbrev pub SearchByWeight : ℕ → ℕ → ℕ → WeightLists → ℕ → List ℕ → ℕ → ℕ → List ℕ → List ℕ → List ℕ → List ℕ → Searched → Type 0
+SearchByWeight n s k l x on b c work plan work′ plan′ r =
+    SearchIfByWeight (andThen (fitnessByWeight n s k l) (levelsAndSpaces n k b c (length work) (length plan))) n s k l x on b c
+    work plan work′ plan′ r
 
 -- "the same verdicts as before": every call on the six lists l answers what the weights l′ say, whatever else it is given
 pub record SameAnswers (l : Lists) (l′ : WeightLists) : Type 0 where
@@ -126,5 +129,5 @@ pub record SameAnswers (l : Lists) (l′ : WeightLists) : Type 0 where
   pub starting : (n s k b c : ℕ) → startedOf n s k l b c ≡ startedByWeight n s k l′ b c
   pub stepping : (n s k b a : ℕ) (x : Gauge) → steppedOf n s k l b a x ≡ steppedByWeight n s k l′ b a x
   pub walking : (n s k x b c p q : ℕ) (w : List ℕ) (j t : ℕ) → walkOf n s k l x b c p q w j t ≡ walkByWeight n s k l′ x b c p q w j t
-  pub searching : (n s k x b c : ℕ) (work plan work′ plan′ : List ℕ) (r : Searched)
-      → SearchOf n s k l x b c work plan work′ plan′ r ↔ SearchByWeight n s k l′ x b c work plan work′ plan′ r
+  pub searching : (n s k x : ℕ) (on : List ℕ) (b c : ℕ) (work plan work′ plan′ : List ℕ) (r : Searched)
+      → SearchOf n s k l x on b c work plan work′ plan′ r ↔ SearchByWeight n s k l′ x on b c work plan work′ plan′ r

@@ -1,5 +1,6 @@
 -- Models with one weight for each arc. Document 01, "The model and the charge": "a weight from −10,000 to 10,000"; document 02, Ask 4: "An old
 -- weight w means draw −w, gain 0 where w is negative, else draw 0, gain w; models without both parts must get the same verdicts as before".
+-- Arcs that are off (Ask 9) are withdrawn from plans by weights as from any.
 use Prim.Native.Nat.{ℕ, zero, suc, _^_}
 use mathlib.Core.Bool.{Bool, not, _||_}
 use mathlib.Core.Path.{_≡_}
@@ -19,6 +20,7 @@ use Rattle.refusals.specs.Refusals.{refuse, andThen}
 use Rattle.model.specs.Automaton.{Automaton}
 use Rattle.model.specs.Lists.{Lists, weighted, automatonOf}
 use Rattle.model.specs.Plans.{Plan, IsPlan, Accepted}
+use Rattle.switches.specs.PlansOn.{AllOn}
 
 -- "Arcs come as four lent lists of equal length"; Ask 5's actions are a fifth
 pub record WeightLists : Type 0 where
@@ -97,5 +99,11 @@ pub record ServesByWeight (n s k : ℕ) (l : WeightLists) (x b c : ℕ) (p : Pla
   pub feasible : FeasibleByWeight l b c p
   pub accepted : Accepted (modelBy n s k l) x p
 
-abbrev pub SomePlanByWeight : ℕ → ℕ → ℕ → WeightLists → ℕ → ℕ → ℕ → Type 0
-SomePlanByWeight n s k l x b c = (p : Plan) × ServesByWeight n s k l x b c p
+-- such a plan of arcs that are on
+pub record ServesOnByWeight (n s k : ℕ) (l : WeightLists) (x : ℕ) (on : List ℕ) (b c : ℕ) (p : Plan) : Type 0 where
+  pub serves : ServesByWeight n s k l x b c p
+  pub prefix-on : AllOn on (p .prefix)
+  pub cycle-on : AllOn on (p .cycle)
+
+abbrev pub SomePlanOnByWeight : ℕ → ℕ → ℕ → WeightLists → ℕ → List ℕ → ℕ → ℕ → Type 0
+SomePlanOnByWeight n s k l x on b c = (p : Plan) × ServesOnByWeight n s k l x on b c p

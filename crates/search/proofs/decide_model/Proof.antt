@@ -37,7 +37,7 @@ decide-requires : tie.Need-decide-requires
 decide-requires c κs =
     let k = duties-of c in
     let d = groups-of k in
-    solvable-searchable (start d .args .barred) (start d .pre) (d .group .ensures) (k .count-required .ensures) (differ-no (start d .args .barred) 0 .0)
+    solvable-searchable (start d .args .barred) (start d .args .on) (start d .pre) (d .group .ensures) (k .count-required .ensures) (differ-no (start d .args .barred) 0 .0)
 
 same-length : tie.Need-same-length
 same-length c = search needs
@@ -51,9 +51,10 @@ returns c =
     let k = duties-of (y .before) in
     let d = groups-of k in
     let x = start d .args .barred in
+    let on = start d .args .on in
     let able = start d .pre in (
-      solved-none x able (d .group .ensures) (k .count-required .ensures) (differ-no x 0 .0) (y .decide .ensures .0),
-      solved-answered x able (d .group .ensures) (k .count-required .ensures) (differ-no x 0 .0) (y .decide .ensures .1),
+      solved-none x on able (d .group .ensures) (k .count-required .ensures) (differ-no x 0 .0) (y .decide .ensures .0),
+      solved-answered x on able (d .group .ensures) (k .count-required .ensures) (differ-no x 0 .0) (y .decide .ensures .1),
     )
 
 pub decide-model-spec : {M : Type 1} → statement M

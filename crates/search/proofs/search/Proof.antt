@@ -11,7 +11,7 @@ use Rattle.refusals.specs.declared.Verdict.{Verdict}
 use Rattle.model.specs.declared.Fitted.{Fitted}
 use Rattle.model.specs.Automaton.{Automaton}
 use Rattle.model.specs.Lists.{Lists, lists}
-use Rattle.model.specs.Plans.{SomePlan}
+use Rattle.switches.specs.PlansOn.{SomePlanOn}
 use Rattle.search.specs.Search.{noPlan, Answered}
 use Rattle.search.specs.Tasks.{Solvable}
 use Rattle.search.proofs.Searchable.{told-yes, told-held, told-solvable, search-refused, search-decided}
@@ -77,9 +77,9 @@ returns c =
     let held = told-held (a .n) (a .start) (a .k) l (a .b) (a .c) _ _ (d .check-search .ensures) (t .enum-told .given .1) in
     let told = told-yes (a .n) (a .start) (a .k) l (a .b) (a .c) _ _ (d .check-search .ensures) (t .enum-told .given .1) in
     search-decided told
-    (subst (λ (g : Automaton). (y .result ≡ noPlan) ↔ (SomePlan g (a .barred) (a .b) (a .c) → ⊥)) held (y .ensures .0))
-    (subst (λ (g : Automaton). Answered g (a .barred) (a .b) (a .c) (a .plan .now) (y .last .1 .1 .1 .1 .1 .0) (y .result)) held (y .ensures .1))
-    (clear .clear .ensures ∙ ap {B = List ℕ} (λ (x : ℕ). replicate x 0) (y .kept .1 .1 .1 .1 .0))
+    (subst (λ (g : Automaton). (y .result ≡ noPlan) ↔ (SomePlanOn g (a .barred) (a .on) (a .b) (a .c) → ⊥)) held (y .ensures .0))
+    (subst (λ (g : Automaton). Answered g (a .barred) (a .on) (a .b) (a .c) (a .plan .now) (y .last .1 .1 .1 .1 .1 .1 .0) (y .result)) held (y .ensures .1))
+    (clear .clear .ensures ∙ ap {B = List ℕ} (λ (x : ℕ). replicate x 0) (y .kept .1 .1 .1 .1 .1 .0))
 
 returns-2 : tie.Need-returns-2
 returns-2 c =

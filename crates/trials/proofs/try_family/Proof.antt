@@ -31,6 +31,8 @@ try-family-spec =
     (search needs)
     (search needs)
     (search needs)
+    (search needs)
+    (search needs)
     loop-again
     (search needs)
     (search needs))

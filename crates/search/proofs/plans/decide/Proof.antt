@@ -5,7 +5,8 @@ use Prim.Native.Nat.{_≤_}
 use native.Mathlib.Omega.{arith}
 use lib.ListN.{length}
 use borrow.Author.Needs.{needs}
-use Rattle.search.specs.Tasks.{none, taskNet, Searchable}
+use Rattle.passes.specs.Tasks.{taskNet}
+use Rattle.search.specs.Tasks.{none, Searchable}
 use Rattle.search.proofs.Spaces.{plan-held, buffer-short, prefix-held, cycle-held}
 use Rattle.search.proofs.Tasks.{searchable-kept}
 use Rattle.search.proofs.Written.{plan-found, lasso-answered}

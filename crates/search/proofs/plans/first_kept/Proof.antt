@@ -6,7 +6,7 @@ use native.Mathlib.Omega.{arith}
 use lib.ListN.{length, getD}
 use borrow.Author.Needs.{needs}
 use Rattle.passes.specs.Outcome.{KeptPeak}
-use Rattle.search.specs.Tasks.{taskNet}
+use Rattle.passes.specs.Tasks.{taskNet}
 use Rattle.search.proofs.Tasks.{searchable-kept}
 use Rattle.search.proofs.Kept.{NoneKept, cycle-kept, cycle-lost, none-kept, first-none, first-more, first-found, first-end}
 use Rattle.search.proofs.plans.first_kept.Statement.{statement}

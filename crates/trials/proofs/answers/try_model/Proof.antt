@@ -1,27 +1,20 @@
 -- `answers::try_model` is safe and ends: the parts are within their arrays. Assumes nothing.
-use native.Mathlib.Omega.{arith}
-use lib.ListN.{length-take}
 use borrow.Author.Needs.{needs}
+use Rattle.trials.proofs.Parts.{counted}
 use Rattle.trials.proofs.answers.try_model.Statement.{statement}
 use Rattle.trials.proofs.answers.try_model.Tie as tie
 
-slice-aggregate-lend : tie.Need-slice-aggregate-lend
-slice-aggregate-lend c = simp length-take (omega arith)
+array-borrow-prefix-work : tie.Need-array-borrow-prefix-work
+array-borrow-prefix-work c = search needs
 
-slice-aggregate-lend-2 : tie.Need-slice-aggregate-lend-2
-slice-aggregate-lend-2 c = simp length-take (omega arith)
+slice-aggregate-compare-turned : tie.Need-slice-aggregate-compare-turned
+slice-aggregate-compare-turned c = counted _ _ (array-borrow-prefix-work (c .before))
 
-slice-aggregate-lend-3 : tie.Need-slice-aggregate-lend-3
-slice-aggregate-lend-3 c = simp length-take (omega arith)
+array-borrow-prefix-plan : tie.Need-array-borrow-prefix-plan
+array-borrow-prefix-plan c = search needs
 
-slice-aggregate-lend-4 : tie.Need-slice-aggregate-lend-4
-slice-aggregate-lend-4 c = simp length-take (omega arith)
-
-slice-aggregate-lend-5 : tie.Need-slice-aggregate-lend-5
-slice-aggregate-lend-5 c = simp length-take (omega arith)
-
-slice-aggregate-lend-6 : tie.Need-slice-aggregate-lend-6
-slice-aggregate-lend-6 c = simp length-take (omega arith)
+slice-aggregate-compare-turned-2 : tie.Need-slice-aggregate-compare-turned-2
+slice-aggregate-compare-turned-2 c = counted _ _ (array-borrow-prefix-plan (c .before))
 
 pub try-model-spec : {M : Type 1} → statement M
 try-model-spec =
@@ -34,23 +27,11 @@ try-model-spec =
     (search needs)
     (search needs)
     (search needs)
+    array-borrow-prefix-work
+    slice-aggregate-compare-turned
+    array-borrow-prefix-plan
+    slice-aggregate-compare-turned-2
     (search needs)
-    (search needs)
-    (search needs)
-    (search needs)
-    (search needs)
-    (search needs)
-    slice-aggregate-lend
-    (search needs)
-    slice-aggregate-lend-2
-    (search needs)
-    slice-aggregate-lend-3
-    (search needs)
-    slice-aggregate-lend-4
-    (search needs)
-    slice-aggregate-lend-5
-    (search needs)
-    slice-aggregate-lend-6
     (search needs)
     (search needs)
     (search needs))

@@ -1,8 +1,6 @@
--- `candidates::sweep` is safe and ends: the list keeps its length. Assumes nothing.
-use mathlib.Core.Path.{_≡_}
+-- `candidates::sweep` is safe and ends. Assumes nothing.
 use Prim.Native.Nat.{_-_}
 use borrow.Author.Needs.{needs}
-use lib.ListN.{length}
 use Rattle.trials.proofs.candidates.sweep.Statement.{statement}
 use Rattle.trials.proofs.candidates.sweep.Tie as tie
 
@@ -10,8 +8,8 @@ pub sweep-spec : {M : Type 1} → statement M
 sweep-spec =
     tie.close
     (tie.spec
-    (λ _ _ _ _ _ _ _ _ marked₀ _ _ marked _ _. length marked ≡ length marked₀)
-    (λ _ _ _ _ _ _ _ candidates _ _ _ _ _ pair. length candidates - pair)
+    (λ _ _ _ _ _ _ _ _. Unit {0})
+    (λ model _ _ _ _ _ _ a. model .arcs - a)
     (search needs)
     (search needs)
     (search needs)

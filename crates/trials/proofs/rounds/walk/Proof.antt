@@ -9,8 +9,8 @@ pub walk-spec : {M : Type 1} → statement M
 walk-spec =
     tie.close
     (tie.spec
-    (λ _ _ _ _ _ _ _ _ _ _ _. Unit {0})
-    (λ _ _ _ _ _ _ arcs _ _ _ i. length arcs - i)
+    (λ _ _ _ _ _ _ _. Unit {0})
+    (λ _ _ arcs _ _ _ i. length arcs - i)
     (search needs)
     (search needs)
     (search needs)
