@@ -31,6 +31,8 @@ struct version {
     read_entry *read;
     join_entry *join;
     ward_entry *ward;
+    reach_start_entry *reach_start;
+    reach_switch_entry *reach_switch;
 };
 
 /*
@@ -49,9 +51,12 @@ struct family {
 };
 
 static const struct version versions[VERSIONS] = {
-    {"library", chargeplan_search, chargeplan_judge, chargeplan_read, chargeplan_join, chargeplan_ward},
-    {"C -O2", reference_o2_search, reference_o2_judge, reference_o2_read, reference_o2_join, reference_o2_ward},
-    {"C -O3", reference_o3_search, reference_o3_judge, reference_o3_read, reference_o3_join, reference_o3_ward},
+    {"library", chargeplan_search, chargeplan_judge, chargeplan_read, chargeplan_join, chargeplan_ward, chargeplan_reach_start,
+     chargeplan_reach_switch},
+    {"C -O2", reference_o2_search, reference_o2_judge, reference_o2_read, reference_o2_join, reference_o2_ward,
+     reference_o2_reach_start, reference_o2_reach_switch},
+    {"C -O3", reference_o3_search, reference_o3_judge, reference_o3_read, reference_o3_join, reference_o3_ward,
+     reference_o3_reach_start, reference_o3_reach_switch},
 };
 
 /* The lists that reading and the join fill, and the numbers that they answer. */
@@ -70,7 +75,7 @@ struct filled {
 
 /*
  * Allocated once: the inputs of a family, their habits, their plans to be judged, their texts, their wearers, the buffers of search, the
- * lists to be filled, and what the library left in these.
+ * lists to be filled, the reach that was made last, and what the library left in these.
  */
 static struct input inputs[SET_MOST], habits[SET_MOST];
 static uint8_t judged[SET_MOST][CHARGEPLAN_PLAN_MOST];
@@ -79,6 +84,7 @@ static struct chargeplan_wearer wearers[SET_MOST][WEARERS], library_wearers[WEAR
 static uint16_t work[WORK_WORDS], library_work[WORK_WORDS];
 static uint8_t plan[PLAN_BYTES], library_plan[PLAN_BYTES];
 static struct filled filled, library_filled;
+static struct chargeplan_reach reach, library_reach;
 
 static void fail(const struct family *family, const char *what)
 {
@@ -89,8 +95,9 @@ static void fail(const struct family *family, const char *what)
 static uint64_t call_search(const struct version *version, const struct input *in)
 {
     return version->search(in->n, in->start, in->k, in->sources, in->arcs, in->targets, in->arcs, in->draws, in->arcs,
-                           in->gains, in->arcs, in->colours, in->arcs, in->actions, in->arcs, in->c, in->b, in->barred, work,
-                           chargeplan_work_words(in->n, in->k, in->b), plan, chargeplan_plan_bytes(in->n, in->k, in->b));
+                           in->gains, in->arcs, in->colours, in->arcs, in->actions, in->arcs, in->c, in->b, in->barred, in->on[0],
+                           in->on[1], in->on[2], in->on[3], work, chargeplan_work_words(in->n, in->k, in->b), plan,
+                           chargeplan_plan_bytes(in->n, in->k, in->b));
 }
 
 static uint64_t call_judge(const struct version *version, const struct input *in)
@@ -141,6 +148,38 @@ static uint64_t call_ward(const struct version *version, const struct input *in)
     return warded.number | warded.detail << 8;
 }
 
+/* Keeps the reach, and returns the answer. */
+static uint64_t keep_reach(struct chargeplan_reached reached)
+{
+    reach = reached.reach;
+    return reached.answer;
+}
+
+static uint64_t call_reach(const struct version *version, const struct input *in)
+{
+    return keep_reach(version->reach_start(in->n, in->start, in->k, in->sources, in->arcs, in->targets, in->arcs, in->draws, in->arcs,
+                                           in->gains, in->arcs, in->colours, in->arcs, in->actions, in->arcs, in->c, in->b,
+                                           in->on[0], in->on[1], in->on[2], in->on[3]));
+}
+
+static uint64_t switch_to(const struct version *version, const struct input *in, uint8_t on)
+{
+    return keep_reach(version->reach_switch(in->reach, in->n, in->start, in->k, in->sources, in->arcs, in->targets, in->arcs,
+                                            in->draws, in->arcs, in->gains, in->arcs, in->colours, in->arcs, in->actions, in->arcs,
+                                            in->c, in->b, in->switched, on));
+}
+
+static uint64_t call_switch(const struct version *version, const struct input *in)
+{
+    return switch_to(version, in, 0);
+}
+
+/* Switches the arc to what it is. */
+static uint64_t call_switch_to_same(const struct version *version, const struct input *in)
+{
+    return switch_to(version, in, 1);
+}
+
 static const struct family families[] = {
     {"search, random, 64 modes, 255 arcs, b 127, with a plan", call_search, make_64_modes, 16, 0, 0, 0, 0},
     {"search, random, 64 modes, 255 arcs, b 127, without", call_search, make_64_modes, 16, 10, 0, 0, 0},
@@ -178,6 +217,19 @@ static const struct family families[] = {
     {"ward, 1,000 wearers, 255 arcs, a plan of 64 arcs", call_ward, make_ward, 16, 0, 64, 0, 0},
     {"ward, 1,000 wearers, 255 arcs, a plan of 640 arcs", call_ward, make_ward, 16, 0, 640, 0, 0},
     {"ward, 1,000 wearers with 6: the checks of 255 arcs alone", call_ward, make_ward_of_sixes, 16, 6, 64, 0, 0},
+    {"search, 64 modes, 255 arcs, one in four off, with a plan", call_search, make_64_modes_off, 16, 0, 0, 0, 0},
+    {"reach, random, 64 modes, 255 arcs, b 127", call_reach, make_reach, 16, 0, 0, 0, 0},
+    {"reach, the same, b 8,191", call_reach, make_far_reach, 16, 0, 0, 0, 0},
+    {"search for the peaks alone, the same, b 127", call_search, make_reach, 16, 10, 0, 0, 0},
+    {"reach, chain of 64 modes with +1 loops, b 127", call_reach, make_reach_chain, 1, 0, 0, 0, 0},
+    {"reach, the same, b 8,191", call_reach, make_far_reach_chain, 1, 0, 0, 0, 0},
+    {"search for the peaks alone, the same, b 127", call_search, make_reach_chain, 1, 10, 0, 0, 0},
+    {"reach, ring of 64 modes, 255 arcs, b 127", call_reach, make_reach_ring, 1, 0, 0, 0, 0},
+    {"reach, the same, b 8,191", call_reach, make_far_reach_ring, 1, 0, 0, 0, 0},
+    {"search for the peaks alone, the same, b 127", call_search, make_reach_ring, 1, 10, 0, 0, 0},
+    {"switching an arc off, random, 64 modes, 255 arcs, b 127", call_switch, make_switching, 16, 0, 0, 0, 0},
+    {"switching, the same, b 8,191", call_switch, make_far_switching, 16, 0, 0, 0, 0},
+    {"switching to what it is: the checks of 255 arcs alone", call_switch_to_same, make_switching, 16, 0, 0, 0, 0},
 };
 
 /* The same junk in the buffers before each comparison and each sample. */
@@ -188,6 +240,7 @@ static void fill_buffers(void)
     for (size_t i = 0; i < PLAN_BYTES; i++)
         plan[i] = (uint8_t)(i * 167 + 1);
     memset(&filled, 0xa5, sizeof filled);
+    memset(&reach, 0xa5, sizeof reach);
     for (size_t i = 0; i < SET_MOST; i++)
         for (size_t w = 0; w < WEARERS; w++)
             wearers[i][w].verdict = 0xa5;
@@ -227,7 +280,7 @@ static bool same_wearers(const struct input *in)
     return true;
 }
 
-/* Compares answers, plan buffers, working spaces, filled lists and wearers of the references with the library's. */
+/* Compares answers, plan buffers, working spaces, filled lists, wearers and reaches of the references with the library's. */
 static void compare(const struct family *family, const struct input *in)
 {
     fill_buffers();
@@ -236,6 +289,7 @@ static void compare(const struct family *family, const struct input *in)
     memcpy(library_plan, plan, sizeof plan);
     memcpy(&library_filled, &filled, sizeof filled);
     memcpy(library_wearers, in->wearers, sizeof library_wearers);
+    library_reach = reach;
     for (size_t v = 1; v < VERSIONS; v++) {
         fill_buffers();
         if (family->call(&versions[v], in) != answer)
@@ -248,6 +302,8 @@ static void compare(const struct family *family, const struct input *in)
             fail(family, "filled lists differ");
         if (!same_wearers(in))
             fail(family, "wearers differ");
+        if (memcmp(&library_reach, &reach, sizeof reach) != 0)
+            fail(family, "reaches differ");
     }
 }
 

@@ -43,6 +43,8 @@ static void set_numbers(struct input *in, uint32_t n, uint32_t k, uint32_t c, ui
     in->c = c;
     in->b = b;
     in->barred = 0;
+    for (size_t i = 0; i < CHARGEPLAN_ON_WORDS; i++)
+        in->on[i] = UINT64_MAX;
     in->wearers_length = 0;
 }
 
@@ -355,4 +357,90 @@ void make_ward_of_sixes(struct input *in)
     make_ward(in);
     for (size_t i = 0; i < WEARERS; i++)
         in->wearers[i].b = in->wearers[i].c - 1;
+}
+
+void make_64_modes_off(struct input *in)
+{
+    make_64_modes(in);
+    for (size_t a = 0; a < in->arcs; a++)
+        if (below(4) == 0)
+            in->on[a / 64] &= ~((uint64_t)1 << a % 64);
+}
+
+/* Bars every arc from the cycle. */
+static void bar_arcs(struct input *in)
+{
+    in->k = 1;
+    in->barred = 1;
+    for (size_t a = 0; a < in->arcs; a++)
+        in->colours[a] = 1;
+}
+
+/* Another bound, and credit where it was the bound; what drew all the charge does so again. */
+static void raise_bound(struct input *in, uint16_t b)
+{
+    for (size_t a = 0; a < in->arcs; a++)
+        if (in->draws[a] == in->b)
+            in->draws[a] = b;
+    if (in->c == in->b)
+        in->c = b;
+    in->b = b;
+}
+
+void make_reach(struct input *in)
+{
+    set_numbers(in, 64, 1, 63, 127);
+    add_random_arcs(in, 255, -60, 40, 1);
+    bar_arcs(in);
+}
+
+void make_reach_chain(struct input *in)
+{
+    make_chain(in);
+    bar_arcs(in);
+}
+
+void make_reach_ring(struct input *in)
+{
+    make_ring(in);
+    bar_arcs(in);
+}
+
+void make_far_reach(struct input *in)
+{
+    make_reach(in);
+    raise_bound(in, CHARGEPLAN_BOUND_MOST);
+}
+
+void make_far_reach_chain(struct input *in)
+{
+    make_reach_chain(in);
+    raise_bound(in, CHARGEPLAN_BOUND_MOST);
+}
+
+void make_far_reach_ring(struct input *in)
+{
+    make_reach_ring(in);
+    raise_bound(in, CHARGEPLAN_BOUND_MOST);
+}
+
+static void start_reach(struct input *in)
+{
+    struct chargeplan_model m = {in->n,     in->start,   in->k,       in->sources, in->targets, in->draws,
+                                 in->gains, in->colours, in->actions, in->arcs};
+
+    in->reach = chargeplan_model_reach_start(&m, in->c, in->b, in->on).reach;
+    in->switched = below((uint32_t)in->arcs);
+}
+
+void make_switching(struct input *in)
+{
+    make_reach(in);
+    start_reach(in);
+}
+
+void make_far_switching(struct input *in)
+{
+    make_far_reach(in);
+    start_reach(in);
 }

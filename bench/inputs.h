@@ -1,6 +1,6 @@
 /*
  * The inputs of the benchmark: models with credit and bound, for judging a plan, for reading the texts of a model, for joining a knee with
- * a habit, and for judging a plan for a ward. An arc with a weight draws or gains; those of two kinds do both.
+ * a habit, for judging a plan for a ward, and for the reach. An arc with a weight draws or gains; those of two kinds do both.
  */
 #ifndef INPUTS_H
 #define INPUTS_H
@@ -25,6 +25,7 @@ struct input {
     uint32_t c;
     uint32_t b;
     uint8_t barred; /* 0 but where a kind of input says so */
+    uint64_t on[CHARGEPLAN_ON_WORDS]; /* every arc is on, but where a kind of input says so */
     uint32_t p;
     uint32_t q;
     uint8_t *plan; /* p + q arcs to be judged */
@@ -35,6 +36,8 @@ struct input {
     struct input *habit; /* the model to be joined with this one */
     struct chargeplan_wearer *wearers; /* of a ward, in a list of WEARERS places */
     size_t wearers_length;             /* 0 where there is no ward */
+    struct chargeplan_reach reach;     /* to be switched */
+    uint32_t switched;                 /* the arc that is switched */
 };
 
 enum { TEXT_MOST = 1 << 20, WEARERS = 1000 };
@@ -125,5 +128,30 @@ void make_ward(struct input *in);
 
 /* The same with a bound below the credit: each wearer has 6, which is looked at once the model is checked. */
 void make_ward_of_sixes(struct input *in);
+
+/* As make_64_modes; one arc in four is off. */
+void make_64_modes_off(struct input *in);
+
+/*
+ * For the reach: 64 modes, 255 arcs with weights from -60 to 40, b 127. Every arc has the one colour, which is barred, so that no arc may
+ * stand in a cycle: a search of the model makes the pass for the peaks, and of each mode a pass that ends with its first entry.
+ */
+void make_reach(struct input *in);
+
+/* The same with the chain of make_chain, and with the ring of make_ring. */
+void make_reach_chain(struct input *in);
+void make_reach_ring(struct input *in);
+
+/*
+ * The three with b 8,191, which search does not take. In the chain and in the ring the arcs that draw all the charge draw 8,191; the other
+ * draws and gains are the same, so that a charge that rises by one at a time has 64 times as far to go.
+ */
+void make_far_reach(struct input *in);
+void make_far_reach_chain(struct input *in);
+void make_far_reach_ring(struct input *in);
+
+/* As make_reach and make_far_reach, and a fresh reach of every arc on, of which one that is on is switched off. */
+void make_switching(struct input *in);
+void make_far_switching(struct input *in);
 
 #endif

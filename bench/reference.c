@@ -1,7 +1,7 @@
 /*
- * Search, judging, the join and the ward in C, to compare the library with: the same checks, passes and scans in the same order, the arcs
- * grouped by source, so that answers, plans and verdicts are equal. The entries are REFERENCE_search, REFERENCE_judge, REFERENCE_join and
- * REFERENCE_ward, where the build names REFERENCE.
+ * Search, judging, the join, the ward and the reach in C, to compare the library with: the same checks, passes and scans in the same order,
+ * the arcs grouped by source, so that answers, plans, verdicts and charges are equal. The entries are REFERENCE_search, REFERENCE_judge,
+ * REFERENCE_join, REFERENCE_ward, REFERENCE_reach_start and REFERENCE_reach_switch, where the build names REFERENCE.
  */
 #include <stdbool.h>
 #include <stddef.h>
@@ -16,7 +16,7 @@
 
 enum { NODES_MOST = (CHARGEPLAN_COLOURS_MOST + 1) * CHARGEPLAN_MODES_MOST };
 
-/* A model, the bound, the credit and the barred colours. */
+/* A model, the bound, the credit, the barred colours and, where arcs are grouped, their switches. */
 struct model {
     uint32_t modes;
     uint32_t start;
@@ -31,6 +31,7 @@ struct model {
     int32_t bound;
     int32_t credit;
     uint8_t barred;
+    uint64_t on[CHARGEPLAN_ON_WORDS];
 };
 
 /* An arc as a pass reads it, with its number. */
@@ -43,7 +44,7 @@ struct row {
     bool barred; /* whether it has a barred one */
 };
 
-/* The arcs sorted by source, equal sources in their given order: the rows of mode s stand from first[s] up to first[s + 1]. */
+/* The arcs that are on, sorted by source, equal sources in their given order: the rows of mode s stand from first[s] up to first[s + 1]. */
 struct groups {
     uint8_t first[CHARGEPLAN_MODES_MOST + 1];
     struct row rows[CHARGEPLAN_ARCS_MOST];
@@ -155,18 +156,25 @@ static struct row row_of(const struct model *m, size_t a)
                         (m->colours[a] & m->barred) != 0};
 }
 
-/* A counting sort by source. */
+static bool is_on(const uint64_t *on, size_t a)
+{
+    return (on[a / 64] >> a % 64 & 1) != 0;
+}
+
+/* A counting sort by source of the arcs that are on. */
 static void group(const struct model *m, struct groups *groups)
 {
     uint8_t next[CHARGEPLAN_MODES_MOST + 1] = {0}; /* the next place of each mode */
 
     for (size_t a = 0; a < m->arcs; a++)
-        next[m->sources[a] + 1]++;
+        if (is_on(m->on, a))
+            next[m->sources[a] + 1]++;
     for (size_t s = 0; s < m->modes; s++)
         next[s + 1] = (uint8_t)(next[s + 1] + next[s]);
     memcpy(groups->first, next, sizeof next);
     for (size_t a = 0; a < m->arcs; a++)
-        groups->rows[next[m->sources[a]]++] = row_of(m, a);
+        if (is_on(m->on, a))
+            groups->rows[next[m->sources[a]]++] = row_of(m, a);
 }
 
 static void push(struct pass *pass, uint32_t node, int32_t charge, size_t parent, uint8_t arc)
@@ -307,9 +315,11 @@ uint64_t PASTE(REFERENCE, _search)(uint32_t n, uint32_t start, uint32_t k, const
                                    const uint8_t *targets, size_t targets_len, const uint16_t *draws, size_t draws_len,
                                    const uint16_t *gains, size_t gains_len, const uint8_t *colours, size_t colours_len,
                                    const uint8_t *actions, size_t actions_len, uint32_t c, uint32_t b, uint8_t barred,
-                                   uint16_t *work, size_t work_len, uint8_t *plan, size_t plan_len)
+                                   uint64_t on0, uint64_t on1, uint64_t on2, uint64_t on3, uint16_t *work, size_t work_len,
+                                   uint8_t *plan, size_t plan_len)
 {
-    struct model m = {n, start, k, sources_len, sources, targets, draws, gains, colours, actions, (int32_t)b, (int32_t)c, barred};
+    struct model m = {n,     start,   k,       sources_len, sources,    targets, draws,
+                      gains, colours, actions, (int32_t)b,  (int32_t)c, barred,  {on0, on1, on2, on3}};
     uint64_t answer = check_model(&m, targets_len, draws_len, gains_len, colours_len, actions_len);
 
     if (answer == CHARGEPLAN_YES)
@@ -419,7 +429,7 @@ uint64_t PASTE(REFERENCE, _judge)(uint32_t n, uint32_t start, uint32_t k, const 
                                   const uint8_t *actions, size_t actions_len, uint32_t c, uint32_t b, uint8_t barred, uint32_t p,
                                   uint32_t q, const uint8_t *plan, size_t plan_len)
 {
-    struct model m = {n, start, k, sources_len, sources, targets, draws, gains, colours, actions, (int32_t)b, (int32_t)c, barred};
+    struct model m = {n, start, k, sources_len, sources, targets, draws, gains, colours, actions, (int32_t)b, (int32_t)c, barred, {0}};
     uint64_t answer = check_model(&m, targets_len, draws_len, gains_len, colours_len, actions_len);
 
     if (answer == CHARGEPLAN_YES)
@@ -445,7 +455,7 @@ struct chargeplan_warded PASTE(REFERENCE, _ward)(struct chargeplan_wearer *weare
                                                  const uint8_t *actions, size_t actions_len, uint8_t barred, uint32_t p, uint32_t q,
                                                  const uint8_t *plan, size_t plan_len)
 {
-    struct model m = {n, 0, k, sources_len, sources, targets, draws, gains, colours, actions, 0, 0, 0};
+    struct model m = {n, 0, k, sources_len, sources, targets, draws, gains, colours, actions, 0, 0, 0, {0}};
     uint64_t answer = check_model(&m, targets_len, draws_len, gains_len, colours_len, actions_len);
     struct chargeplan_warded warded = {(uint8_t)chargeplan_number(answer), chargeplan_detail(answer)};
 
@@ -542,8 +552,8 @@ struct chargeplan_reading PASTE(REFERENCE, _join)(
     size_t targets_len, uint16_t *draws, size_t draws_len, uint16_t *gains, size_t gains_len, uint8_t *colours,
     size_t colours_len, uint8_t *actions, size_t actions_len)
 {
-    struct model knee = {n1, start1, k1, sources1_len, sources1, targets1, draws1, gains1, colours1, actions1, 0, 0, 0};
-    struct model habit = {n2, start2, k2, sources2_len, sources2, targets2, draws2, gains2, colours2, actions2, 0, 0, 0};
+    struct model knee = {n1, start1, k1, sources1_len, sources1, targets1, draws1, gains1, colours1, actions1, 0, 0, 0, {0}};
+    struct model habit = {n2, start2, k2, sources2_len, sources2, targets2, draws2, gains2, colours2, actions2, 0, 0, 0, {0}};
     struct joined to = {sources, targets, draws, gains, colours, actions};
     struct chargeplan_reading reading = {CHARGEPLAN_YES, 0, 0, 0, 0, 0};
     size_t room = smaller(smaller(sources_len, targets_len), smaller(smaller(draws_len, gains_len), smaller(colours_len, actions_len)));
@@ -563,4 +573,154 @@ struct chargeplan_reading PASTE(REFERENCE, _join)(
     reading.k = k1 + k2;
     reading.m = write_pairs(&knee, &habit, to);
     return reading;
+}
+
+/*
+ * A table of greatest charges that is being closed: every charge in it is one with which its mode is reached. Rounds over the modes that
+ * rose; then loops of the arcs by which modes rose are raised to their top at once, so that the time does not grow with the bound.
+ */
+struct closing {
+    const struct model *m;
+    struct groups groups;
+    uint16_t best[CHARGEPLAN_MODES_MOST]; /* the greatest charge of each mode plus 1, 0 for none */
+    uint16_t by[CHARGEPLAN_MODES_MOST];   /* the arc by which it came plus 1, 0 for none */
+    uint64_t due;                         /* the modes that rose since their arcs were last tried */
+};
+
+/* A mode is reached with a charge over an arc. A full mode has no arc by which it came: no loop can raise it. */
+static void reach_mode(struct closing *t, uint32_t mode, int32_t charge, size_t arc)
+{
+    if (charge < t->best[mode])
+        return;
+    t->best[mode] = (uint16_t)(charge + 1);
+    t->by[mode] = (uint16_t)(charge == t->m->bound ? 0 : arc + 1);
+    t->due |= (uint64_t)1 << mode;
+}
+
+/* The charge after a loop, whose last arc comes first, from a charge; below 0 where it is not possible. */
+static int32_t walk_loop(const struct model *m, const uint8_t *loop, size_t length, int32_t charge)
+{
+    for (size_t i = length; i-- > 0 && charge >= 0;)
+        charge = step(charge, m->draws[loop[i]], m->gains[loop[i]], m->bound);
+    return charge;
+}
+
+/*
+ * Where the arcs by which modes rose lead back to a mode, and the loop gains, it is walked from the bound, which gives its top, and once
+ * more from the top, which raises the modes on it.
+ */
+static void raise_loop(struct closing *t, uint32_t mode)
+{
+    const struct model *m = t->m;
+    uint8_t loop[CHARGEPLAN_MODES_MOST];
+    size_t length = 0;
+    uint32_t at = mode;
+
+    do {
+        if (t->by[at] == 0 || length == m->modes)
+            return;
+        loop[length] = (uint8_t)(t->by[at] - 1);
+        at = m->sources[loop[length++]];
+    } while (at != mode);
+    if (walk_loop(m, loop, length, t->best[mode] - 1) < t->best[mode])
+        return;
+    int32_t charge = walk_loop(m, loop, length, m->bound);
+    for (size_t i = length; i-- > 0;) {
+        charge = step(charge, m->draws[loop[i]], m->gains[loop[i]], m->bound);
+        reach_mode(t, m->targets[loop[i]], charge, loop[i]);
+    }
+}
+
+/* Raises the loops to which the arcs lead by which the due modes rose. Each mode is passed once. */
+static void raise_loops(struct closing *t)
+{
+    uint64_t passed = 0;
+
+    for (uint64_t rest = t->due; rest != 0; rest &= rest - 1) {
+        uint32_t mode = (uint32_t)__builtin_ctzll(rest);
+        uint64_t path = 0;
+        while (t->by[mode] != 0 && ((passed | path) >> mode & 1) == 0) {
+            path |= (uint64_t)1 << mode;
+            mode = t->m->sources[t->by[mode] - 1];
+        }
+        if ((path >> mode & 1) != 0)
+            raise_loop(t, mode);
+        passed |= path;
+    }
+}
+
+/* Tries the arcs that leave a mode. */
+static void try_arcs(struct closing *t, uint32_t mode)
+{
+    int32_t from = t->best[mode] - 1;
+
+    for (size_t i = t->groups.first[mode]; i < t->groups.first[mode + 1]; i++) {
+        const struct row *row = &t->groups.rows[i];
+        int32_t charge = step(from, row->draw, row->gain, t->m->bound);
+        if (charge >= 0)
+            reach_mode(t, row->target, charge, row->arc);
+    }
+}
+
+/* The greatest charge of each mode over arcs that are on. */
+static void close_table(const struct model *m, uint16_t *charges)
+{
+    struct closing t = {.m = m, .best = {0}, .by = {0}, .due = 0};
+
+    group(m, &t.groups);
+    t.best[m->start] = (uint16_t)(m->credit + 1);
+    t.due = (uint64_t)1 << m->start;
+    while (t.due != 0) {
+        for (uint64_t now = t.due; now != 0; now &= now - 1) {
+            uint32_t mode = (uint32_t)__builtin_ctzll(now);
+            t.due &= ~((uint64_t)1 << mode);
+            try_arcs(&t, mode);
+        }
+        raise_loops(&t);
+    }
+    for (size_t s = 0; s < CHARGEPLAN_MODES_MOST; s++)
+        charges[s] = (uint16_t)(t.best[s] - 1);
+}
+
+struct chargeplan_reached PASTE(REFERENCE, _reach_start)(uint32_t n, uint32_t start, uint32_t k, const uint8_t *sources,
+                                                         size_t sources_len, const uint8_t *targets, size_t targets_len,
+                                                         const uint16_t *draws, size_t draws_len, const uint16_t *gains,
+                                                         size_t gains_len, const uint8_t *colours, size_t colours_len,
+                                                         const uint8_t *actions, size_t actions_len, uint32_t c, uint32_t b,
+                                                         uint64_t on0, uint64_t on1, uint64_t on2, uint64_t on3)
+{
+    struct model m = {n,     start,   k,       sources_len, sources,    targets, draws,
+                      gains, colours, actions, (int32_t)b,  (int32_t)c, 0,       {on0, on1, on2, on3}};
+    struct chargeplan_reached reached = {.reach = {.on = {on0, on1, on2, on3}}};
+
+    reached.answer = check_model(&m, targets_len, draws_len, gains_len, colours_len, actions_len);
+    if (reached.answer == CHARGEPLAN_YES)
+        reached.answer = check_levels(c, b);
+    if (reached.answer == CHARGEPLAN_YES)
+        close_table(&m, reached.reach.charges);
+    else
+        memset(reached.reach.charges, 0xff, sizeof reached.reach.charges);
+    return reached;
+}
+
+struct chargeplan_reached PASTE(REFERENCE, _reach_switch)(struct chargeplan_reach reach, uint32_t n, uint32_t start, uint32_t k,
+                                                          const uint8_t *sources, size_t sources_len, const uint8_t *targets,
+                                                          size_t targets_len, const uint16_t *draws, size_t draws_len,
+                                                          const uint16_t *gains, size_t gains_len, const uint8_t *colours,
+                                                          size_t colours_len, const uint8_t *actions, size_t actions_len,
+                                                          uint32_t c, uint32_t b, uint32_t arc, uint8_t on)
+{
+    struct model m = {n, start, k, sources_len, sources, targets, draws, gains, colours, actions, (int32_t)b, (int32_t)c, 0, {0}};
+    struct chargeplan_reached reached = {check_model(&m, targets_len, draws_len, gains_len, colours_len, actions_len), reach};
+
+    if (reached.answer == CHARGEPLAN_YES)
+        reached.answer = check_levels(c, b);
+    if (reached.answer == CHARGEPLAN_YES && arc >= m.arcs)
+        reached.answer = CHARGEPLAN_ARC_NUMBER;
+    if (reached.answer != CHARGEPLAN_YES || is_on(reach.on, arc) == (on != 0))
+        return reached;
+    reached.reach.on[arc / 64] ^= (uint64_t)1 << arc % 64;
+    memcpy(m.on, reached.reach.on, sizeof m.on);
+    close_table(&m, reached.reach.charges);
+    return reached;
 }

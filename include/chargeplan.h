@@ -1,6 +1,7 @@
 /*
  * chargeplan.h: judging, searching and walking charge plans for a knee joint, reading its model from texts, joining it with the habit
- * of its wearer, and judging one plan for a ward of wearers, from C99 or C++ on Linux for 64-bit x86 (System V calls).
+ * of its wearer, judging one plan for a ward of wearers, and switching its moves off and on again, from C99 or C++ on Linux for 64-bit
+ * x86 (System V calls).
  *
  * Link with target/staticlib/libdesk.a, which `rt staticlib desk` writes once the code is proved. There is no set-up, no
  * state between calls and no heap: calls on different buffers may run at the same time, and no input traps or hangs a call.
@@ -30,6 +31,17 @@
  * the ward take a byte `barred` that names such colours: of the k colours, j is barred where bit j is set, and required where it is not.
  * Bits at or above k are ignored, so that no byte is refused. The prefix is free: an arc with a barred colour may stand there, and need
  * not. With barred 0 each of the k colours is required; with all of them barred any cycle without colours is accepted.
+ *
+ * THE SWITCHES. A service recall switches single arcs off, and a later visit switches them on again. The switches are four words of 64
+ * bits: arc a is on where bit a mod 64 of word a / 64, rounded down, is set, and off where it is not. Bits at or above the number of arcs
+ * are ignored. Search uses only arcs that are on, in the prefix and in the cycle. Judging, the gauge, the walk and the ward know every arc
+ * and take no switches: a plan with an arc that is off is judged as it was before the recall.
+ *
+ * THE REACH. A reach has the switches and, for each mode, the greatest charge with which the mode can be reached over arcs that are on, by
+ * walks of any length, the start mode by no arc with c; CHARGEPLAN_UNREACHED where it cannot be reached. A fresh reach is made from the
+ * switches of all arcs; from it arcs are switched one by one, and after each switching the charges are those of a fresh reach with the arcs
+ * then on. The reach remembers neither the model nor c and b: they are given anew with each switching, and the charges are theirs. The
+ * switches of a reach go into search as they are.
  *
  * THE TEXTS. A model can be read from two texts: one in HOA, version 1, and one in the DIMACS shortest-path form. Their lines, in this
  * order, are
@@ -75,16 +87,16 @@
  * of a model. No text needs a NUL byte at its end.
  *
  * THE ANSWER. One word of 64 bits: bits 0 to 7 the number, 8 to 31 the detail; with a plan found 32 to 47 p, 48 to 63 q; with a
- * walk 32 to 47 the steps made, 48 whether the colour was met. (Starting a gauge answers a struct with that word and the gauge,
- * reading, the join and the ward a struct with number and detail in fields of their own.) Number 0 is yes; every other number is a
- * refusal (below), the first that applies, top to bottom; of a join 1 to 5 are first looked at of the knee and then of the habit, of a
- * ward 1, 3, 4 and 5 of the model and then the others wearer by wearer. The detail is 0 where none is named below, and all bits that are
- * not named are 0.
+ * walk 32 to 47 the steps made, 48 whether the colour was met. (Starting a gauge answers a struct with that word and the gauge, a fresh
+ * reach and a switching one with that word and the reach, and reading, the join and the ward a struct with number and detail in fields of
+ * their own.) Number 0 is yes; every other number is a refusal (below), the first that applies, top to bottom; of a join 1 to 5 are first
+ * looked at of the knee and then of the habit, of a ward 1, 3, 4 and 5 of the model and then the others wearer by wearer. The detail is 0
+ * where none is named below, and all bits that are not named are 0.
  *
  * THE CALLS. First the calls over a struct chargeplan_model, which have the model in one argument. They are inline functions over the
  * library's own entries, which come after them and take each list with a length of its own.
  *
- * COST. Stack, with the arguments on it: up to 12,900 bytes for judging, 8,900 for search, 200 for starting a gauge, 4,400 for a step of
+ * COST. Stack, with the arguments on it: up to 12,900 bytes for judging, 18,400 for search, 200 for starting a gauge, 4,400 for a step of
  * one, 14,900 for the walk, 600 for reading, 8,700 for the join, 12,900 for the ward, however many wearers there are. Every call but
  * reading and the ward reads the six lists of a model once; the ward reads them once for the call, and once more for each wearer. Judging
  * then looks at 2 * p + 4 * q places of the plan at most, at q more where barred is not 0, and the walk at p + q more, or at as many as
@@ -92,7 +104,8 @@
  * are m of them and k colours are required: 25 million times at the ceilings. The slowest search that was found takes some 35 ms, one of
  * a random model of 64 modes 0.2 ms. The time of reading grows in proportion to the texts, where the model is fit. The join looks at each
  * pair of arcs twice, 65,025 pairs at most, in some 80 us. The ward takes as long as judging for each wearer does: with 255 arcs and a
- * plan of 64 some 1 us each, 0.7 of them for the lists. docs/C-API.md says how this was counted and measured.
+ * plan of 64 some 1 us each, 0.7 of them for the lists. The time of a fresh reach, and of a switching that changes a switch, does not grow
+ * with b: 4 to 11 us with 64 modes and 255 arcs, on 21,000 bytes of stack. docs/C-API.md says how this was counted and measured.
  */
 #ifndef CHARGEPLAN_H
 #define CHARGEPLAN_H
@@ -105,11 +118,12 @@ extern "C" {
 #endif
 
 /*
- * The version of the entries' signatures, raised whenever one changes. 4: a byte of barred colours, behind c and b of judging, search
- * and the walk; with 0 they answer as before. 3: a sixth list, the actions; zeros in it make the model of before. 2: draws and gains. A
- * header without this macro is version 1, with one list of weights in their place.
+ * The version of the entries' signatures, raised whenever one changes. 5: four words of switches, behind the barred colours of search; with
+ * CHARGEPLAN_ALL_ON it answers as before. 4: a byte of barred colours, behind c and b of judging, search and the walk; with 0 they answer
+ * as before. 3: a sixth list, the actions; zeros in it make the model of before. 2: draws and gains. A header without this macro is version
+ * 1, with one list of weights in their place.
  */
-#define CHARGEPLAN_VERSION 4
+#define CHARGEPLAN_VERSION 5
 
 /* The ceilings. */
 #define CHARGEPLAN_MODES_MOST 64u
@@ -130,15 +144,26 @@ extern "C" {
 #define CHARGEPLAN_PLAN_BYTES_MOST ((CHARGEPLAN_COLOURS_MOST + 2u) * CHARGEPLAN_PRODUCT_MOST)
 
 /*
+ * The switches: how many words they are, and the four words with which every arc is on, as an initialiser, {CHARGEPLAN_ALL_ON}, or as the
+ * four arguments of an entry.
+ */
+#define CHARGEPLAN_ON_WORDS 4u
+#define CHARGEPLAN_ALL_ON UINT64_MAX, UINT64_MAX, UINT64_MAX, UINT64_MAX
+
+/* The charge of a mode that is not reached; it is above every bound. */
+#define CHARGEPLAN_UNREACHED 65535u
+
+/*
  * The numbers. Search answers 0 to 10; judging 0 to 6, 11 to 16, 24 and 17; starting a gauge 0 to 6; a step of a gauge 0 to 6, 22, 12,
  * 13 and 15, the last four with detail 0; the walk 0 to 6, 11 to 16, 24, 17 and 18; reading 0, 19 to 21 and 1 to 5; the join 0 to 5
  * and 23; the ward 0 to 6, 11 to 16, 24 and 17: of these 1, 3, 4 and 5 are the model's, with the detail below, and all others but 0 are
- * the verdict of the first wearer who cannot have the plan, with that wearer's place in the list, counted from 0, as detail.
+ * the verdict of the first wearer who cannot have the plan, with that wearer's place in the list, counted from 0, as detail; a fresh reach
+ * 0 to 6; a switching 0 to 6 and 12, the last with detail 0.
  */
 enum {
     CHARGEPLAN_YES = 0,              /* judging: the plan is feasible and accepted; search: a plan is in the buffer; gauge: it is
                                         started, or has moved on; walk: the steps are made; reading, join: the lists are filled;
-                                        ward: every verdict is 0 */
+                                        ward: every verdict is 0; reach: it is made, or the arc is switched */
     CHARGEPLAN_HOA_LINE = 19,        /* reading: a line of the HOA text is outside the forms above, or missing; detail: the first
                                         such line, counted from 1, one past the last line where the text ends early */
     CHARGEPLAN_DIMACS_LINE = 20,     /* the same of the DIMACS text */
@@ -158,7 +183,8 @@ enum {
     CHARGEPLAN_PRODUCT = 7,          /* n * (b + 1) is above 8,192 */
     CHARGEPLAN_WORKING_SPACE = 8,    /* the working space is too short */
     CHARGEPLAN_PLAN_BUFFER = 9,      /* the plan buffer is too short */
-    CHARGEPLAN_NO_PLAN = 10,         /* no plan of any length is feasible and accepted: none keeps both rules on colours */
+    CHARGEPLAN_NO_PLAN = 10,         /* no plan of any length, of arcs that are on, is feasible and accepted: none keeps both rules on
+                                        colours */
     CHARGEPLAN_PLAN_LENGTH = 11,     /* q is 0, p + q is not the plan's length, or that length is above 65,535 */
     CHARGEPLAN_ARC_NUMBER = 12,      /* an arc number is not below the number of arcs; detail: its first position */
     CHARGEPLAN_OTHER_MODE = 13,      /* an arc leaves another mode than the current one; detail: its first position */
@@ -241,6 +267,21 @@ struct chargeplan_warded {
 };
 
 /*
+ * A reach: the switches, and for each mode the greatest charge with which it is reached over arcs that are on, or CHARGEPLAN_UNREACHED, as
+ * for all places from n on.
+ */
+struct chargeplan_reach {
+    uint64_t on[CHARGEPLAN_ON_WORDS];
+    uint16_t charges[CHARGEPLAN_MODES_MOST];
+};
+
+/* What a fresh reach and a switching answer: number and detail, and the reach. */
+struct chargeplan_reached {
+    uint64_t answer;
+    struct chargeplan_reach reach;
+};
+
+/*
  * Judging: whether a plan, of any origin, is feasible and accepted for the model.
  *
  * c, b     the credit and the bound
@@ -259,17 +300,19 @@ static inline uint64_t chargeplan_model_judge(const struct chargeplan_model *m, 
  *
  * c, b     the credit and the bound
  * barred   the barred colours, as in judging
- * work     working space: at least chargeplan_work_words(n, k, b) words, whatever is barred; what stands in it does not matter
- * plan     plan buffer: at least chargeplan_plan_bytes(n, k, b) bytes, whatever is barred; what stands in it does not matter
+ * on       the switches, four words, not a null pointer; {CHARGEPLAN_ALL_ON} where no arc is off
+ * work     working space: at least chargeplan_work_words(n, k, b) words, whatever is barred or off; what stands in it does not matter
+ * plan     plan buffer: at least chargeplan_plan_bytes(n, k, b) bytes, whatever is barred or off; what stands in it does not matter
  *
  * Answers 0 with p and q: the prefix is in plan[0] to plan[p - 1] and the cycle in plan[p] to plan[p + q - 1]; later bytes are
- * as they were. Which feasible and accepted plan it is, is free; equal n, start, k, lists, c, b and barred colours give an equal plan,
- * whatever the buffers are (docs/C-API.md says on what that rests). Answers 10 where no plan of any length is feasible and accepted: a
- * larger b may help, or fewer barred colours, but no other buffer. After either, every word of work is 0, and after 10 plan is as it
- * was. Else answers the first of 1 to 9 that applies; work and plan are then as they were.
+ * as they were. Every arc of the plan is on. Which such feasible and accepted plan it is, is free; equal n, start, k, lists, c, b, barred
+ * colours and switches of the arcs give an equal plan, whatever the buffers are (docs/C-API.md says on what that rests). Answers 10 where
+ * no plan of any length, of arcs that are on, is feasible and accepted: a larger b may help, or fewer barred colours, or more arcs that are
+ * on, but no other buffer. After either, every word of work is 0, and after 10 plan is as it was. Else answers the first of 1 to 9 that
+ * applies; work and plan are then as they were. 5 looks at the arcs that are off, too.
  */
-static inline uint64_t chargeplan_model_search(const struct chargeplan_model *m, uint32_t c, uint32_t b, uint8_t barred, uint16_t *work,
-    size_t work_length, uint8_t *plan, size_t plan_length);
+static inline uint64_t chargeplan_model_search(const struct chargeplan_model *m, uint32_t c, uint32_t b, uint8_t barred,
+    const uint64_t on[CHARGEPLAN_ON_WORDS], uint16_t *work, size_t work_length, uint8_t *plan, size_t plan_length);
 
 /*
  * Starting a gauge. The call is lent no gauge and hands back a new one, in the start mode with charge c and spill 0, which carries
@@ -370,6 +413,36 @@ static inline struct chargeplan_pair chargeplan_model_pair(const struct chargepl
 static inline struct chargeplan_warded chargeplan_model_ward(struct chargeplan_wearer *wearers, size_t wearers_length,
     const struct chargeplan_model *m, uint8_t barred, uint32_t p, uint32_t q, const uint8_t *plan);
 
+/*
+ * A fresh reach (THE REACH, above).
+ *
+ * c, b   the credit and the bound; n * (b + 1) may be above 8,192, since no working space is lent
+ * on     the switches, four words, as in search
+ *
+ * Answers 0 and the reach: the switches as they are given, all bits of them, and the charges. Else answers the first of 1 to 6 that
+ * applies, and a reach with the switches as they are given in which every mode is unreached.
+ */
+static inline struct chargeplan_reached chargeplan_model_reach_start(const struct chargeplan_model *m, uint32_t c, uint32_t b,
+    const uint64_t on[CHARGEPLAN_ON_WORDS]);
+
+/*
+ * An arc switched on or off, and the charges after it.
+ *
+ * reach   the reach before, by value; the new one is handed back
+ * m       the model, with c and b: those of the fresh reach. With others the charges are those of a fresh reach with the others.
+ * arc     the arc's number
+ * on      0 switches the arc off, any other byte switches it on
+ *
+ * Answers 0 and the reach with the arc switched. Where it was switched so already, this is the reach as it was given, whatever stands in
+ * it; else the arc's bit alone is another, and the charges are those of a fresh reach with these switches, whatever the charges were. Else
+ * answers the first of 1 to 6 and 12, in this order, that applies, and the reach as it was given.
+ */
+static inline struct chargeplan_reached chargeplan_model_reach_switch(struct chargeplan_reach reach, const struct chargeplan_model *m,
+    uint32_t c, uint32_t b, uint32_t arc, uint8_t on);
+
+/* Whether an arc is on: 1 or 0. For every number: one above 255, which has no bit, gives 0. */
+static inline uint32_t chargeplan_is_on(const uint64_t on[CHARGEPLAN_ON_WORDS], uint32_t arc);
+
 /* The library's entry for judging: each list, and the plan, with its own length. */
 uint64_t chargeplan_judge(
     uint32_t n, uint32_t start, uint32_t k,
@@ -383,7 +456,7 @@ uint64_t chargeplan_judge(
     uint32_t p, uint32_t q,
     const uint8_t *plan, size_t plan_length);
 
-/* The library's entry for search. */
+/* The library's entry for search. The switches are four words, on0 with the arcs 0 to 63 to on3 with the arcs from 192 on. */
 uint64_t chargeplan_search(
     uint32_t n, uint32_t start, uint32_t k,
     const uint8_t *sources, size_t sources_length,
@@ -393,6 +466,7 @@ uint64_t chargeplan_search(
     const uint8_t *colours, size_t colours_length,
     const uint8_t *actions, size_t actions_length,
     uint32_t c, uint32_t b, uint8_t barred,
+    uint64_t on0, uint64_t on1, uint64_t on2, uint64_t on3,
     uint16_t *work, size_t work_length,
     uint8_t *plan, size_t plan_length);
 
@@ -484,6 +558,31 @@ struct chargeplan_warded chargeplan_ward(
     uint32_t p, uint32_t q,
     const uint8_t *plan, size_t plan_length);
 
+/* The library's entry for a fresh reach, with switches as those of search. */
+struct chargeplan_reached chargeplan_reach_start(
+    uint32_t n, uint32_t start, uint32_t k,
+    const uint8_t *sources, size_t sources_length,
+    const uint8_t *targets, size_t targets_length,
+    const uint16_t *draws, size_t draws_length,
+    const uint16_t *gains, size_t gains_length,
+    const uint8_t *colours, size_t colours_length,
+    const uint8_t *actions, size_t actions_length,
+    uint32_t c, uint32_t b,
+    uint64_t on0, uint64_t on1, uint64_t on2, uint64_t on3);
+
+/* The library's entry for a switching. */
+struct chargeplan_reached chargeplan_reach_switch(
+    struct chargeplan_reach reach,
+    uint32_t n, uint32_t start, uint32_t k,
+    const uint8_t *sources, size_t sources_length,
+    const uint8_t *targets, size_t targets_length,
+    const uint16_t *draws, size_t draws_length,
+    const uint16_t *gains, size_t gains_length,
+    const uint8_t *colours, size_t colours_length,
+    const uint8_t *actions, size_t actions_length,
+    uint32_t c, uint32_t b,
+    uint32_t arc, uint8_t on);
+
 /* The number of an answer. */
 static inline uint32_t chargeplan_number(uint64_t answer)
 {
@@ -573,11 +672,12 @@ static inline uint64_t chargeplan_model_judge(const struct chargeplan_model *m, 
         m->colours, m->arcs, m->actions, chargeplan_model_actions(m), c, b, barred, p, q, plan, (size_t)p + q);
 }
 
-static inline uint64_t chargeplan_model_search(const struct chargeplan_model *m, uint32_t c, uint32_t b, uint8_t barred, uint16_t *work,
-    size_t work_length, uint8_t *plan, size_t plan_length)
+static inline uint64_t chargeplan_model_search(const struct chargeplan_model *m, uint32_t c, uint32_t b, uint8_t barred,
+    const uint64_t on[CHARGEPLAN_ON_WORDS], uint16_t *work, size_t work_length, uint8_t *plan, size_t plan_length)
 {
     return chargeplan_search(m->n, m->start, m->k, m->sources, m->arcs, m->targets, m->arcs, m->draws, m->arcs, m->gains, m->arcs,
-        m->colours, m->arcs, m->actions, chargeplan_model_actions(m), c, b, barred, work, work_length, plan, plan_length);
+        m->colours, m->arcs, m->actions, chargeplan_model_actions(m), c, b, barred, on[0], on[1], on[2], on[3], work, work_length, plan,
+        plan_length);
 }
 
 static inline struct chargeplan_started chargeplan_model_gauge_start(const struct chargeplan_model *m, uint32_t c, uint32_t b)
@@ -662,6 +762,25 @@ static inline struct chargeplan_warded chargeplan_model_ward(struct chargeplan_w
 {
     return chargeplan_ward(wearers, wearers_length, m->n, m->k, m->sources, m->arcs, m->targets, m->arcs, m->draws, m->arcs, m->gains,
         m->arcs, m->colours, m->arcs, m->actions, chargeplan_model_actions(m), barred, p, q, plan, (size_t)p + q);
+}
+
+static inline struct chargeplan_reached chargeplan_model_reach_start(const struct chargeplan_model *m, uint32_t c, uint32_t b,
+    const uint64_t on[CHARGEPLAN_ON_WORDS])
+{
+    return chargeplan_reach_start(m->n, m->start, m->k, m->sources, m->arcs, m->targets, m->arcs, m->draws, m->arcs, m->gains, m->arcs,
+        m->colours, m->arcs, m->actions, chargeplan_model_actions(m), c, b, on[0], on[1], on[2], on[3]);
+}
+
+static inline struct chargeplan_reached chargeplan_model_reach_switch(struct chargeplan_reach reach, const struct chargeplan_model *m,
+    uint32_t c, uint32_t b, uint32_t arc, uint8_t on)
+{
+    return chargeplan_reach_switch(reach, m->n, m->start, m->k, m->sources, m->arcs, m->targets, m->arcs, m->draws, m->arcs, m->gains,
+        m->arcs, m->colours, m->arcs, m->actions, chargeplan_model_actions(m), c, b, arc, on);
+}
+
+static inline uint32_t chargeplan_is_on(const uint64_t on[CHARGEPLAN_ON_WORDS], uint32_t arc)
+{
+    return arc / 64 < CHARGEPLAN_ON_WORDS ? (uint32_t)(on[arc / 64] >> arc % 64 & 1u) : 0;
 }
 
 #ifdef __cplusplus

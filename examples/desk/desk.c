@@ -2,11 +2,13 @@
  * The fitting desk: reads a mission (the model of a knee, battery size and charge on arrival), searches a plan for it, judges it, and
  * runs it on the bench: a gauge is stepped through the prefix and two rounds of the cycle, and shows what each step loses at the bound;
  * a walk tells at which step each colour is first met. Where the habit of a wearer is given, the knee is joined with it first. Where a ward
- * is given, the plan is not run: it is judged for each wearer of the ward.
+ * is given, the plan is not run: it is judged for each wearer of the ward. Where a recall is given, it is not run either: arcs are switched
+ * off and on, and the mission is planned again after each visit.
  *
  *     desk MISSION
  *     desk MISSION HABIT
  *     desk -w MISSION WARD
+ *     desk -r MISSION RECALL
  *     desk NAME.hoa BOUND CREDIT [barred COLOUR..]
  *     desk -h
  *
@@ -31,11 +33,18 @@
  * tells whether he or she can have it, or by which number judging refuses it; the last line is the answer for the ward, with the place,
  * counted from 0, and the name of the first who cannot have it. Two wearers may have one name.
  *
+ * A recall is a text of lines "off ARC.." and "on ARC..", any number of them, with comments and ends as in a mission: each is a visit at
+ * which these arcs, by their numbers, are switched. The mission is planned with every arc on, and after each visit once more; the answer
+ * tells whether the plan of the visit before has an arc that is off, which modes are no longer reached, or with another charge than before,
+ * and the plan that there is now, or that there is none. Where the mission has no plan with every arc on, no visit is made.
+ *
  * In place of a mission the model may stand in two texts, NAME.hoa and beside it NAME.dimacs, with the battery size BOUND and the charge
  * on arrival CREDIT, and with barred colours, if there are any. The planner reads them, and include/chargeplan.h has their forms (THE
- * TEXTS). A damaged text is refused with its name and its line. All arcs have action 0 there, so no habit can be given with it, nor a ward.
- * Exit status: 0 a plan, with -w one that all wearers can have, or -h; 1 no plan exists; 2 refused, with -w also where a wearer cannot have
- * the plan; 3 the mission, the habit or the ward cannot be read, the answer cannot be written, or there is no memory.
+ * TEXTS). A damaged text is refused with its name and its line. All arcs have action 0 there, so no habit can be given with it, nor a ward
+ * or a recall.
+ * Exit status: 0 a plan, with -w one that all wearers can have, with -r after the last visit, or -h; 1 no plan exists, with -r after the
+ * last visit; 2 refused, with -w also where a wearer cannot have the plan; 3 the mission, the habit, the ward or the recall cannot be read,
+ * the answer cannot be written, or there is no memory.
  */
 #include "answers.h"
 #include "join.h"
@@ -43,6 +52,7 @@
 #include "mission.h"
 #include "pair.h"
 #include "plan.h"
+#include "recall.h"
 #include "ward.h"
 
 #include <stdio.h>
@@ -73,6 +83,7 @@ static void print_help(void)
     printf("usage: desk MISSION\n"
            "       desk MISSION HABIT\n"
            "       desk -w MISSION WARD\n"
+           "       desk -r MISSION RECALL\n"
            "       desk NAME.hoa BOUND CREDIT [barred COLOUR..]\n"
            "\n");
     print_mission_help();
@@ -86,11 +97,19 @@ static void print_help(void)
            "\n"
            "The plan of the mission is judged for each wearer, and not run.\n"
            "\n"
+           "RECALL is a text of lines\n"
+           "\n"
+           "    off ARC..                          a visit at which these arcs are switched off\n"
+           "    on ARC..                           a visit at which these arcs are switched on again\n"
+           "\n"
+           "The mission is planned with every arc on, and again after each visit, with arcs that are on alone; the plans are not run.\n"
+           "\n"
            "In place of a mission the model may stand in two texts: NAME.hoa, in HOA version 1, and beside it NAME.dimacs, in the DIMACS\n"
            "shortest-path form. include/chargeplan.h says which lines they have.\n"
            "\n"
-           "Exit status: 0 a plan, with -w one that all wearers can have, 1 no plan exists, 2 refused, with -w also where a wearer cannot\n"
-           "have the plan, 3 the mission, the habit or the ward cannot be read, the answer cannot be written, or there is no memory.\n",
+           "Exit status: 0 a plan, with -w one that all wearers can have, with -r after the last visit, 1 no plan exists, with -r after\n"
+           "the last visit, 2 refused, with -w also where a wearer cannot have the plan, 3 the mission, the habit, the ward or the recall\n"
+           "cannot be read, the answer cannot be written, or there is no memory.\n",
         NAME);
 }
 
@@ -129,12 +148,35 @@ static int answer_ward_file(const char *mission, const char *ward)
     return status;
 }
 
+/* Plans the mission of a file under the recall of another. */
+static int answer_recall_file(const char *mission, const char *recall)
+{
+    struct mission m;
+    struct recall r;
+    int status = FAILED;
+
+    if (!read_mission(mission, NUMBERS, &m))
+        return FAILED;
+    if (read_recall(recall, &r))
+        status = answer_recall(&m, &r);
+    free_recall(&r);
+    return status;
+}
+
 /* Where the arguments are wrong. */
 static int misused(void)
 {
-    fprintf(stderr, "usage: desk MISSION, desk MISSION HABIT, desk -w MISSION WARD, or desk NAME.hoa BOUND CREDIT "
+    fprintf(stderr, "usage: desk MISSION, desk MISSION HABIT, desk -w MISSION WARD, desk -r MISSION RECALL, or desk NAME.hoa BOUND CREDIT "
                     "(desk -h says what they are)\n");
     return FAILED;
+}
+
+/* Plans a mission with the text of an option. */
+static int answer_option(const char *option, const char *mission, const char *text)
+{
+    if (is_hoa(mission) || is_hoa(text))
+        return misused();
+    return strcmp(option, "-w") == 0 ? answer_ward_file(mission, text) : answer_recall_file(mission, text);
 }
 
 /* Plans what the arguments name. The answer is an exit status. */
@@ -143,8 +185,8 @@ static int answer_arguments(int argc, char **argv)
     struct mission m, habit;
     int status;
 
-    if (argc > 1 && strcmp(argv[1], "-w") == 0)
-        return argc == 4 && !is_hoa(argv[2]) && !is_hoa(argv[3]) ? answer_ward_file(argv[2], argv[3]) : misused();
+    if (argc > 1 && (strcmp(argv[1], "-w") == 0 || strcmp(argv[1], "-r") == 0))
+        return argc == 4 ? answer_option(argv[1], argv[2], argv[3]) : misused();
     if (argc == 2 && !is_hoa(argv[1]))
         return read_mission(argv[1], NUMBERS, &m) ? answer_mission(&m) : FAILED;
     if (argc == 3 && !is_hoa(argv[1]) && !is_hoa(argv[2]))

@@ -58,7 +58,7 @@ int answer_joined(const struct mission *m, const struct mission *h)
         joined.sources, joined.targets, joined.draws, joined.gains, joined.met, joined.actions, CHARGEPLAN_ARCS_MOST};
     struct chargeplan_model knee = model_of(m), habit = model_of(h), model;
     struct chargeplan_reading reading = chargeplan_model_join(&model, &lists, &knee, &habit);
-    struct task task = {model, m->numbers[CREDIT], m->numbers[BOUND], 0, &knee, &habit};
+    struct task task = {model, m->numbers[CREDIT], m->numbers[BOUND], 0, {CHARGEPLAN_ALL_ON}, &knee, &habit};
 
     if (reading.number != CHARGEPLAN_YES) {
         print_unjoined(&reading, &knee, &habit);

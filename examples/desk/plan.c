@@ -8,7 +8,7 @@
 
 struct task task_of(const struct mission *m)
 {
-    struct task task = {model_of(m), m->numbers[CREDIT], m->numbers[BOUND], m->barred, NULL, NULL};
+    struct task task = {model_of(m), m->numbers[CREDIT], m->numbers[BOUND], m->barred, {CHARGEPLAN_ALL_ON}, NULL, NULL};
 
     return task;
 }
@@ -179,7 +179,7 @@ int print_barred(const struct task *task)
  */
 static void print_unbarred(const struct task *task, struct space *s)
 {
-    uint64_t answer = chargeplan_model_search(&task->model, task->c, task->b, 0, s->work, s->words, s->plan, s->bytes);
+    uint64_t answer = chargeplan_model_search(&task->model, task->c, task->b, 0, task->on, s->work, s->words, s->plan, s->bytes);
     uint32_t p = chargeplan_prefix(answer), q = chargeplan_cycle(answer);
 
     if (chargeplan_number(answer) == CHARGEPLAN_NO_PLAN)
@@ -216,8 +216,10 @@ void free_space(struct space *s)
 
 int search_plan(const struct task *task, struct space *s)
 {
-    uint64_t answer = chargeplan_model_search(&task->model, task->c, task->b, task->barred, s->work, s->words, s->plan, s->bytes);
+    uint64_t answer =
+        chargeplan_model_search(&task->model, task->c, task->b, task->barred, task->on, s->work, s->words, s->plan, s->bytes);
 
+    s->p = s->q = 0;
     if (chargeplan_number(answer) == CHARGEPLAN_NO_PLAN) {
         printf("no plan exists for this %s with bound %u and credit %u\n", task->knee == NULL ? "model" : "knee and habit",
             (unsigned)task->b, (unsigned)task->c);

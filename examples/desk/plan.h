@@ -5,17 +5,18 @@
 #include "mission.h"
 
 /*
- * What is planned: a model with its credit, bound and barred colours and, where the model is joined, the knee and the habit; else they
- * are null.
+ * What is planned: a model with its credit, bound and barred colours, the switches of its arcs and, where the model is joined, the knee and
+ * the habit; else they are null.
  */
 struct task {
     struct chargeplan_model model;
     uint32_t c, b;
     uint8_t barred;
+    uint64_t on[CHARGEPLAN_ON_WORDS];
     const struct chargeplan_model *knee, *habit;
 };
 
-/* The task of a mission that is planned alone. */
+/* The task of a mission that is planned alone, with every arc on. */
 struct task task_of(const struct mission *m);
 
 /* Prints the barred colours that a model has not; what it is: "model", "knee" or "habit". The planner ignores them. */
@@ -24,7 +25,7 @@ void print_ignored(const struct mission *m, const char *what);
 /* Prints the barred colours that the task's model has. The answer is whether there are any. */
 int print_barred(const struct task *task);
 
-/* The buffers that a search is lent, and p and q of the plan that it has found. */
+/* The buffers that a search is lent, and p and q of the plan that it has found, 0 where it has found none. */
 struct space {
     uint16_t *work;
     size_t words;

@@ -328,8 +328,8 @@ static uint32_t close_together(const struct model *m, uint32_t colours)
 
 /*
  * A plan that lets duties die out is one of a model of two phases, in which nothing is barred: mode s of the first phase is s, of the
- * second n + s. The first phase has all arcs without their colours, and arcs that change nothing lead to the second. That one has the arcs
- * without a barred colour, with the required ones, or with a colour of its own where none is required.
+ * second n + s. The first phase has all arcs that are on, without their colours, and arcs that change nothing lead to the second. That one
+ * has those of them without a barred colour, with the required ones, or with a colour of its own where none is required.
  */
 static struct model two_phases(const struct model *m, struct lists *to)
 {
@@ -343,6 +343,8 @@ static struct model two_phases(const struct model *m, struct lists *to)
         second.source += n;
         second.target += n;
         second.colours = required == 0 ? 1 : close_together(m, m->colours[a]);
+        if (!plain_is_on(m->switches, a))
+            continue;
         put(to, arcs++, first);
         if ((m->colours[a] & m->barred) == 0)
             put(to, arcs++, second);
@@ -364,6 +366,7 @@ static struct model random_wide(struct lists *to, uint32_t n, uint32_t b)
     struct model m = listed(n, k, to, arcs);
 
     m.start = below(n);
+    m.switches = random_switches();
     random_moves(to, arcs, b, b / 4 + 1);
     for (a = 0; a < arcs; a++) {
         to->sources[a] = (uint8_t)below(n);

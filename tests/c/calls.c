@@ -1,5 +1,7 @@
 #include "calls.h"
 
+#include "reaches.h"
+
 #include <inttypes.h>
 #include <stdio.h>
 #include <stdlib.h>
@@ -173,7 +175,10 @@ static int is_cleared(const struct buffers *s)
     return 1;
 }
 
-/* A plan found: its parts are within the sizes, the later bytes as they were, and judging, plain and of the library, says yes. */
+/*
+ * A plan found: its parts are within the sizes, the later bytes as they were, its arcs are on, and judging, plain and of the library, says
+ * yes.
+ */
 static void check_found(const char *what, const struct model *m, uint32_t c, uint32_t b, const struct buffers *s, uint64_t answer)
 {
     uint32_t p = chargeplan_prefix(answer), q = chargeplan_cycle(answer), room = m->n * (b + 1);
@@ -183,6 +188,7 @@ static void check_found(const char *what, const struct model *m, uint32_t c, uin
     if (p + q > s->bytes)
         return;
     check(same(s->plan + p + q, s->plan_before + p + q, s->bytes - p - q), what);
+    check(plain_all_on(m->switches, s->plan, (size_t)p + q), what);
     check(plain_judge(m, c, b, p, q, s->plan, (size_t)p + q).number == 0, what);
     check(judge(what, m, c, b, p, q, s->plan, (size_t)p + q) == 0, what);
 }
@@ -193,9 +199,10 @@ static uint64_t search_to(const char *what, const struct model *m, uint32_t c, u
 {
     struct lent l = lend(m);
     struct buffers s = lend_buffers(words, bytes, junk);
+    const uint64_t *on = m->switches.on;
     uint64_t answer = chargeplan_search(m->n, m->start, m->k, l.sources, m->sources_length, l.targets, m->targets_length,
         l.draws, m->draws_length, l.gains, m->gains_length, l.colours, m->colours_length, l.actions, m->actions_length, c, b,
-        m->barred, s.work, words, s.plan, bytes);
+        m->barred, on[0], on[1], on[2], on[3], s.work, words, s.plan, bytes);
     uint32_t number = chargeplan_number(answer);
 
     if (number == CHARGEPLAN_YES) {
@@ -398,4 +405,7 @@ void all_refused(const char *what, const struct model *m, uint32_t c, uint32_t b
         stepped(what, &mixed, m, b, 0, number, detail);
         stepped(what, &mixed, m, b, UINT32_MAX, number, detail);
     }
+    start_refused(what, m, c, b, number, detail);
+    switch_refused(what, m, c, b, 0, number, detail);
+    switch_refused(what, m, c, b, UINT32_MAX, number, detail);
 }

@@ -51,7 +51,10 @@ uint64_t judge(const char *what, const struct model *m, uint32_t c, uint32_t b, 
 void judged(const char *what, const struct model *m, uint32_t c, uint32_t b, uint32_t p, uint32_t q, const uint8_t *plan,
     size_t length, uint32_t number, uint32_t detail);
 
-/* Search with junk in buffers of these sizes; what it leaves in them is checked by its answer, and a plan is judged. */
+/*
+ * Search with junk in buffers of these sizes; what it leaves in them is checked by its answer, and a plan is judged and has only arcs that
+ * are on.
+ */
 uint64_t search(const char *what, const struct model *m, uint32_t c, uint32_t b, size_t words, size_t bytes, unsigned junk);
 
 /*
@@ -118,13 +121,23 @@ struct outcome met(uint32_t steps);
 struct outcome spent(uint32_t steps);
 struct outcome walk_refused(uint32_t number, uint32_t detail);
 
-/* Every call is refused by one of 1 to 6, whatever plan, colour, allowance, buffers and gauge are. A step reads c from its gauge. */
+/*
+ * Every call is refused by one of 1 to 6, whatever plan, colour, allowance, buffers, gauge, switches and reach are. A step reads c from its
+ * gauge.
+ */
 void all_refused(const char *what, const struct model *m, uint32_t c, uint32_t b, uint32_t number, uint32_t detail);
 
 /* How many lists a model has. */
 enum { MODEL_LISTS = 6 };
 
-/* A model with start mode 0, lists of one length, up to 256, and action 0 of every arc. */
+/* The switches with every arc on, and with every arc off. */
+extern const struct switches all_on, all_off;
+
+/* The switches with one arc more on, or off. */
+struct switches with_on(struct switches s, size_t a);
+struct switches with_off(struct switches s, size_t a);
+
+/* A model with start mode 0, lists of one length, up to 256, action 0 of every arc, and every arc on. */
 struct model model(uint32_t n, uint32_t k, size_t arcs, const uint8_t *sources, const uint8_t *targets, const uint16_t *draws,
     const uint16_t *gains, const uint8_t *colours);
 
@@ -164,7 +177,7 @@ struct model of_arcs(struct lists *to, uint32_t n, uint32_t k, const struct arc 
 /* One mode, and an arc for each set of k colours, whose number has their bits; no arc changes the charge. */
 struct model every_colouring(struct lists *to, uint32_t k);
 
-/* The model, which has lists of one length, with its arcs in another order: arc order[i] comes to place i. */
+/* The model, which has lists of one length, with its arcs, and their switches, in another order: arc order[i] comes to place i. */
 struct model reordered(const struct model *m, const uint8_t *order, struct lists *to);
 
 /* A random number below n; the same numbers in every run. */
@@ -173,16 +186,19 @@ uint32_t below(uint32_t n);
 /* A byte of barred colours; of two, one is 0. */
 uint8_t random_barred(void);
 
+/* Switches, of which the bits of no arcs are any; of two, one has all on, and in the other one of four is off. */
+struct switches random_switches(void);
+
 /* The most arcs of a small random model, and the greatest draw and gain. */
 enum { SMALL_ARCS_MOST = 8, SMALL_MOVE_MOST = 6 };
 
-/* A small model in these lists, with 4 modes or fewer, and random barred colours. */
+/* A small model in these lists, with 4 modes or fewer, and random barred colours and switches. */
 struct model random_fit_model(struct lists *lists);
 
 /* The same; one in five has something unfit. Lists of another length have elements enough. */
 struct model random_model(struct lists *lists);
 
-/* A model with up to 64 modes and 255 arcs, and random barred colours; some of the modes have no arcs. */
+/* A model with up to 64 modes and 255 arcs, and random barred colours and switches; some of the modes have no arcs. */
 struct model random_large_model(struct lists *lists);
 
 /* Gives the first arcs of the lists random draws and gains up to these; of three, one draws, one gains, and one does both. */
@@ -194,7 +210,7 @@ uint8_t random_arc(const struct model *m, uint32_t mode);
 /* A plan that follows the arcs as far as it can, most of the time; its length is handed back. */
 size_t random_plan(const struct model *m, uint8_t *plan, size_t most);
 
-/* A random plan judged and walked, for a colour that may be none; whether it is feasible and accepted. */
+/* A random plan judged and walked, for a colour that may be none; whether it is feasible and accepted, and of arcs that are on. */
 int random_plan_tried(const struct model *m, uint32_t c, uint32_t b);
 
 /* Puts the numbers into a random order. */
@@ -319,6 +335,23 @@ void test_ward_barred(void);
 void test_ward_plans(void);
 void test_ward_long(unsigned long count);
 void test_ward_functions(void);
+void test_switch_bits(void);
+void test_lone_switch(void);
+void test_switches_ignored(void);
+void test_switched_examples(void);
+void test_switched_search(void);
+void test_switched_colours(void);
+void test_switched_plans(void);
+void test_switched_refusals(void);
+void test_reach_tables(void);
+void test_reach_sizes(void);
+void test_reach_colours(void);
+void test_reach_order(void);
+void test_reach_numbers(void);
+void test_reach_junk(void);
+void test_reach_levels(void);
+void test_reach_each(void);
+void test_reach_all(void);
 void test_random(unsigned long models);
 void test_random_large(unsigned long models);
 void test_random_barred(unsigned long models);
@@ -344,5 +377,11 @@ void test_random_joined_plans(unsigned long models);
 void test_random_pairs(unsigned long models);
 void test_random_wards(unsigned long models);
 void test_random_large_wards(unsigned long models);
+void test_random_switched(unsigned long models);
+void test_random_reaches(unsigned long models);
+void test_random_junk(unsigned long reaches_tried);
+void test_random_large_reaches(unsigned long models);
+void test_random_scaled_reaches(unsigned long models);
+void test_random_reach_and_search(unsigned long models);
 
 #endif

@@ -1,5 +1,7 @@
 #include "calls.h"
 
+const struct switches all_on = {{CHARGEPLAN_ALL_ON}}, all_off;
+
 /* The models of document 01's examples, with start mode 0. */
 const uint8_t zeros[256];
 const uint16_t nothing[256];
@@ -13,7 +15,7 @@ static const uint8_t j_colours[] = {1, 2};
 struct model model(uint32_t n, uint32_t k, size_t arcs, const uint8_t *sources, const uint8_t *targets, const uint16_t *draws,
     const uint16_t *gains, const uint8_t *colours)
 {
-    struct model m = {n, 0, k, sources, arcs, targets, arcs, draws, arcs, gains, arcs, colours, arcs, zeros, arcs, NULL, 0};
+    struct model m = {n, 0, k, sources, arcs, targets, arcs, draws, arcs, gains, arcs, colours, arcs, zeros, arcs, NULL, 0, all_on};
     return m;
 }
 
@@ -23,6 +25,18 @@ struct model listed(uint32_t n, uint32_t k, const struct lists *lists, size_t ar
 
     m.actions = lists->actions;
     return m;
+}
+
+struct switches with_on(struct switches s, size_t a)
+{
+    s.on[a / 64] |= (uint64_t)1 << a % 64;
+    return s;
+}
+
+struct switches with_off(struct switches s, size_t a)
+{
+    s.on[a / 64] &= ~((uint64_t)1 << a % 64);
+    return s;
 }
 
 void put(struct lists *to, size_t at, struct arc arc)
@@ -57,6 +71,7 @@ struct model without_last(const struct model *m)
     r.start = m->start;
     r.actions = m->actions;
     r.barred = m->barred;
+    r.switches = m->switches;
     return r;
 }
 

@@ -116,8 +116,8 @@ static void search_other(const struct blocks *s)
     struct model e = model_e();
 
     chargeplan_search(e.n, e.start, e.k, e.sources, e.sources_length, e.targets, e.targets_length, e.draws, e.draws_length, e.gains,
-        e.gains_length, e.colours, e.colours_length, e.actions, e.actions_length, 10, 10, e.barred, s->work + s->gap, s->words,
-        s->plan + s->gap, s->bytes);
+        e.gains_length, e.colours, e.colours_length, e.actions, e.actions_length, 10, 10, e.barred, CHARGEPLAN_ALL_ON, s->work + s->gap,
+        s->words, s->plan + s->gap, s->bytes);
 }
 
 /* A search; the plan found is copied to `to`. */
@@ -125,12 +125,14 @@ static uint64_t search_once(const struct model *m, uint32_t c, uint32_t b, const
 {
     struct blocks s = lend_blocks(m, b, t);
     size_t arcs = m->sources_length, gap = s.gap;
+    const uint64_t *on = m->switches.on;
     uint64_t answer;
 
     if (t->junk == LEFT)
         search_other(&s);
     answer = chargeplan_search(m->n, m->start, m->k, s.sources + gap, arcs, s.targets + gap, arcs, s.draws + gap, arcs, s.gains + gap,
-        arcs, s.colours + gap, arcs, s.actions + gap, arcs, c, b, m->barred, s.work + gap, s.words, s.plan + gap, s.bytes);
+        arcs, s.colours + gap, arcs, s.actions + gap, arcs, c, b, m->barred, on[0], on[1], on[2], on[3], s.work + gap, s.words,
+        s.plan + gap, s.bytes);
     check(chargeplan_prefix(answer) + chargeplan_cycle(answer) <= s.bytes, "a plan within its buffer");
     memcpy(to, s.plan + gap, chargeplan_prefix(answer) + chargeplan_cycle(answer));
     free_blocks(&s);
@@ -198,6 +200,7 @@ static struct model random_wide_model(struct lists *lists, uint32_t b, uint32_t 
 
     m.start = below(n);
     m.barred = random_barred();
+    m.switches = random_switches();
     random_moves(lists, arcs, b, b / 4 + 1);
     for (a = 0; a < arcs; a++) {
         lists->sources[a] = (uint8_t)below(n);

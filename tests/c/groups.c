@@ -11,6 +11,8 @@ struct model reordered(const struct model *m, const uint8_t *order, struct lists
     r.start = m->start;
     r.barred = m->barred;
     for (i = 0; i < m->sources_length; i++) {
+        if (!plain_is_on(m->switches, order[i]))
+            r.switches = with_off(r.switches, i);
         to->sources[i] = m->sources[order[i]];
         to->targets[i] = m->targets[order[i]];
         to->draws[i] = m->draws[order[i]];

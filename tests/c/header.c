@@ -1,7 +1,8 @@
 /*
- * What the header alone has: version, numbers, layout of the structs, parts of an answer, and the functions over a struct
+ * What the header alone has: version, numbers, layout of the structs, parts of an answer, switches, and the functions over a struct
  * chargeplan_model. Draw and gain of a weight are in weights.c.
  */
+#include "reaches.h"
 #include "texts.h"
 
 #include <stdlib.h>
@@ -21,8 +22,9 @@ static void test_constants(void)
     check(sizeof numbers / sizeof numbers[0] == 25, "the numbers 0 to 24");
     for (i = 0; i < sizeof numbers / sizeof numbers[0]; i++)
         check(numbers[i] == i, "a number of the header");
-    check(CHARGEPLAN_VERSION == 4, "the version with barred colours");
+    check(CHARGEPLAN_VERSION == 5, "the version with switches");
     check(CHARGEPLAN_ACTION_MOST == 15, "the greatest action");
+    check(CHARGEPLAN_UNREACHED == 65535 && CHARGEPLAN_UNREACHED > CHARGEPLAN_BOUND_MOST, "the charge of no mode");
 }
 
 /* Where the library reads and writes. */
@@ -43,6 +45,30 @@ static void test_layout(void)
             && offsetof(struct chargeplan_wearer, verdict) == 12, "a wearer");
     check(sizeof(struct chargeplan_warded) == 16 && offsetof(struct chargeplan_warded, number) == 0
             && offsetof(struct chargeplan_warded, detail) == 8, "what a ward hands back");
+    check(sizeof(struct chargeplan_reach) == 160 && offsetof(struct chargeplan_reach, on) == 0
+            && offsetof(struct chargeplan_reach, charges) == 32, "a reach");
+    check(sizeof(struct chargeplan_reached) == 168 && offsetof(struct chargeplan_reached, answer) == 0
+            && offsetof(struct chargeplan_reached, reach) == 8, "what a fresh reach and a switching hand back");
+}
+
+/* The switches with which every arc is on, and each bit by its arc; a number above 255 has no bit. */
+static void test_is_on(void)
+{
+    static const uint64_t all[] = {CHARGEPLAN_ALL_ON}, one_more[] = {CHARGEPLAN_ALL_ON, UINT64_MAX};
+    static const uint32_t beyond[] = {256, 257, 319, 320, 511, 512, 65536, 0x80000000u, UINT32_MAX};
+    uint32_t a, other;
+    size_t i;
+
+    check(sizeof all == CHARGEPLAN_ON_WORDS * sizeof all[0] && CHARGEPLAN_ON_WORDS == 4, "four words");
+    for (a = 0; a < 256; a++) {
+        struct switches lone = with_on(all_off, a);
+
+        check(chargeplan_is_on(all, a) == 1, "every arc is on");
+        for (other = 0; other < 256; other++)
+            check(chargeplan_is_on(lone.on, other) == (other == a), "one arc is on");
+    }
+    for (i = 0; i < sizeof beyond / sizeof beyond[0]; i++)
+        check(chargeplan_is_on(one_more, beyond[i]) == 0, "the number of no arc");
 }
 
 /* The functions that take an answer apart: each reads its own bits. */
@@ -92,14 +118,15 @@ static void same_search(const char *what, const struct model *m, uint32_t c, uin
     struct chargeplan_model one = in_one(m, l);
     uint16_t *work = copied(NULL, words * sizeof *work);
     uint8_t *plan = copied(NULL, bytes), *expected = copied(NULL, bytes);
+    const uint64_t *on = m->switches.on;
     uint64_t answer;
 
     memset(plan, 0, bytes);
     memset(expected, 0, bytes);
     answer = chargeplan_search(m->n, m->start, m->k, l.sources, m->sources_length, l.targets, m->targets_length, l.draws,
-        m->draws_length, l.gains, m->gains_length, l.colours, m->colours_length, l.actions, m->actions_length, c, b, m->barred, work,
-        words, expected, bytes);
-    check(chargeplan_model_search(&one, c, b, m->barred, work, words, plan, bytes) == answer, what);
+        m->draws_length, l.gains, m->gains_length, l.colours, m->colours_length, l.actions, m->actions_length, c, b, m->barred, on[0],
+        on[1], on[2], on[3], work, words, expected, bytes);
+    check(chargeplan_model_search(&one, c, b, m->barred, on, work, words, plan, bytes) == answer, what);
     check(memcmp(plan, expected, bytes) == 0, what);
     free(work);
     free(plan);
@@ -151,10 +178,43 @@ static void same_gauge(const char *what, const struct model *m, uint32_t c, uint
     take_back(m, l, what);
 }
 
-/* Every function over a struct chargeplan_model does what its entry does, with nothing barred and with these colours. */
+/* A switching of a reach, which is then the one handed back. */
+static void same_switching(const char *what, struct chargeplan_reach *reach, const struct chargeplan_model *one, const struct model *m,
+    uint32_t c, uint32_t b, uint32_t arc, uint8_t on)
+{
+    struct chargeplan_reached r = chargeplan_model_reach_switch(*reach, one, c, b, arc, on),
+                              entry = switch_reach(what, *reach, m, c, b, arc, on);
+
+    check(r.answer == entry.answer, what);
+    check_same_reach(what, r.reach, entry.reach);
+    *reach = entry.reach;
+}
+
+/* A fresh reach of a model, and every switching of each of its arcs, and of some more. */
+static void same_reaches(const char *what, const struct model *m, uint32_t c, uint32_t b)
+{
+    struct lent l = lend(m);
+    struct chargeplan_model one = in_one(m, l);
+    struct chargeplan_reached r = chargeplan_model_reach_start(&one, c, b, m->switches.on), entry = start_reach(what, m, c, b);
+    uint32_t arc;
+    uint8_t on;
+
+    check(r.answer == entry.answer, what);
+    check_same_reach(what, r.reach, entry.reach);
+    for (on = 0; on <= 2; on++) {
+        for (arc = 0; arc <= m->sources_length; arc++)
+            same_switching(what, &entry.reach, &one, m, c, b, arc, on);
+        same_switching(what, &entry.reach, &one, m, c, b, 256, on);
+        same_switching(what, &entry.reach, &one, m, c, b, UINT32_MAX, on);
+    }
+    take_back(m, l, what);
+}
+
+/* Every function over a struct chargeplan_model does what its entry does, with nothing barred or off, and with these colours and arcs. */
 static void same_calls(const char *what, const struct model *m, uint32_t c, uint32_t b, uint32_t p, uint32_t q, const uint8_t *plan)
 {
     static const uint8_t barred[] = {0, 1, 2, 3, 254, 255};
+    static const struct switches off[] = {{{0, 0, 0, 0}}, {{6, 0, 0, 1}}, {{5, 1, 2, 3}}, {{3, 7, 11, 13}}};
     struct model r = *m;
     size_t i;
 
@@ -162,6 +222,13 @@ static void same_calls(const char *what, const struct model *m, uint32_t c, uint
         r.barred = barred[i];
         same_plan(what, &r, c, b, p, q, plan);
         same_searches(what, &r, c, b);
+    }
+    r = *m;
+    same_reaches(what, &r, c, b);
+    for (i = 0; i < sizeof off / sizeof off[0]; i++) {
+        r.switches = off[i];
+        same_searches(what, &r, c, b);
+        same_reaches(what, &r, c, b);
     }
     same_gauge(what, m, c, b);
 }
@@ -194,6 +261,26 @@ static void test_model_functions(void)
     same_calls("any actions", &g, 0, 5, 6, 1, plan_i);
     g.actions = unfit_actions;
     same_calls("5: an action", &g, 0, 5, 6, 1, plan_i);
+}
+
+/* One arc of each word alone is on, of 255 that change nothing: it is the plan. */
+static void test_model_switches(void)
+{
+    struct model m = model(1, 0, CHARGEPLAN_ARCS_MOST, zeros, zeros, nothing, nothing, zeros);
+    struct lent l = lend(&m);
+    struct chargeplan_model one = in_one(&m, l);
+    uint16_t work[4];
+    uint8_t plan[2], arc;
+
+    for (arc = 3; arc < 253; arc = (uint8_t)(arc + 50)) {
+        struct switches lone = with_on(all_off, arc);
+
+        check(chargeplan_number(chargeplan_model_search(&one, 0, 0, 0, lone.on, work, 4, plan, 2)) == CHARGEPLAN_YES && plan[0] == arc,
+            "one arc is on");
+        m.switches = lone;
+        same_searches("one arc is on", &m, 0, 0);
+    }
+    take_back(&m, l, "one arc is on");
 }
 
 /* Whether two lists to be filled, which hold so many arcs, have the same content. */
@@ -244,6 +331,8 @@ void test_header(void)
     test_constants();
     test_layout();
     test_parts();
+    test_is_on();
     test_model_functions();
+    test_model_switches();
     test_model_read();
 }

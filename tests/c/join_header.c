@@ -108,6 +108,7 @@ void test_random_pairs(unsigned long models)
 /* Every call over a struct answers this number of a model with one mode. */
 static void all_answer(const char *what, const struct chargeplan_model *m, uint32_t number)
 {
+    static const struct chargeplan_reach reach = {{CHARGEPLAN_ALL_ON}, {0}};
     struct chargeplan_gauge gauge = {0, 5, 0, 1, (uint8_t)m->arcs, 5};
     struct chargeplan_model none = {1, 0, 0, NULL, NULL, NULL, NULL, NULL, NULL, 0}, joined;
     struct lists lists;
@@ -116,13 +117,15 @@ static void all_answer(const char *what, const struct chargeplan_model *m, uint3
     uint8_t plan[64];
 
     check(chargeplan_number(chargeplan_model_judge(m, 5, 5, 0, 0, 1, zeros)) == number, what);
-    check(chargeplan_number(chargeplan_model_search(m, 5, 5, 0, work, 64, plan, 64)) == number, what);
+    check(chargeplan_number(chargeplan_model_search(m, 5, 5, 0, reach.on, work, 64, plan, 64)) == number, what);
     check(chargeplan_number(chargeplan_model_gauge_start(m, 5, 5).answer) == number, what);
     check(chargeplan_number(chargeplan_model_gauge_step(&gauge, m, 5, 0)) == number, what);
     check(chargeplan_number(chargeplan_model_walk(m, 5, 5, 0, 0, 1, zeros, 0, 1)) == number, what);
     check(chargeplan_model_join(&joined, &lent, m, &none).number == number, what);
     check(chargeplan_model_join(&joined, &lent, &none, m).number == number, what);
     check(chargeplan_model_ward(NULL, 0, m, 0, 0, 1, zeros).number == number, what);
+    check(chargeplan_number(chargeplan_model_reach_start(m, 5, 5, reach.on).answer) == number, what);
+    check(chargeplan_number(chargeplan_model_reach_switch(reach, m, 5, 5, 0, 0).answer) == number, what);
 }
 
 /* A model initialised by names for version 2 has a null pointer for its actions: 3, where it has arcs. */

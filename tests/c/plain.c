@@ -6,6 +6,22 @@ static struct verdict verdict(uint32_t number, uint32_t detail)
     return v;
 }
 
+/* Ask 9: "with arc a at bit a mod 64 of word a / 64 rounded down". */
+int plain_is_on(struct switches s, size_t a)
+{
+    return (s.on[a / 64] >> a % 64 & 1) != 0;
+}
+
+int plain_all_on(struct switches s, const uint8_t *arcs, size_t count)
+{
+    size_t i;
+
+    for (i = 0; i < count; i++)
+        if (!plain_is_on(s, arcs[i]))
+            return 0;
+    return 1;
+}
+
 static int unfit_lists(const struct model *m)
 {
     size_t arcs = m->sources_length;
@@ -82,6 +98,11 @@ static struct step step_on(const struct model *m, size_t a, uint32_t charge, uin
     if (m->weights != NULL)
         return weight_step(charge, m->weights[a], b);
     return draw_step(charge, m->draws[a], m->gains[a], b);
+}
+
+int32_t plain_charge_after(const struct model *m, size_t a, uint32_t charge, uint32_t b)
+{
+    return step_on(m, a, charge, b).charge;
 }
 
 /* 11 to 14. */
@@ -295,13 +316,15 @@ static int pair_after(const struct model *m, uint32_t b, uint32_t pair, size_t a
     return m->targets[a] * (int)(b + 1) + charge;
 }
 
-/* The arcs of a plan's prefix are any; those of its cycle have no barred colour. */
+/* The arcs of a plan's prefix are any that are on; those of its cycle are on and have no barred colour. */
 enum part { PREFIX, CYCLE };
 
 /* The same, and -1 where the arc may not stand in this part. */
 static int pair_in(enum part part, const struct model *m, uint32_t b, uint32_t pair, size_t a)
 {
-    return part == CYCLE && plain_has_barred(m, m->colours[a]) ? -1 : pair_after(m, b, pair, a);
+    if (!plain_is_on(m->switches, a) || (part == CYCLE && plain_has_barred(m, m->colours[a])))
+        return -1;
+    return pair_after(m, b, pair, a);
 }
 
 /* reach[x]: the pairs that are reached from pair x by one arc or more of this part, a bit for each. */
@@ -343,7 +366,7 @@ static uint32_t colours_around(const struct model *m, uint32_t b, uint32_t pairs
 
 /*
  * In a plan the pair at the beginning of a round comes again, since there are few pairs; so there is a plan exactly where from some
- * pair within reach a walk of one arc or more, without a barred colour, leads back to it and meets every required colour.
+ * pair within reach a walk of one arc or more that are on, without a barred colour, leads back to it and meets every required colour.
  */
 int plain_has_plan(const struct model *m, uint32_t c, uint32_t b)
 {

@@ -1,6 +1,6 @@
 /*
- * Judging, the existence of a plan, gauge, walk and ward, as plainly as document 01 and Asks 2 to 6 and 11 of document 02 have them and
- * with no code of the library: what the C tests compare with. The join is in plain_join.h.
+ * Judging, the existence of a plan, gauge, walk and ward, as plainly as document 01 and Asks 2 to 6, 9 and 11 of document 02 have them
+ * and with no code of the library: what the C tests compare with. The join is in plain_join.h, the reach in plain_reach.h.
  */
 #ifndef PLAIN_H
 #define PLAIN_H
@@ -8,10 +8,16 @@
 #include <stddef.h>
 #include <stdint.h>
 
+/* The switches of the arcs, four words. */
+struct switches {
+    uint64_t on[4];
+};
+
 /*
  * A model as a call is lent it: the six lists may be of unequal length, and null where they have none. Where there are weights, as
  * many as sources, the plain reading goes by them, as document 01 has it, and does not look at draws and gains. No call is lent them.
  * The barred colours are no part of a model, but are kept with it here: judging, search and the walk are lent the byte, no other call is.
+ * Nor are the switches: search and a fresh reach are lent them.
  */
 struct model {
     uint32_t n, start, k;
@@ -29,6 +35,7 @@ struct model {
     size_t actions_length;
     const int16_t *weights;
     uint8_t barred;
+    struct switches switches;
 };
 
 /* An arc. */
@@ -51,8 +58,17 @@ struct verdict {
     uint32_t number, detail;
 };
 
+/* Whether an arc is on. */
+int plain_is_on(struct switches s, size_t a);
+
+/* Whether all these arcs are on. */
+int plain_all_on(struct switches s, const uint8_t *arcs, size_t count);
+
 /* 1 to 6; number 0 where none applies. */
 struct verdict plain_fitness(const struct model *m, uint32_t c, uint32_t b);
+
+/* The charge after a step on an arc, or -1 where the step is not possible. */
+int32_t plain_charge_after(const struct model *m, size_t a, uint32_t charge, uint32_t b);
 
 /* Whether a barred colour of the model is among these, and whether every other one is. */
 int plain_has_barred(const struct model *m, uint32_t colours);
@@ -109,7 +125,7 @@ struct warded plain_ward(const struct model *m, struct wearer *wearers, size_t c
 /* The most pairs of a mode and a charge that plain_has_plan takes: n * (b + 1). */
 enum { PLAIN_PAIRS_MOST = 64 };
 
-/* Whether a plan of any length is feasible and accepted, for a fit model and right levels with few pairs. */
+/* Whether a plan of any length, of arcs that are on, is feasible and accepted, for a fit model and right levels with few pairs. */
 int plain_has_plan(const struct model *m, uint32_t c, uint32_t b);
 
 #endif

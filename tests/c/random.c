@@ -34,6 +34,24 @@ uint8_t random_barred(void)
     return (uint8_t)(below(2) * below(UINT8_MAX + 1));
 }
 
+/* A word of any bits. */
+static uint64_t random_word(void)
+{
+    return (uint64_t)below(1u << 22) << 44 | (uint64_t)below(1u << 22) << 22 | below(1u << 22);
+}
+
+struct switches random_switches(void)
+{
+    struct switches s = all_on;
+    size_t i;
+
+    if (below(2))
+        return s;
+    for (i = 0; i < CHARGEPLAN_ON_WORDS; i++)
+        s.on[i] = random_word() | random_word();
+    return s;
+}
+
 /* An arc between n modes without colours, with any action; of three, one draws, one gains, and one does both, up to these. */
 static struct arc random_move(uint32_t n, uint32_t draw_most, uint32_t gain_most)
 {
@@ -66,6 +84,7 @@ struct model random_fit_model(struct lists *lists)
 
     m.start = below(n);
     m.barred = random_barred();
+    m.switches = random_switches();
     for (a = 0; a < arcs; a++) {
         struct arc arc = random_move(n, SMALL_MOVE_MOST, SMALL_MOVE_MOST);
 
@@ -146,7 +165,7 @@ int random_plan_tried(const struct model *m, uint32_t c, uint32_t b)
     check_answer("random plan", judge("random plan", m, c, b, p, q, plan, length), v.number, v.detail);
     check_outcome("random plan walked", walk("random plan walked", m, c, b, p, q, plan, length, j, allowance),
         plain_walk(m, c, b, p, q, plan, length, j, allowance));
-    return v.number == 0;
+    return v.number == 0 && plain_all_on(m->switches, plan, length);
 }
 
 /* The plan found walked, for each colour and for one that is none. */
@@ -335,6 +354,7 @@ struct model random_large_model(struct lists *lists)
 
     m.start = below(n);
     m.barred = random_barred();
+    m.switches = random_switches();
     for (a = 0; a < arcs; a++) {
         struct arc arc = random_move(n, 6, 3);
 

@@ -58,7 +58,7 @@ struct lent lend_rooms(const struct rooms *r, size_t gap, int junk)
 struct model whole_lists(struct lent l, const struct rooms *r, size_t gap)
 {
     struct model m = {0, 0, 0, l.sources, r->of[0] + 2 * gap, l.targets, r->of[1] + 2 * gap, l.draws, r->of[2] + 2 * gap, l.gains,
-        r->of[3] + 2 * gap, l.colours, r->of[4] + 2 * gap, l.actions, r->of[5] + 2 * gap, NULL, 0};
+        r->of[3] + 2 * gap, l.colours, r->of[4] + 2 * gap, l.actions, r->of[5] + 2 * gap, NULL, 0, all_on};
     return m;
 }
 

@@ -18,6 +18,9 @@ static struct model split(const struct model *m, struct lists *to)
 
         put(to, 2 * a, drawn);
         put(to, 2 * a + 1, gained);
+        /* One half that is off withdraws both. */
+        if (!plain_is_on(m->switches, a))
+            r.switches = with_off(r.switches, 2 * a + below(2));
     }
     return r;
 }

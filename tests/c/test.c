@@ -150,6 +150,36 @@ static void test_random_wards_of_large_models(void)
     test_random_large_wards(random_models / 20);
 }
 
+static void test_random_searches_with_arcs_off(void)
+{
+    test_random_switched(random_models / 200);
+}
+
+static void test_random_reaches_of_small_models(void)
+{
+    test_random_reaches(random_models / 10);
+}
+
+static void test_random_reaches_of_junk(void)
+{
+    test_random_junk(random_models / 10);
+}
+
+static void test_random_reaches_of_large_models(void)
+{
+    test_random_large_reaches(random_models / 400);
+}
+
+static void test_random_reaches_scaled(void)
+{
+    test_random_scaled_reaches(random_models / 100);
+}
+
+static void test_random_reaches_and_searches(void)
+{
+    test_random_reach_and_search(random_models / 40);
+}
+
 static const struct {
     const char *name;
     void (*run)(void);
@@ -248,6 +278,23 @@ static const struct {
     {"ward, long plans", test_ward_plans},
     {"ward, lists of any length", test_ward_of_any_length},
     {"ward over a struct", test_ward_functions},
+    {"switches, which bit is which arc", test_switch_bits},
+    {"switches, one of 255 arcs alone is on, or off, at every place", test_lone_switch},
+    {"switches, bits at or above m", test_switches_ignored},
+    {"switches, document 01's examples with any arcs on", test_switched_examples},
+    {"switches, search", test_switched_search},
+    {"switches, colours of arcs that are off", test_switched_colours},
+    {"switches, plans of arcs that are off", test_switched_plans},
+    {"switches, 5 to 10", test_switched_refusals},
+    {"reach, fresh tables", test_reach_tables},
+    {"reach, models and bounds of every size", test_reach_sizes},
+    {"reach, colours and actions", test_reach_colours},
+    {"reach, the order of the refusals", test_reach_order},
+    {"reach, 12: numbers of no arcs", test_reach_numbers},
+    {"reach, switchings of reaches that no call has made", test_reach_junk},
+    {"reach, switchings with other levels and models", test_reach_levels},
+    {"reach, each of 255 arcs off and on again", test_reach_each},
+    {"reach, all arcs off and on again", test_reach_all},
     {"header", test_header},
     {"random models and plans", test_random_models},
     {"random models with many arcs", test_random_large_models},
@@ -274,6 +321,12 @@ static const struct {
     {"random joins over structs, and their pairs", test_random_joins_over_structs},
     {"random wards", test_random_wards_of_small_models},
     {"random wards with many arcs", test_random_wards_of_large_models},
+    {"random searches with arcs off, and of models without them", test_random_searches_with_arcs_off},
+    {"random reaches and switchings", test_random_reaches_of_small_models},
+    {"random switchings of reaches that no call has made", test_random_reaches_of_junk},
+    {"random reaches and switchings with many arcs", test_random_reaches_of_large_models},
+    {"random reaches of models scaled up", test_random_reaches_scaled},
+    {"random reaches, and searches that need their charges", test_random_reaches_and_searches},
 };
 
 int main(int argc, char **argv)

@@ -1,6 +1,6 @@
 -- What a C caller learns from what each of the calls answers. Assumes nothing.
 use mathlib.Core.Path.{_≡_, refl, sym, ap, _∙_}
-use mathlib.Core.Bool.{cond}
+use mathlib.Core.Bool.{Bool, cond}
 use mathlib.Core.List.{List}
 use mathlib.Core.Logic.{_↔_, _⊎_, inl, inr}
 use Prim.Native.Nat.{ℕ, _+_, _^_, _<_}
@@ -16,6 +16,9 @@ use Rattle.model.specs.Automaton.{Automaton}
 use Rattle.model.specs.Lists.{Lists, automatonOf}
 use Rattle.model.specs.Fitness.{fitness}
 use Rattle.model.specs.Plans.{SomePlan}
+use Rattle.switches.specs.Switches.{AllBelow, isOn, switched}
+use Rattle.switches.specs.PlansOn.{AllOn, SomePlanOn}
+use Rattle.switches.proofs.PlansOn.{some-plan-all-on}
 use Rattle.judge.specs.Judged.{judged, Right}
 use Rattle.judge.proofs.Judged.{judged-zero}
 use Rattle.gauge.specs.declared.Gauge.{Gauge}
@@ -28,7 +31,11 @@ use Rattle.search.specs.declared.Searched.the-variants as outcome
 use Rattle.search.specs.Search.{searchAnswer, searchable, Found, Answered, none, found, SearchOf}
 use Rattle.search.proofs.Demand3.{answered-found, plan-searchable, search-judged, search-ten, search-plan-kept}
 use Rattle.search.proofs.Agreed.{search-agrees, agreed-answer}
-use Rattle.desk.specs.Packing.{numberIn, detailIn, firstIn, secondIn}
+use Rattle.search.proofs.Switched.{search-on}
+use Rattle.reach.specs.declared.Reach.{Reach}
+use Rattle.reach.specs.Table.{IsTable}
+use Rattle.reach.specs.Reach.{levelled, switchable, allUnreached, StartOf, SwitchOf}
+use Rattle.desk.specs.Packing.{verdictWord, numberIn, detailIn, firstIn, secondIn}
 use Rattle.reading.specs.ModelRead.{modelRead}
 use Rattle.reading.specs.Reading.{readVerdict, listsRead}
 use Rattle.reading.proofs.ListsRead.{read-model, read-rest, read-fitness}
@@ -42,8 +49,9 @@ use Rattle.ward.specs.Ward.{withVerdict, wardFitness, WardOf}
 use Rattle.ward.proofs.SoFar.{noWearer}
 use Rattle.ward.proofs.Wards.{ward-verdict, ward-some, ward-place}
 use Rattle.desk.specs.declared.Read.{Read}
-use Rattle.desk.specs.Desk.{deskJudged, deskStarted, deskWalked, deskRead, deskJoined, DeskSearched, DeskStepped}
-use Rattle.desk.proofs.Sizes.{judge-fields, start-fields, step-fields, walk-fields, search-fields}
+use Rattle.desk.specs.declared.Reached.{Reached}
+use Rattle.desk.specs.Desk.{deskJudged, deskStarted, deskWalked, deskRead, deskJoined, DeskSearched, DeskStepped, DeskReached}
+use Rattle.desk.proofs.Sizes.{judge-fields, start-fields, step-fields, walk-fields, search-fields, reach-start-fields, reach-switch-fields}
 use Rattle.desk.proofs.Unpacked.{Parts, unpacked}
 
 -- the parts of a word are those of what search answers
@@ -56,7 +64,7 @@ plan-parts (outcome.Plan p q) parts e = cc
 plan-parts (outcome.Refused y) parts e = absurd (omega (arith, refusal-number y))
 
 -- where none of 1 to 9 applies, the number is 0 or 10
-answered-number : {g : Automaton} {x b c : ℕ} {plan plan′ : List ℕ} {y : Searched} → Answered g x b c plan plan′ y
+answered-number : {g : Automaton} {x : ℕ} {on : List ℕ} {b c : ℕ} {plan plan′ : List ℕ} {y : Searched} → Answered g x on b c plan plan′ y
     → (searchAnswer y .answer .number ≡ 0) ⊎ (searchAnswer y .answer .number ≡ 10)
 answered-number (none e) = inr refl
 answered-number (found f) = inl refl
@@ -70,22 +78,26 @@ module _ (n s k : ℕ) (l : Lists) (x b c p q : ℕ) (w : List ℕ) where
   pub desk-judged : (numberIn (deskJudged n s k l x b c p q w) ≡ 0) ↔ Right n s k l x b c p q w
   desk-judged = rw (desk-judge-parts .number) (judged-zero n s k l x b c p q w)
 
-module _ {n s k : ℕ} {l : Lists} {x b c : ℕ} {work plan work′ plan′ : List ℕ} {r : ℕ} (h : DeskSearched n s k l x b c work plan work′ plan′ r) where
+module _ {n s k : ℕ} {l : Lists} {x : ℕ} {on : List ℕ} {b c : ℕ} {work plan work′ plan′ : List ℕ} {r : ℕ} (h : DeskSearched n s k l x on b c work plan work′ plan′ r) where
   -- search: the parts are those of what is answered
   desk-search-parts : SearchParts r (h .searched)
   desk-search-parts =
       let y = searchAnswer (h .searched) in
-      rw (h .word) (unpacked (y .answer) (y .p) (y .q) (search-fields n s k l x b c (h .claim)))
+      rw (h .word) (unpacked (y .answer) (y .p) (y .q) (search-fields n s k l x on b c (h .claim)))
 
   -- where the number is 0, a plan is answered, with the two lengths in the word
-  desk-answer : numberIn r ≡ 0 → SearchOf n s k l x b c work plan work′ plan′ (outcome.Plan (firstIn r) (secondIn r))
+  desk-answer : numberIn r ≡ 0 → SearchOf n s k l x on b c work plan work′ plan′ (outcome.Plan (firstIn r) (secondIn r))
   desk-answer e = rw (plan-parts (h .searched) desk-search-parts e) at (h .claim)
 
   -- it is in the plan buffer,
-  pub desk-plan : numberIn r ≡ 0 → Found (automatonOf n s k l) x b c (firstIn r) (secondIn r) plan plan′
+  pub desk-plan : numberIn r ≡ 0 → Found (automatonOf n s k l) x on b c (firstIn r) (secondIn r) plan plan′
   desk-plan e =
       let claim = desk-answer e in
-      answered-found (claim .decided (plan-searchable n s k l x b c claim) .answered)
+      answered-found (claim .decided (plan-searchable n s k l x on b c claim) .answered)
+
+  -- each of its arcs is on,
+  pub desk-plan-on : numberIn r ≡ 0 → AllOn on (take (firstIn r + secondIn r) plan′)
+  desk-plan-on e = search-on n s k l x on b c (desk-answer e)
 
   -- and judging says yes to it
   pub desk-plan-judged : numberIn r ≡ 0
@@ -93,7 +105,7 @@ module _ {n s k : ℕ} {l : Lists} {x b c : ℕ} {work plan work′ plan′ : Li
   desk-plan-judged e =
       let w = take (firstIn r + secondIn r) plan′ in
       desk-judge-parts n s k l x b c (firstIn r) (secondIn r) w .number
-      ∙ yes-number (judged n s k l x b c (firstIn r) (secondIn r) w) .1 (search-judged n s k l x b c (desk-answer e))
+      ∙ yes-number (judged n s k l x b c (firstIn r) (secondIn r) w) .1 (search-judged n s k l x on b c (desk-answer e))
 
   -- where one of 1 to 9 applies, the word is its number and detail, and both buffers are untouched
   pub desk-refused : (y : Refusal) → searchable n s k l b c (length work) (length plan) ≡ Refused y
@@ -104,9 +116,9 @@ module _ {n s k : ℕ} {l : Lists} {x b c : ℕ} {work plan work′ plan′ : Li
       (parts .number, parts .detail, parts .first, parts .second, works, plans)
 
   module _ (through : searchable n s k l b c (length work) (length plan) ≡ Yes) where
-    -- where none of them applies, the number is 10 exactly where no plan of any length is feasible and accepted
-    pub desk-ten : (numberIn r ≡ 10) ↔ (SomePlan (automatonOf n s k l) x b c → ⊥)
-    desk-ten = rw (desk-search-parts .number) (search-ten n s k l x b c (h .claim) through)
+    -- where none of them applies, the number is 10 exactly where no plan of any length, of arcs that are on, is feasible and accepted
+    pub desk-ten : (numberIn r ≡ 10) ↔ (SomePlanOn (automatonOf n s k l) x on b c → ⊥)
+    desk-ten = rw (desk-search-parts .number) (search-ten n s k l x on b c (h .claim) through)
 
     -- it is 0 or 10, and the working space is zero
     pub desk-done : ((numberIn r ≡ 0) ⊎ (numberIn r ≡ 10)) × (work′ ≡ replicate (length work) 0)
@@ -119,13 +131,13 @@ module _ {n s k : ℕ} {l : Lists} {x b c : ℕ} {work plan work′ plan′ : Li
     desk-none ten = search-plan-kept (searchable n s k l b c (length work) (length plan)) (h .claim) (λ zero. absurd (omega (arith, desk-search-parts .number, ten, zero)))
 
 -- two words for one call have the same number and detail, whatever stands in the buffers
-pub desk-agrees : {n s k : ℕ} {l : Lists} {x b c : ℕ} {work plan work′ plan′ work₂ plan₂ work₂′ plan₂′ : List ℕ} {r r₂ : ℕ}
-    → length work₂ ≡ length work → length plan₂ ≡ length plan → DeskSearched n s k l x b c work plan work′ plan′ r
-    → DeskSearched n s k l x b c work₂ plan₂ work₂′ plan₂′ r₂ → (numberIn r ≡ numberIn r₂) × (detailIn r ≡ detailIn r₂)
-desk-agrees {n} {s} {k} {l} {x} {b} {c} ew ep h h₂ =
+pub desk-agrees : {n s k : ℕ} {l : Lists} {x : ℕ} {on : List ℕ} {b c : ℕ} {work plan work′ plan′ work₂ plan₂ work₂′ plan₂′ : List ℕ} {r r₂ : ℕ}
+    → length work₂ ≡ length work → length plan₂ ≡ length plan → DeskSearched n s k l x on b c work plan work′ plan′ r
+    → DeskSearched n s k l x on b c work₂ plan₂ work₂′ plan₂′ r₂ → (numberIn r ≡ numberIn r₂) × (detailIn r ≡ detailIn r₂)
+desk-agrees {n} {s} {k} {l} {x} {on} {b} {c} ew ep h h₂ =
     let one = desk-search-parts h in
     let two = desk-search-parts h₂ in
-    let same = agreed-answer (search-agrees n s k l x b c ew ep (h .claim) (h₂ .claim)) in (
+    let same = agreed-answer (search-agrees n s k l x on b c ew ep (h .claim) (h₂ .claim)) in (
       one .number ∙ ap {B = ℕ} (λ (x : Answer). x .number) same ∙ sym (two .number),
       one .detail ∙ ap {B = ℕ} (λ (x : Answer). x .detail) same ∙ sym (two .detail),
     )
@@ -226,14 +238,15 @@ module _ (x y : Given) (l : Lists) where
 
   -- A search of the model that is left answers 10, where none of 1 to 9 applies, exactly where no plans of the two serve together; z: its byte of
   -- barred colours
-  pub desk-join-ten : r .number ≡ 0 → {z b c : ℕ} {work plan work′ plan′ : List ℕ} {word : ℕ}
-      → DeskSearched (r .n) (r .start) (r .k) (firstPlaces (r .m) (listsJoined x y l)) z b c work plan work′ plan′ word
+  pub desk-join-ten : r .number ≡ 0 → {z b c : ℕ} {on work plan work′ plan′ : List ℕ} {word : ℕ} → AllBelow (length (model-left .arcs)) on
+      → DeskSearched (r .n) (r .start) (r .k) (firstPlaces (r .m) (listsJoined x y l)) z on b c work plan work′ plan′ word
       → searchable (r .n) (r .start) (r .k) (firstPlaces (r .m) (listsJoined x y l)) b c (length work) (length plan) ≡ Yes
       → (numberIn word ≡ 10) ↔ (SomeTogether (modelGiven x) (modelGiven y) z b c → ⊥)
-  desk-join-ten e {z} {b} {c} searched through =
+  desk-join-ten e {z} {b} {c} {on} all searched through =
       let ten = desk-ten searched through in
       let plans = desk-join-model e .2 z b c in
-      (λ n together. ten .0 n (plans .1 together), λ none. ten .1 (λ some. none (plans .0 some)))
+      let same = some-plan-all-on model-left z on all b c in
+      (λ n together. ten .0 n (same .1 (plans .1 together)), λ none. ten .1 (λ some. none (plans .0 (same .0 some))))
 
 module _ {n k : ℕ} {l : Lists} {x p q : ℕ} {w : List ℕ} {ys zs : List Wearer} {r : Answer} (h : WardOf n k l x p q w ys zs r) where
   -- what judging answers for a wearer
@@ -260,3 +273,44 @@ module _ {n k : ℕ} {l : Lists} {x p q : ℕ} {w : List ℕ} {ys zs : List Wear
     λ e j i. let y = getD ys j noWearer in desk-judged n (y .start) k l x (y .b) (y .c) p q w .1 (ward-some h some .0 e j i),
     λ g. ward-some h some .1 (λ j i. let y = getD ys j noWearer in desk-judged n (y .start) k l x (y .b) (y .c) p q w .0 (g j i)),
   )
+
+module _ (n s k : ℕ) (l : Lists) (on : List ℕ) (b c : ℕ) {r : Reached} (h : DeskReached (StartOf n s k l on b c) r) where
+  -- a table made afresh: number and detail are those of 1 to 6
+  pub desk-reach-parts : Parts (r .answer) (answerOf (levelled n s k l b c)) 0 0
+  desk-reach-parts =
+      let same : r .answer ≡ verdictWord (levelled n s k l b c) = h .word ∙ ap {B = ℕ} verdictWord (h .claim .verdict) in
+      rw same (unpacked (answerOf (levelled n s k l b c)) 0 0 (rw (h .claim .verdict) at (reach-start-fields n s k l on b c (h .claim))))
+
+  -- the switches are those that were given; where the number is 0, the charges are the model's table, ..
+  pub desk-reach-switches : r .reach .on ≡ on
+  desk-reach-switches = rw (h .table) (h .claim .switches)
+
+  pub desk-reach-table : numberIn (r .answer) ≡ 0 → IsTable (automatonOf n s k l) on b c (r .reach .charges)
+  desk-reach-table e = rw (h .table) (h .claim .table (yes-number (levelled n s k l b c) .0 (sym (desk-reach-parts .number) ∙ e)))
+
+  -- .. and otherwise all are unreached
+  pub desk-reach-refused : (y : Refusal) → levelled n s k l b c ≡ Refused y → r .reach .charges ≡ allUnreached
+  desk-reach-refused y e = rw (h .table) (h .claim .refused y e)
+
+module _ (n s k : ℕ) (l : Lists) (b c a : ℕ) (told : Bool) (y : Reach) {r : Reached} (h : DeskReached (SwitchOf n s k l b c a told y) r) where
+  -- an arc switched: number and detail are those of 1 to 6 and 12
+  pub desk-switch-parts : Parts (r .answer) (answerOf (switchable n s k l b c a)) 0 0
+  desk-switch-parts =
+      let same : r .answer ≡ verdictWord (switchable n s k l b c a) = h .word ∙ ap {B = ℕ} verdictWord (h .claim .verdict) in
+      rw same (unpacked (answerOf (switchable n s k l b c a)) 0 0 (rw (h .claim .verdict) at (reach-switch-fields n s k l b c a told y (h .claim))))
+
+  -- "a refused switching changes nothing"
+  pub desk-switch-refused : (z : Refusal) → switchable n s k l b c a ≡ Refused z → r .reach ≡ y
+  desk-switch-refused z e = rw (h .table) (h .claim .refused z e)
+
+  -- where the number is 0: the table as it was, where the arc is so already, and else the table of the arcs then on
+  module _ (zero : numberIn (r .answer) ≡ 0) where
+    through : switchable n s k l b c a ≡ Yes
+    through = yes-number (switchable n s k l b c a) .0 (sym (desk-switch-parts .number) ∙ zero)
+
+    pub desk-switch-already : isOn (y .on) a ≡ told → r .reach ≡ y
+    desk-switch-already d = rw (h .table) (h .claim .already through d)
+
+    pub desk-switch-table : (isOn (y .on) a ≡ told → ⊥)
+        → (r .reach .on ≡ switched told (y .on) a) × IsTable (automatonOf n s k l) (switched told (y .on) a) b c (r .reach .charges)
+    desk-switch-table d = rw (h .table) (h .claim .turned through d, h .claim .table through d)

@@ -1,5 +1,5 @@
--- How large the details of refusals are: a detail of judging or of the walk is at most twice the longest plan that judging
--- takes, one of the gauge or of 1 to 9 of search at most 255. Assumes nothing.
+-- How large the details of refusals are: a detail of judging or of the walk is at most twice the longest plan that judging takes, one of the gauge, of 1
+-- to 9 of search or of the table of greatest charges at most 255. Assumes nothing.
 use mathlib.Core.Path.{_≡_, refl}
 use mathlib.Core.Bool.{Bool, _||_}
 use mathlib.Core.List.{List}
@@ -10,7 +10,7 @@ use lib.Dec.{leb, ltb, eqb}
 use lib.ListN.{length}
 use Rattle.limits.specs.Ceilings.{modesMost, arcsMost, coloursMost, boundMost, productMost, planMost, workSpace, planBuffer}
 use Rattle.refusals.specs.declared.Refusal.{Refusal}
-use Rattle.refusals.specs.declared.Refusal.the-variants.{ModeCount, StartMode, ArcLists, ColourCount, Levels, Product, WorkingSpace, PlanBuffer}
+use Rattle.refusals.specs.declared.Refusal.the-variants.{ModeCount, StartMode, ArcLists, ColourCount, Levels, Product, WorkingSpace, PlanBuffer, ArcNumber}
 use Rattle.refusals.specs.declared.Verdict.{Verdict}
 use Rattle.refusals.specs.declared.Verdict.the-variants.{Yes, Refused}
 use Rattle.refusals.specs.Refusals.{answerOf, andThen}
@@ -29,6 +29,7 @@ use Rattle.planwalk.specs.declared.Walked.the-variants as outcome
 use Rattle.planwalk.specs.Walked.{walkOf}
 use Rattle.planwalk.proofs.Least.{walk-refused-by}
 use Rattle.search.specs.Search.{spaces, searchable}
+use Rattle.reach.specs.Reach.{levelled, switchable}
 
 -- the detail of a verdict is at most d
 pub record Within (d : ℕ) (v : Verdict) : Type 0 where
@@ -135,3 +136,14 @@ searchable-within n s k l b c words bytes =
     let P = Within arcsMost in
     then-each P (fitness n s k l) (fitness-within n s k l (omega arith)) λ _.
     then-each P (levelsOf b c) (levels-within b c) λ _. spaces-within n k b words bytes
+
+-- 1 to 6 of the table of greatest charges, and 12
+pub levelled-within : (n s k : ℕ) (l : Lists) (b c : ℕ) → Within arcsMost (levelled n s k l b c)
+unfolding levelled
+levelled-within n s k l b c = then-each (Within arcsMost) (fitness n s k l) (fitness-within n s k l (omega arith)) λ _. levels-within b c
+
+pub switchable-within : (n s k : ℕ) (l : Lists) (b c a : ℕ) → Within arcsMost (switchable n s k l b c a)
+unfolding switchable
+switchable-within n s k l b c a =
+    then-each (Within arcsMost) (levelled n s k l b c) (levelled-within n s k l b c) λ _.
+    refuse-each (Within arcsMost) (leb (length (l .sources)) a) (ArcNumber 0) (omega arith) yes-within

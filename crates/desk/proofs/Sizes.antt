@@ -1,4 +1,4 @@
--- Each part of an answer is within its bits: of judging, search, gauge and walk. Assumes nothing.
+-- Each part of an answer is within its bits: of judging, search, gauge, walk and the table of greatest charges. Assumes nothing.
 use mathlib.Core.Path.{_≡_, refl}
 use mathlib.Core.Bool.{Bool, true, false, cond}
 use mathlib.Core.List.{List}
@@ -21,8 +21,11 @@ use Rattle.planwalk.specs.Walked.{walkAnswer, walkOf}
 use Rattle.planwalk.proofs.Least.{walk-met, walk-spent}
 use Rattle.search.specs.declared.Searched.{Searched}
 use Rattle.search.specs.Search.{searchAnswer, searchable, Answered, none, found, SearchOf}
+use Rattle.reach.specs.declared.Reached as reach
+use Rattle.reach.specs.Reach.{levelled, switchable, StartOf, SwitchOf}
+use Rattle.reach.specs.declared.Reach.{Reach}
 use Rattle.desk.specs.Packing.{Fields}
-use Rattle.desk.proofs.Details.{Within, judged-within, walked-within, started-within, stepped-within, searchable-within}
+use Rattle.desk.proofs.Details.{Within, judged-within, walked-within, started-within, stepped-within, searchable-within, levelled-within, switchable-within}
 
 -- the numbers of answers fit a byte
 answer-number : (v : Verdict) → answerOf v .number < 2 ^ 8
@@ -67,17 +70,25 @@ abbrev SearchFields : Searched → Type 0
 SearchFields r = Fields (searchAnswer r .answer) (searchAnswer r .p) (searchAnswer r .q)
 
 -- where none of 1 to 9 applies
-answered-fields : {g : Automaton} {x b c : ℕ} {plan plan′ : List ℕ} {r : Searched} → Answered g x b c plan plan′ r → SearchFields r
+answered-fields : {g : Automaton} {x : ℕ} {on : List ℕ} {b c : ℕ} {plan plan′ : List ℕ} {r : Searched} → Answered g x on b c plan plan′ r → SearchFields r
 answered-fields (none e) = omega arith
 answered-fields (found f) = omega (arith, f .short)
 
 -- on all inputs
-pub search-fields : (n s k : ℕ) (l : Lists) (x b c : ℕ) {work plan work′ plan′ : List ℕ} {r : Searched}
-    → SearchOf n s k l x b c work plan work′ plan′ r → SearchFields r
-search-fields n s k l x b c {work} {plan} {r = r} h = go (searchable n s k l b c (length work) (length plan)) refl
+pub search-fields : (n s k : ℕ) (l : Lists) (x : ℕ) (on : List ℕ) (b c : ℕ) {work plan work′ plan′ : List ℕ} {r : Searched}
+    → SearchOf n s k l x on b c work plan work′ plan′ r → SearchFields r
+search-fields n s k l x on b c {work} {plan} {r = r} h = go (searchable n s k l b c (length work) (length plan)) refl
   where
     go : (v : Verdict) → searchable n s k l b c (length work) (length plan) ≡ v → SearchFields r
     go Yes e = answered-fields (h .decided e .answered)
     go (Refused y) e =
         let small = rw e at (searchable-within n s k l b c (length work) (length plan)) in
         rw (h .refused y e .0) (omega (arith, refusal-number y, small .detail))
+
+-- what making a table of greatest charges answers, and switching an arc
+pub reach-start-fields : (n s k : ℕ) (l : Lists) (on : List ℕ) (b c : ℕ) {r : reach.Reached} → StartOf n s k l on b c r → Fields (answerOf (r .verdict)) 0 0
+reach-start-fields n s k l on b c h = rw (h .verdict) (verdict-fields (levelled n s k l b c) (omega arith) (levelled-within n s k l b c))
+
+pub reach-switch-fields : (n s k : ℕ) (l : Lists) (b c a : ℕ) (told : Bool) (y : Reach) {r : reach.Reached} → SwitchOf n s k l b c a told y r
+    → Fields (answerOf (r .verdict)) 0 0
+reach-switch-fields n s k l b c a told y h = rw (h .verdict) (verdict-fields (switchable n s k l b c a) (omega arith) (switchable-within n s k l b c a))

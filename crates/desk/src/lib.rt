@@ -1,19 +1,24 @@
-// The fitting desk's entries: judging, search, gauge, walk, reading, the join and wards, to be called from C. include/chargeplan.h declares and explains them.
+// The fitting desk's entries: judging, search, gauge, walk, reading, the join, wards and the table of greatest charges, to be called from C.
+// include/chargeplan.h declares and explains them.
 // C passes a slice as two arguments, a pointer and a length, and a `&mut` as a pointer.
 ghost use mathlib.Core.Path.{_≡_};
+ghost use mathlib.Core.Bool.{not};
+ghost use lib.Dec.{eqb};
 ghost use Rattle.refusals.specs.Refusals.{answerOf};
 ghost use Rattle.model.specs.Lists.{lists};
 ghost use Rattle.desk.specs.Packing.{packed, Fields};
 ghost use Rattle.reading.specs.Reading.{listsRead};
 ghost use Rattle.join.specs.Joining.{given, listsJoined};
 ghost use Rattle.ward.specs.Ward.{WardOf};
-ghost use Rattle.desk.specs.Desk.{deskJudged, deskStarted, deskWalked, readWith, deskRead, deskJoined, DeskSearched, DeskStepped};
+ghost use Rattle.reach.specs.Reach.{StartOf, SwitchOf};
+ghost use Rattle.desk.specs.Desk.{fourWords, deskJudged, deskStarted, deskWalked, readWith, deskRead, deskJoined, DeskSearched, DeskStepped, DeskReached};
 use filling::Reading;
 use gauge::Gauge;
 use join::join;
 use judge::judge;
 use lent_gauge::step;
 use planwalk::walk;
+use reach::Reach;
 use reading::read;
 use refusals::Answer;
 use search::search;
@@ -32,6 +37,13 @@ const SECOND: u64 = 281474976710656;
 pub struct Started {
     pub answer: u64,
     pub gauge: Gauge,
+}
+
+// What making a table of greatest charges and switching an arc answer: number and detail in one word, and the table.
+#[repr(C)]
+pub struct Reached {
+    pub answer: u64,
+    pub reach: Reach,
 }
 
 // What reading and the join answer: number and detail, which may be a line beyond 24 bits, and the numbers of the model written.
@@ -121,8 +133,8 @@ pub extern "C" fn chargeplan_judge(
     pack_alone(verdict.answer())
 }
 
-// Search: number 0 with p and q of a plan in the plan buffer, 10 where there is none, or the first of 1 to 9 that applies. For all numbers,
-// lists and buffers; what it writes is as `search::search` says.
+// Search: number 0 with p and q of a plan in the plan buffer, 10 where there is none of arcs that are on, or the first of 1 to 9 that applies. For
+// all numbers, switches, lists and buffers; what it writes is as `search::search` says.
 #[no_mangle]
 pub extern "C" fn chargeplan_search(
     n: u32,
@@ -137,10 +149,14 @@ pub extern "C" fn chargeplan_search(
     c: u32,
     b: u32,
     barred: u8,
+    on0: u64,
+    on1: u64,
+    on2: u64,
+    on3: u64,
     work: &mut [u16],
     plan: &mut [u8],
 ) -> u64
-    ensures { λ r. ⌜ DeskSearched n start k (lists (now (sources .entry)) (now (targets .entry)) (now (draws .entry)) (now (gains .entry)) (now (colours .entry)) (now (actions .entry))) barred b c (now (work .entry)) (now (plan .entry)) (now (work .exit)) (now (plan .exit)) r ⌝ }
+    ensures { λ r. ⌜ DeskSearched n start k (lists (now (sources .entry)) (now (targets .entry)) (now (draws .entry)) (now (gains .entry)) (now (colours .entry)) (now (actions .entry))) barred (fourWords on0 on1 on2 on3) b c (now (work .entry)) (now (plan .entry)) (now (work .exit)) (now (plan .exit)) r ⌝ }
 {
     let searched = search(
         n,
@@ -155,6 +171,7 @@ pub extern "C" fn chargeplan_search(
         c,
         b,
         barred,
+        [on0, on1, on2, on3],
         work,
         plan,
     );
@@ -410,4 +427,88 @@ pub extern "C" fn chargeplan_ward(
         q,
         plan,
     )
+}
+
+// The table of greatest charges, made afresh: number 0 with the switches that were given and for each mode the greatest charge with which it can be
+// reached over arcs that are on, or that it cannot; or the first of 1 to 6 that applies and all unreached. For all numbers, switches and lists.
+#[no_mangle]
+pub extern "C" fn chargeplan_reach_start(
+    n: u32,
+    start: u32,
+    k: u32,
+    sources: &[u8],
+    targets: &[u8],
+    draws: &[u16],
+    gains: &[u16],
+    colours: &[u8],
+    actions: &[u8],
+    c: u32,
+    b: u32,
+    on0: u64,
+    on1: u64,
+    on2: u64,
+    on3: u64,
+) -> Reached
+    ensures { λ r. ⌜ DeskReached (StartOf n start k (lists (now (sources .entry)) (now (targets .entry)) (now (draws .entry)) (now (gains .entry)) (now (colours .entry)) (now (actions .entry))) (fourWords on0 on1 on2 on3) b c) r ⌝ }
+{
+    let reached = Reach::start(
+        n,
+        start,
+        k,
+        sources,
+        targets,
+        draws,
+        gains,
+        colours,
+        actions,
+        c,
+        b,
+        [on0, on1, on2, on3],
+    );
+    let verdict = reached.verdict;
+    let reach = reached.reach;
+    let answer = pack_alone(verdict.answer());
+    Reached { answer, reach }
+}
+
+// The table with an arc switched on, where on is not 0, or off: number 0, and the table as it was where the arc is so already, else with the switch
+// turned and made afresh; or the first of 1 to 6 and 12 that applies and the table as it was. For all tables, numbers and lists.
+#[no_mangle]
+pub extern "C" fn chargeplan_reach_switch(
+    reach: Reach,
+    n: u32,
+    start: u32,
+    k: u32,
+    sources: &[u8],
+    targets: &[u8],
+    draws: &[u16],
+    gains: &[u16],
+    colours: &[u8],
+    actions: &[u8],
+    c: u32,
+    b: u32,
+    arc: u32,
+    on: u8,
+) -> Reached
+    ensures { λ r. ⌜ DeskReached (SwitchOf n start k (lists (now (sources .entry)) (now (targets .entry)) (now (draws .entry)) (now (gains .entry)) (now (colours .entry)) (now (actions .entry))) b c arc (not (eqb on 0)) reach) r ⌝ }
+{
+    let reached = reach.switch(
+        n,
+        start,
+        k,
+        sources,
+        targets,
+        draws,
+        gains,
+        colours,
+        actions,
+        c,
+        b,
+        arc,
+        on != 0,
+    );
+    let verdict = reached.verdict;
+    let reach = reached.reach;
+    let answer = pack_alone(verdict.answer());
+    Reached { answer, reach }
 }

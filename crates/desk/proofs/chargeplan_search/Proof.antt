@@ -14,7 +14,7 @@ answer-requires c κs = search needs
 pack-requires : tie.Need-pack-requires
 pack-requires c κs =
     let told = c .before in
-    rw (told .answer .ensures) (search-fields _ _ _ _ _ _ _ (told .before .before .before .before .before .search .ensures))
+    rw (told .answer .ensures) (search-fields _ _ _ _ _ _ _ _ (told .before .before .before .before .before .search .ensures))
 
 same-length : tie.Need-same-length
 same-length c = search needs

@@ -1,0 +1,25 @@
+/* The reach, as plainly as Ask 9 of document 02 has it and with no code of the library: what the C tests compare with. */
+#ifndef PLAIN_REACH_H
+#define PLAIN_REACH_H
+
+#include "plain.h"
+
+/* The places of a reach, and the charge of a mode that is not reached. */
+enum { REACH_PLACES = 64, PLAIN_UNREACHED = 65535 };
+
+/* The switches, and the greatest charge with which each mode is reached. */
+struct reach {
+    struct switches switches;
+    uint16_t charges[REACH_PLACES];
+};
+
+/* 1 to 6, and every mode is unreached; number 0 and the charges over arcs that are on. The switches are the model's in any case. */
+struct verdict plain_reach_start(struct reach *r, const struct model *m, uint32_t c, uint32_t b);
+
+/*
+ * 1 to 6 and 12, and the reach as it was; number 0 and the reach with the arc switched, as it was where the arc was so already. The model's
+ * own switches are not looked at.
+ */
+struct verdict plain_reach_switch(struct reach *r, const struct model *m, uint32_t c, uint32_t b, uint32_t arc, uint8_t on);
+
+#endif
