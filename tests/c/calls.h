@@ -204,6 +204,9 @@ struct model random_large_model(struct lists *lists);
 /* Gives the first arcs of the lists random draws and gains up to these; of three, one draws, one gains, and one does both. */
 void random_moves(struct lists *lists, size_t arcs, uint32_t draw_most, uint32_t gain_most);
 
+/* The model with every draw and gain so many times as great, in the second lists. */
+struct model scaled(const struct model *m, uint32_t times, struct lists *to);
+
 /* An arc that leaves the mode, most of the time; a few are not of the model. */
 uint8_t random_arc(const struct model *m, uint32_t mode);
 

@@ -109,21 +109,6 @@ void test_random_large_reaches(unsigned long models)
     }
 }
 
-/* The model with every draw and gain so many times as great. */
-static struct model scaled_up(const struct model *m, uint32_t times, struct lists *to)
-{
-    struct model r = *m;
-    size_t a;
-
-    for (a = 0; a < m->sources_length; a++) {
-        to->draws[a] = (uint16_t)(m->draws[a] * times);
-        to->gains[a] = (uint16_t)(m->gains[a] * times);
-    }
-    r.draws = to->draws;
-    r.gains = to->gains;
-    return r;
-}
-
 /* With draws, gains, credit and bound all so many times as great, every charge is: tables of great bounds against plain ones of small. */
 void test_random_scaled_reaches(unsigned long models)
 {
@@ -138,7 +123,7 @@ void test_random_scaled_reaches(unsigned long models)
 
         if (times > CHARGEPLAN_GAIN_MOST / SMALL_MOVE_MOST)
             times = CHARGEPLAN_GAIN_MOST / SMALL_MOVE_MOST;
-        s = scaled_up(&m, times, &to);
+        s = scaled(&m, times, &to);
         great = start_reach("scaled", &s, c * times, b * times).reach;
         for (mode = 0; mode < CHARGEPLAN_MODES_MOST; mode++)
             if (small.charges[mode] != CHARGEPLAN_UNREACHED)

@@ -69,8 +69,7 @@ void test_random_searches(unsigned long models)
     }
 }
 
-/* The model with every draw and gain so many times as great. */
-static struct model scaled(const struct model *m, uint32_t times, struct lists *to)
+struct model scaled(const struct model *m, uint32_t times, struct lists *to)
 {
     struct model r = *m;
     size_t a;
