@@ -51,7 +51,7 @@ closed-level-same g stay leave stay′ leave′ b from best later i j k =
         }
 
 -- an entry of the table with one entry is that one
-only-at : (s y t x : ℕ) → onlyAt s y t ≡ suc x → (t ≡ s) × (y ≡ suc x)
+pub only-at : (s y t x : ℕ) → onlyAt s y t ≡ suc x → (t ≡ s) × (y ≡ suc x)
 only-at s y t x q = go (eqb t s) refl q
   where
     go : (v : Bool) → eqb t s ≡ v → wordIf v y ≡ suc x → (t ≡ s) × (y ≡ suc x)

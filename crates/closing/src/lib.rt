@@ -26,7 +26,7 @@ pub struct Level {
 }
 
 // Sets every word to 0.
-fn clear(words: &mut [u32])
+pub fn clear(words: &mut [u32])
     ensures { λ _. ⌜ now (words .exit) ≡ replicate (length (now (words .entry))) 0 ⌝ }
 {
     let mut i = 0;

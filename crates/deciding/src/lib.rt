@@ -6,6 +6,8 @@ ghost use mathlib.Core.Bool.{true, _||_};
 ghost use mathlib.Core.Logic.{_↔_};
 ghost use Prim.Native.Nat.{_+_, _≤_, _<_};
 ghost use lib.ListN.{length};
+ghost use Rattle.limits.specs.Ceilings.{coloursMost};
+ghost use Rattle.model.specs.Required.{required};
 ghost use Rattle.passes.specs.Outcome.{KeptPeak, FirstKept};
 ghost use Rattle.closing.specs.Stratum.{stratum};
 ghost use Rattle.closing.specs.Tables.{Closes, PeaksFound};
@@ -32,6 +34,20 @@ pub struct Question {
     pub duties: usize,
     pub credit: u32,
     pub bound: u32,
+}
+
+// How many of k colours are required: the duties of a model with these barred colours.
+pub fn count_required(k: u32, barred: u8) -> u32
+    requires { ⌜ k ≤ coloursMost ⌝ }
+    ensures { λ r. ⌜ r ≡ required barred k ⌝ }
+{
+    let mut count = 0u32;
+    let mut j = 0u32;
+    while j < k {
+        count += 1 - ((barred as u32) >> j) % 2;
+        j += 1;
+    }
+    count
 }
 
 // The numbers of a level. Without duties every arc leaves level 0, so that a cycle has at least one arc.

@@ -2,10 +2,11 @@
 use mathlib.Core.Path.{_≡_, refl, sym, ap, _∙_}
 use mathlib.Core.Bool.{Bool, cond}
 use mathlib.Core.List.{List}
-use mathlib.Core.Logic.{_↔_, _⊎_, inl, inr}
-use Prim.Native.Nat.{ℕ, _+_, _^_, _<_}
+use mathlib.Core.Logic.{_↔_, _⊎_, inl, inr, ⊎-elim}
+use Prim.Native.Nat.{ℕ, _+_, _^_, _≤_, _<_}
 use native.Mathlib.Omega.{arith}
 use lib.ListN.{length, getD, take, replicate}
+use Rattle.limits.specs.Ceilings.{decideSpace}
 use Rattle.refusals.specs.declared.Answer.{Answer}
 use Rattle.refusals.specs.declared.Refusal.{Refusal}
 use Rattle.refusals.specs.declared.Verdict.{Verdict}
@@ -32,6 +33,8 @@ use Rattle.search.specs.Search.{searchAnswer, searchable, Found, Answered, none
 use Rattle.search.proofs.Demand3.{answered-found, plan-searchable, search-judged, search-ten, search-plan-kept}
 use Rattle.search.proofs.Agreed.{search-agrees, agreed-answer}
 use Rattle.search.proofs.Switched.{search-on}
+use Rattle.decide.specs.Decide.{decidable}
+use Rattle.decide.proofs.Agrees.{decide-same}
 use Rattle.reach.specs.declared.Reach.{Reach}
 use Rattle.reach.specs.Table.{IsTable}
 use Rattle.reach.specs.Reach.{levelled, switchable, allUnreached, StartOf, SwitchOf}
@@ -50,8 +53,8 @@ use Rattle.ward.proofs.SoFar.{noWearer}
 use Rattle.ward.proofs.Wards.{ward-verdict, ward-some, ward-place}
 use Rattle.desk.specs.declared.Read.{Read}
 use Rattle.desk.specs.declared.Reached.{Reached}
-use Rattle.desk.specs.Desk.{deskJudged, deskStarted, deskWalked, deskRead, deskJoined, DeskSearched, DeskStepped, DeskReached}
-use Rattle.desk.proofs.Sizes.{judge-fields, start-fields, step-fields, walk-fields, search-fields, reach-start-fields, reach-switch-fields}
+use Rattle.desk.specs.Desk.{deskJudged, deskStarted, deskWalked, deskRead, deskJoined, DeskSearched, DeskDecided, DeskStepped, DeskReached}
+use Rattle.desk.proofs.Sizes.{judge-fields, start-fields, step-fields, walk-fields, search-fields, decide-fields, reach-start-fields, reach-switch-fields}
 use Rattle.desk.proofs.Unpacked.{Parts, unpacked}
 
 -- the parts of a word are those of what search answers
@@ -129,6 +132,47 @@ module _ {n s k : ℕ} {l : Lists} {x : ℕ} {on : List ℕ} {b c : ℕ} {work p
     -- after 10 the plan buffer is untouched
     pub desk-none : numberIn r ≡ 10 → plan′ ≡ plan
     desk-none ten = search-plan-kept (searchable n s k l b c (length work) (length plan)) (h .claim) (λ zero. absurd (omega (arith, desk-search-parts .number, ten, zero)))
+
+-- the decision without a plan
+module _ {n s k : ℕ} {l : Lists} {x : ℕ} {on : List ℕ} {b c : ℕ} {work work′ : List ℕ} {r : ℕ} (h : DeskDecided n s k l x on b c work work′ r) where
+  -- the parts are those of the verdict
+  pub desk-decide-parts : Parts r (answerOf (h .decided)) 0 0
+  desk-decide-parts = rw (h .word) (unpacked (answerOf (h .decided)) 0 0 (decide-fields n s k l x on b c (h .claim)))
+
+  -- where one of 1 to 6 and 8 applies, the word is its number and detail, and the space is untouched
+  pub desk-decide-refused : (y : Refusal) → decidable n s k l b c (length work) ≡ Refused y
+      → (numberIn r ≡ numbered y .number) × (detailIn r ≡ numbered y .detail) × (work′ ≡ work)
+  desk-decide-refused y e =
+      let parts = rw (h .claim .refused y e .0) at desk-decide-parts in
+      (parts .number, parts .detail, h .claim .refused y e .1)
+
+  module _ (through : decidable n s k l b c (length work) ≡ Yes) where
+    -- where none of them applies, the number is 0 exactly where some plan of any length, of arcs that are on, is feasible and accepted, ..
+    pub desk-decide-zero : (numberIn r ≡ 0) ↔ SomePlanOn (automatonOf n s k l) x on b c
+    desk-decide-zero =
+        let zero = yes-number (h .decided) in
+        let yes = h .claim .yes through in
+        rw (desk-decide-parts .number) (λ e. yes .0 (zero .0 e), λ p. zero .1 (yes .1 p))
+
+    -- .. it is 0 or 10, and the space is zero
+    pub desk-decide-done : ((numberIn r ≡ 0) ⊎ (numberIn r ≡ 10)) × (work′ ≡ replicate (length work) 0)
+    desk-decide-done = (
+      rw (desk-decide-parts .number) (⊎-elim (λ q. inl (rw q refl)) (λ q. inr (rw q refl)) (h .claim .verdict through)),
+      h .claim .cleared through,
+    )
+
+-- inside the ceilings of search the two calls answer the same number and detail
+pub desk-decide-agrees : {n s k : ℕ} {l : Lists} {x : ℕ} {on : List ℕ} {b c : ℕ} {work plan work′ plan′ space space′ : List ℕ} {r r₂ : ℕ}
+    → (h : DeskSearched n s k l x on b c work plan work′ plan′ r) → (h₂ : DeskDecided n s k l x on b c space space′ r₂)
+    → searchable n s k l b c (length work) (length plan) ≡ Yes → decideSpace k n ≤ length space
+    → (numberIn r ≡ numberIn r₂) × (detailIn r ≡ detailIn r₂)
+desk-decide-agrees {n} {s} {k} {l} {x} {on} {b} {c} h h₂ inside room =
+    let one = desk-search-parts h in
+    let two = desk-decide-parts h₂ in
+    let same = decide-same n s k l b c x on (h .claim) (h₂ .claim) inside room in (
+      one .number ∙ ap {B = ℕ} (λ (x : Answer). x .number) same ∙ sym (two .number),
+      one .detail ∙ ap {B = ℕ} (λ (x : Answer). x .detail) same ∙ sym (two .detail),
+    )
 
 -- two words for one call have the same number and detail, whatever stands in the buffers
 pub desk-agrees : {n s k : ℕ} {l : Lists} {x : ℕ} {on : List ℕ} {b c : ℕ} {work plan work′ plan′ work₂ plan₂ work₂′ plan₂′ : List ℕ} {r r₂ : ℕ}

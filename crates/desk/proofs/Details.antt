@@ -1,5 +1,5 @@
 -- How large the details of refusals are: a detail of judging or of the walk is at most twice the longest plan that judging takes, one of the gauge, of 1
--- to 9 of search or of the table of greatest charges at most 255. Assumes nothing.
+-- to 9 of search, of the decision or of the table of greatest charges at most 255. Assumes nothing.
 use mathlib.Core.Path.{_≡_, refl}
 use mathlib.Core.Bool.{Bool, _||_}
 use mathlib.Core.List.{List}
@@ -8,7 +8,7 @@ use Prim.Native.Nat.{ℕ, _+_, _*_, _^_, _≤_, _<_}
 use native.Mathlib.Omega.{arith}
 use lib.Dec.{leb, ltb, eqb}
 use lib.ListN.{length}
-use Rattle.limits.specs.Ceilings.{modesMost, arcsMost, coloursMost, boundMost, productMost, planMost, workSpace, planBuffer}
+use Rattle.limits.specs.Ceilings.{modesMost, arcsMost, coloursMost, boundMost, productMost, planMost, workSpace, planBuffer, decideBoundMost, decideSpace}
 use Rattle.refusals.specs.declared.Refusal.{Refusal}
 use Rattle.refusals.specs.declared.Refusal.the-variants.{ModeCount, StartMode, ArcLists, ColourCount, Levels, Product, WorkingSpace, PlanBuffer, ArcNumber}
 use Rattle.refusals.specs.declared.Verdict.{Verdict}
@@ -17,7 +17,7 @@ use Rattle.refusals.specs.Refusals.{answerOf, andThen}
 use Rattle.refusals.proofs.Each.{refuse-each, then-each, scan-each}
 use Rattle.model.specs.declared.Arc.{Arc}
 use Rattle.model.specs.Lists.{Lists, arcsOf, automatonOf}
-use Rattle.model.specs.Fitness.{header, headerOf, arcsVerdict, fitness, levelsOf}
+use Rattle.model.specs.Fitness.{header, headerOf, arcsVerdict, fitness, levelsWithin, levelsOf}
 use Rattle.model.proofs.Arcs.{arcs-length}
 use Rattle.model.proofs.Fitness.{arcs-scan, header-yes, fitness-yes}
 use Rattle.judge.specs.Judged.{judgedLevels, judged}
@@ -29,6 +29,7 @@ use Rattle.planwalk.specs.declared.Walked.the-variants as outcome
 use Rattle.planwalk.specs.Walked.{walkOf}
 use Rattle.planwalk.proofs.Least.{walk-refused-by}
 use Rattle.search.specs.Search.{spaces, searchable}
+use Rattle.decide.specs.Decide.{spaceOf, levelsAndSpace, decidable}
 use Rattle.reach.specs.Reach.{levelled, switchable}
 
 -- the detail of a verdict is at most d
@@ -60,10 +61,14 @@ module _ {d : ℕ} where
       then-each (Within d) (headerOf n s k l) (header-within n s k _) λ e.
       arcs-within n (2 ^ k) (arcsOf l) (omega (arith, header-yes n s k l .0 e .few-arcs, arcs-length l (length (l .sources)) 0))
 
-  -- 6
+  -- 6, with any ceiling, ..
+  ceiling-within : (most b c : ℕ) → Within d (levelsWithin most b c)
+  ceiling-within most b c = refuse-each (Within d) (ltb most b || ltb b c) Levels (omega arith) yes-within
+
+  -- .. and with that of all calls but the decision
   levels-within : (b c : ℕ) → Within d (levelsOf b c)
   unfolding levelsOf
-  levels-within b c = refuse-each (Within d) (ltb boundMost b || ltb b c) Levels (omega arith) yes-within
+  levels-within b c = ceiling-within boundMost b c
 
   -- 7 to 9
   spaces-within : (n k b words bytes : ℕ) → Within d (spaces n k b words bytes)
@@ -136,6 +141,15 @@ searchable-within n s k l b c words bytes =
     let P = Within arcsMost in
     then-each P (fitness n s k l) (fitness-within n s k l (omega arith)) λ _.
     then-each P (levelsOf b c) (levels-within b c) λ _. spaces-within n k b words bytes
+
+-- 1 to 6 and 8 of the decision
+pub decidable-within : (n s k : ℕ) (l : Lists) (b c words : ℕ) → Within arcsMost (decidable n s k l b c words)
+unfolding decidable levelsAndSpace spaceOf
+decidable-within n s k l b c words =
+    let P = Within arcsMost in
+    then-each P (fitness n s k l) (fitness-within n s k l (omega arith)) λ _.
+    then-each P (levelsWithin decideBoundMost b c) (ceiling-within decideBoundMost b c) λ _.
+    refuse-each P (ltb words (decideSpace k n)) WorkingSpace (omega arith) yes-within
 
 -- 1 to 6 of the table of greatest charges, and 12
 pub levelled-within : (n s k : ℕ) (l : Lists) (b c : ℕ) → Within arcsMost (levelled n s k l b c)

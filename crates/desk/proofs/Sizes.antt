@@ -1,7 +1,8 @@
--- Each part of an answer is within its bits: of judging, search, gauge, walk and the table of greatest charges. Assumes nothing.
+-- Each part of an answer is within its bits: of judging, search, the decision, gauge, walk and the table of greatest charges. Assumes nothing.
 use mathlib.Core.Path.{_≡_, refl}
 use mathlib.Core.Bool.{Bool, true, false, cond}
 use mathlib.Core.List.{List}
+use mathlib.Core.Logic.{⊎-elim}
 use Prim.Native.Nat.{ℕ, _<_, _^_}
 use native.Mathlib.Omega.{arith}
 use lib.ListN.{length}
@@ -21,11 +22,12 @@ use Rattle.planwalk.specs.Walked.{walkAnswer, walkOf}
 use Rattle.planwalk.proofs.Least.{walk-met, walk-spent}
 use Rattle.search.specs.declared.Searched.{Searched}
 use Rattle.search.specs.Search.{searchAnswer, searchable, Answered, none, found, SearchOf}
+use Rattle.decide.specs.Decide.{decidable, DecideOf}
 use Rattle.reach.specs.declared.Reached as reach
 use Rattle.reach.specs.Reach.{levelled, switchable, StartOf, SwitchOf}
 use Rattle.reach.specs.declared.Reach.{Reach}
 use Rattle.desk.specs.Packing.{Fields}
-use Rattle.desk.proofs.Details.{Within, judged-within, walked-within, started-within, stepped-within, searchable-within, levelled-within, switchable-within}
+use Rattle.desk.proofs.Details.{Within, judged-within, walked-within, started-within, stepped-within, searchable-within, decidable-within, levelled-within, switchable-within}
 
 -- the numbers of answers fit a byte
 answer-number : (v : Verdict) → answerOf v .number < 2 ^ 8
@@ -84,6 +86,17 @@ search-fields n s k l x on b c {work} {plan} {r = r} h = go (searchable n s k l 
     go (Refused y) e =
         let small = rw e at (searchable-within n s k l b c (length work) (length plan)) in
         rw (h .refused y e .0) (omega (arith, refusal-number y, small .detail))
+
+-- what the decision answers, on all inputs
+pub decide-fields : (n s k : ℕ) (l : Lists) (x : ℕ) (on : List ℕ) (b c : ℕ) {work work′ : List ℕ} {r : Verdict} → DecideOf n s k l x on b c work work′ r
+    → Fields (answerOf r) 0 0
+decide-fields n s k l x on b c {work} {r = r} h = go (decidable n s k l b c (length work)) refl
+  where
+    go : (v : Verdict) → decidable n s k l b c (length work) ≡ v → Fields (answerOf r) 0 0
+    go Yes e = ⊎-elim (λ q. rw q (omega arith)) (λ q. rw q (omega arith)) (h .verdict e)
+    go (Refused y) e =
+        let small = rw e at (decidable-within n s k l b c (length work)) in
+        rw (h .refused y e .0) (verdict-fields (Refused y) (omega arith) small)
 
 -- what making a table of greatest charges answers, and switching an arc
 pub reach-start-fields : (n s k : ℕ) (l : Lists) (on : List ℕ) (b c : ℕ) {r : reach.Reached} → StartOf n s k l on b c r → Fields (answerOf (r .verdict)) 0 0

@@ -1,7 +1,7 @@
 -- The C entries. Document 01, "What can be called": "The fitting desk's own program, written in C, calls judging and search, with numbers and
 -- byte or word buffers." Since document 02, Ask 2, it also calls the gauge, whose spill "fitters wish to see", and the
 -- walk; since Ask 1, reading; since Ask 5, the join; since Ask 9, the table of greatest charges. Judging, search and walk take a byte of barred colours
--- since Ask 6, search the switches of the arcs since Ask 9.
+-- since Ask 6, search the switches of the arcs since Ask 9; since Ask 12, the decision without a plan.
 use Prim.Native.Nat.{ℕ}
 use mathlib.Core.Path.{_≡_}
 use mathlib.Core.List.{List, [], _∷_}
@@ -12,7 +12,9 @@ use Rattle.gauge.specs.Gauge.{startedOf, steppedOf}
 use Rattle.planwalk.specs.Walked.{walkOf}
 use Rattle.search.specs.declared.Searched.{Searched}
 use Rattle.search.specs.Search.{SearchOf}
+use Rattle.decide.specs.Decide.{DecideOf}
 use Rattle.refusals.specs.declared.Answer.{Answer}
+use Rattle.refusals.specs.declared.Verdict.{Verdict}
 use Rattle.filling.specs.declared.Reading.{Reading}
 use Rattle.reading.specs.Reading.{readOf, readAnswer}
 use Rattle.join.specs.Joining.{Given, joinOf, joinAnswer}
@@ -36,6 +38,12 @@ pub record DeskSearched (n s k : ℕ) (l : Lists) (x : ℕ) (on : List ℕ) (b c
   pub searched : Searched
   pub claim : SearchOf n s k l x on b c work plan work′ plan′ searched
   pub word : r ≡ searchWord searched
+
+-- What the decision without a plan answers: the word of a verdict of which all holds that the call promises. There is one (theorem decide-one).
+pub record DeskDecided (n s k : ℕ) (l : Lists) (x : ℕ) (on : List ℕ) (b c : ℕ) (work work′ : List ℕ) (r : ℕ) : Type 0 where
+  pub decided : Verdict
+  pub claim : DecideOf n s k l x on b c work work′ decided
+  pub word : r ≡ verdictWord decided
 
 -- what starting a gauge answers: its verdict in one word, and the gauge; "a refusal hands back .. 0 in every field"
 abbrev pub deskStarted : ℕ → ℕ → ℕ → Lists → ℕ → ℕ → Started

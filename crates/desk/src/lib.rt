@@ -11,7 +11,8 @@ ghost use Rattle.reading.specs.Reading.{listsRead};
 ghost use Rattle.join.specs.Joining.{given, listsJoined};
 ghost use Rattle.ward.specs.Ward.{WardOf};
 ghost use Rattle.reach.specs.Reach.{StartOf, SwitchOf};
-ghost use Rattle.desk.specs.Desk.{fourWords, deskJudged, deskStarted, deskWalked, readWith, deskRead, deskJoined, DeskSearched, DeskStepped, DeskReached};
+ghost use Rattle.desk.specs.Desk.{fourWords, deskJudged, deskStarted, deskWalked, readWith, deskRead, deskJoined, DeskSearched, DeskDecided, DeskStepped, DeskReached};
+use decide::decide;
 use filling::Reading;
 use gauge::Gauge;
 use join::join;
@@ -178,6 +179,49 @@ pub extern "C" fn chargeplan_search(
     let told = searched.answer();
     let answer = told.answer;
     pack(answer, told.p, told.q)
+}
+
+// The decision without a plan: number 0 where there is a plan of arcs that are on, 10 where there is none, or the first of 1 to 6 and 8 that applies, with
+// b up to 1,000,000. For all numbers, switches, lists and spaces; how it leaves the space is as `decide::decide` says.
+#[no_mangle]
+pub extern "C" fn chargeplan_decide(
+    n: u32,
+    start: u32,
+    k: u32,
+    sources: &[u8],
+    targets: &[u8],
+    draws: &[u16],
+    gains: &[u16],
+    colours: &[u8],
+    actions: &[u8],
+    c: u32,
+    b: u32,
+    barred: u8,
+    on0: u64,
+    on1: u64,
+    on2: u64,
+    on3: u64,
+    work: &mut [u32],
+) -> u64
+    ensures { λ r. ⌜ DeskDecided n start k (lists (now (sources .entry)) (now (targets .entry)) (now (draws .entry)) (now (gains .entry)) (now (colours .entry)) (now (actions .entry))) barred (fourWords on0 on1 on2 on3) b c (now (work .entry)) (now (work .exit)) r ⌝ }
+{
+    let verdict = decide(
+        n,
+        start,
+        k,
+        sources,
+        targets,
+        draws,
+        gains,
+        colours,
+        actions,
+        c,
+        b,
+        barred,
+        [on0, on1, on2, on3],
+        work,
+    );
+    pack_alone(verdict.answer())
 }
 
 // Starting a gauge: number 0 and a new gauge with the start mode, the credit c and spill 0, which carries n, the number of arcs and b; or the

@@ -65,3 +65,14 @@ planBuffer k n b = (k + planLevels) * n * (b + 1)
 -- "The supplied program keeps space for (k+1) × n × (b+1) up to 8,192."
 abbrev pub programMost : ℕ
 programMost = 8192
+
+-- document 02, Ask 12: "b up to 1,000,000"
+abbrev pub decideBoundMost : ℕ
+decideBoundMost = 1000000
+
+-- "a working space of 16 × (k+1) × n 32-bit words"
+abbrev pub decideWords : ℕ
+decideWords = 16
+
+abbrev pub decideSpace : ℕ → ℕ → ℕ
+decideSpace k n = decideWords * (k + workLevels) * n

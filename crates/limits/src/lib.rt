@@ -18,6 +18,8 @@ ghost use Rattle.limits.specs.Ceilings.{
   workLevels,
   planLevels,
   programMost,
+  decideBoundMost,
+  decideWords,
 };
 
 pub struct Limits;
@@ -68,6 +70,12 @@ impl Limits {
     // The highest (k + 1) × n × (b + 1) that the supplied program keeps space for.
     pub const PROGRAM: u32 = 8192;
 
+    // The highest bound of a decision without a plan.
+    pub const DECIDE_BOUND: u32 = 1000000;
+
+    // Working space of such a decision: 16 × (k + 1) × n words, k + 1 by WORK_LEVELS. The words of a mode in one level.
+    pub const DECIDE_WORDS: usize = 16;
+
     // Every constant is the numeral of specs/Ceilings: changing one side alone is refused.
     pub fn agree() -> bool
         ensures yes { λ r. ⌜ r ≡ true ⌝ }
@@ -86,6 +94,8 @@ impl Limits {
         ensures work_levels { λ _. do ⌜ (← ⟦Limits::WORK_LEVELS⟧ .entry) ≡ workLevels ⌝ }
         ensures plan_levels { λ _. do ⌜ (← ⟦Limits::PLAN_LEVELS⟧ .entry) ≡ planLevels ⌝ }
         ensures program { λ _. do ⌜ (← ⟦Limits::PROGRAM⟧ .entry) ≡ programMost ⌝ }
+        ensures decide_bound { λ _. do ⌜ (← ⟦Limits::DECIDE_BOUND⟧ .entry) ≡ decideBoundMost ⌝ }
+        ensures decide_words { λ _. do ⌜ (← ⟦Limits::DECIDE_WORDS⟧ .entry) ≡ decideWords ⌝ }
     {
         true
     }

@@ -21,7 +21,7 @@ use Rattle.refusals.proofs.Verdicts.{refuse-yes, and-then-yes}
 use Rattle.refusals.proofs.Scan.{FirstOf, Scan, scan-yes, scan-first}
 use Rattle.refusals.proofs.Tests.{or-no, or6-no, lt-no, le-no, differ-no}
 use Rattle.model.specs.Lists.{Lists, arcsOf, automatonOf, modelOf, blankModel, held}
-use Rattle.model.specs.Fitness.{unfitLists, header, headerOf, arcsFitness, unfitArc, arcsVerdict, fitness, fittedIf, fittedArcs, fittedOf, levelsOf, EqualLists, Header, ArcFits, Fit, Holds}
+use Rattle.model.specs.Fitness.{unfitLists, header, headerOf, arcsFitness, unfitArc, arcsVerdict, fitness, fittedIf, fittedArcs, fittedOf, levelsWithin, levelsOf, EqualLists, Header, ArcFits, Fit, Holds}
 use Rattle.model.proofs.Bits.{colours-below}
 use Rattle.model.proofs.Arcs.{arcs-length, arcs-take}
 
@@ -182,15 +182,19 @@ held-model n s k l h =
     let q = arcs-take l (length (l .sources)) (arcsMost - length (l .sources)) 0 in
     ap {B = Automaton} (λ x. record { modes = n; start = s; colours = k; arcs = x }) (rw e at q)
 
--- 6 does not apply exactly where c is at most b, and b at most 8,191
+-- 6 does not apply exactly where c is at most b, and b at most the ceiling, ..
+pub levels-within-yes : (most b c : ℕ) → (levelsWithin most b c ≡ Yes) ↔ ((b ≤ most) × (c ≤ b))
+levels-within-yes most b c =
+    let row = refuse-yes (ltb most b || ltb b c) Levels Yes in
+    let two = or-no (ltb most b) (ltb b c) in (
+      λ e. let t = two .0 (row .0 e .0) in (lt-no most b .0 (t .0), lt-no b c .0 (t .1)),
+      λ h. row .1 (two .1 (lt-no most b .1 (h .0), lt-no b c .1 (h .1)), refl),
+    )
+
+-- .. which is 8,191
 pub levels-yes : (b c : ℕ) → (levelsOf b c ≡ Yes) ↔ ((b ≤ boundMost) × (c ≤ b))
 unfolding levelsOf
-levels-yes b c =
-    let row = refuse-yes (ltb boundMost b || ltb b c) Levels Yes in
-    let two = or-no (ltb boundMost b) (ltb b c) in (
-      λ e. let t = two .0 (row .0 e .0) in (lt-no boundMost b .0 (t .0), lt-no b c .0 (t .1)),
-      λ h. row .1 (two .1 (lt-no boundMost b .1 (h .0), lt-no b c .1 (h .1)), refl),
-    )
+levels-yes b c = levels-within-yes boundMost b c
 
 -- what is handed back, by the verdict on 1 to 4
 module _ (n s k : ℕ) (l : Lists) where

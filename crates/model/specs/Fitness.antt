@@ -70,9 +70,13 @@ fittedOf n s k l = fittedIf (fitness n s k l) (modelOf n s k l)
 abbrev pub fittedArcs : ℕ → ℕ → ℕ → Lists → Fitted
 fittedArcs n s k l = fittedIf (arcsFitness n (2 ^ k) l) (modelOf n s k l)
 
--- 6: "b above 8,191, or c above b"; as everywhere in the definitions, the bound stands before the credit
+-- 6, with the highest bound that a call takes; as everywhere in the definitions, the bound stands before the credit
+abbrev pub levelsWithin : ℕ → ℕ → ℕ → Verdict
+levelsWithin most b c = refuse (ltb most b || ltb b c) Levels Yes
+
+-- 6: "b above 8,191, or c above b"
 unfoldable pub levelsOf : ℕ → ℕ → Verdict
-levelsOf b c = refuse (ltb boundMost b || ltb b c) Levels Yes
+levelsOf b c = levelsWithin boundMost b c
 
 -- What is fit, as facts. "Arcs come as .. lent lists of equal length", six since Ask 5.
 pub record EqualLists (l : Lists) : Type 0 where

@@ -3,7 +3,7 @@ ghost use mathlib.Core.Path.{_≡_};
 ghost use Prim.Native.Nat.{_≤_, _^_};
 ghost use Rattle.limits.specs.Ceilings.{coloursMost};
 ghost use Rattle.model.specs.Lists.{lists, blankModel};
-ghost use Rattle.model.specs.Fitness.{unfitLists, header, unfitArc, Header, fittedIf, fittedArcs, fittedOf, levelsOf};
+ghost use Rattle.model.specs.Fitness.{unfitLists, header, unfitArc, Header, fittedIf, fittedArcs, fittedOf, levelsWithin, levelsOf};
 use limits::Limits;
 use refusals::Refusal;
 use refusals::Verdict;
@@ -94,17 +94,24 @@ pub fn check_header(n: u32, start: u32, k: u32, unfit: bool) -> Verdict
     Verdict::Yes
 }
 
-// Refusal 6: the bound is above its ceiling, or the credit above the bound.
-pub fn check_levels(c: u32, b: u32) -> Verdict
-    ensures { λ r. ⌜ r ≡ levelsOf b c ⌝ }
+// Refusal 6 of a call with this ceiling: the bound is above it, or the credit above the bound.
+pub fn check_levels_within(c: u32, b: u32, most: u32) -> Verdict
+    ensures { λ r. ⌜ r ≡ levelsWithin most b c ⌝ }
 {
-    if b > Limits::BOUND {
+    if b > most {
         return Verdict::Refused(Refusal::Levels);
     }
     if c > b {
         return Verdict::Refused(Refusal::Levels);
     }
     Verdict::Yes
+}
+
+// Refusal 6.
+pub fn check_levels(c: u32, b: u32) -> Verdict
+    ensures { λ r. ⌜ r ≡ levelsOf b c ⌝ }
+{
+    check_levels_within(c, b, Limits::BOUND)
 }
 
 // Whether an arc is unfit for n modes and k colours, where `power` is 2 to the k.

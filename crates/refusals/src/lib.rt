@@ -1,6 +1,6 @@
 // Where a call stops: the refusals of document 01's table, with those that document 02 adds, and the number and detail of each.
 ghost use mathlib.Core.Path.{_≡_};
-ghost use Rattle.refusals.specs.Refusals.{answer, numbered, answerOf};
+ghost use Rattle.refusals.specs.Refusals.{answer, numbered, answerOf, andThen};
 
 // Where a call stops: a case for each number of document 01's table, and of document 02, with its detail where one is named.
 pub enum Refusal {
@@ -93,6 +93,16 @@ impl Verdict {
         match self {
             Verdict::Yes => row(0, 0),
             Verdict::Refused(refusal) => refusal.answer(),
+        }
+    }
+
+    // The first refusal of two checks, of which this one is looked at first.
+    pub fn and_then(self, next: Verdict) -> Verdict
+        ensures { λ r. ⌜ r ≡ andThen self next ⌝ }
+    {
+        match self {
+            Verdict::Yes => next,
+            Verdict::Refused(refusal) => Verdict::Refused(refusal),
         }
     }
 }

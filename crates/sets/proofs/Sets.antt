@@ -6,26 +6,20 @@ use mathlib.Core.List.{List, [], _∷_}
 use mathlib.Core.Logic.{_↔_}
 use Prim.Native.Nat.{ℕ, suc, pred, _≤_, _<_}
 use native.Mathlib.Omega.{arith}
-use lib.Dec.{leb, eqb}
+use lib.Dec.{leb}
 use lib.ListN.{length}
-use borrow.Author.Tests.{le-leb, leb-true, eq-eqb, eqb-true}
+use borrow.Author.Tests.{le-leb, leb-true, eq-eqb}
 use Rattle.nets.specs.Net.{Net, Lasts, Fits, AcceptedLasso}
 use Rattle.nets.specs.Table.{level, Reached, Peaks, KeptCycle}
 use Rattle.nets.proofs.Levels.{passed-met}
 use Rattle.nets.proofs.Kept.{kept-returned}
 use Rattle.nets.proofs.Criterion.{criterion}
 use Rattle.closing.specs.Closed.{wordIf, onlyAt}
+use Rattle.closing.proofs.Closed.{only-at}
 use Rattle.sets.specs.Levels.{ReachedFrom}
 use Rattle.sets.specs.Sets.{counted, LastTable, sifted, PeakSet, KeptMember}
 use Rattle.sets.proofs.Counted.{counted-duty, counted-modes, counted-kept}
 use Rattle.sets.proofs.Hops.{Hop, HopFrom, hop-kept, come-round}
-
-only-at : (s y t x : ℕ) → onlyAt s y t ≡ suc x → (t ≡ s) × (y ≡ suc x)
-only-at s y t x q = go (eqb t s) refl q
-  where
-    go : (v : Bool) → eqb t s ≡ v → wordIf v y ≡ suc x → (t ≡ s) × (y ≡ suc x)
-    go true p h = (eqb-true t s p, h)
-    go false p h = absurd (omega arith)
 
 -- what is sifted stays, where it is reached again, or goes
 sifted-some : (x y : ℕ) → 0 < sifted x y → (sifted x y ≡ x) × (x ≤ y)

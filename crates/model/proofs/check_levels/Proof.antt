@@ -1,20 +1,15 @@
 -- `model::check_levels` meets its contract. Assumes nothing.
-use borrow.Author.Tests.{lt-ltb, le-ltb}
+use borrow.Author.Needs.{needs}
 use Rattle.model.specs.Fitness.{levelsOf}
 use Rattle.model.proofs.check_levels.Statement.{statement}
 use Rattle.model.proofs.check_levels.Tie as tie
 
+check-levels-within-requires : tie.Need-check-levels-within-requires
+check-levels-within-requires c κs = search needs
+
 returns : tie.Need-returns
 unfolding levelsOf
-returns c = simp (lt-ltb _ _ (c .if1 .taken))
-
-returns-2 : tie.Need-returns-2
-unfolding levelsOf
-returns-2 c = simp (le-ltb _ _ (c .before .if1 .left), lt-ltb _ _ (c .if2 .taken))
-
-returns-3 : tie.Need-returns-3
-unfolding levelsOf
-returns-3 c = simp (le-ltb _ _ (c .before .if1 .left), le-ltb _ _ (c .if2 .left))
+returns c = c .check-levels-within .ensures
 
 pub check-levels-spec : {M : Type 1} → statement M
-check-levels-spec = tie.close (tie.spec returns returns-2 returns-3)
+check-levels-spec = tie.close (tie.spec check-levels-within-requires returns)

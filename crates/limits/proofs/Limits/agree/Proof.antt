@@ -4,7 +4,7 @@ use Rattle.limits.proofs.Limits.agree.Statement.{statement}
 use Rattle.limits.proofs.Limits.agree.Tie as tie
 
 returns : tie.Need-returns
-returns c = (refl, (refl, (refl, (refl, (refl, (refl, (refl, (refl, (refl, (refl, (refl, (refl, (refl, (refl, (refl, refl)))))))))))))))
+returns c = (refl, (refl, (refl, (refl, (refl, (refl, (refl, (refl, (refl, (refl, (refl, (refl, (refl, (refl, (refl, (refl, (refl, refl)))))))))))))))))
 
 pub agree-spec : {M : Type 1} → statement M
 agree-spec = tie.close (tie.spec returns)
