@@ -1,4 +1,4 @@
-// One model: search's answer compared with the plain one.
+// One model: the answers of search and of the decision compared with the plain one.
 ghost use Prim.Native.Nat.{_≤_};
 ghost use Rattle.limits.specs.Ceilings.{programMost};
 use crate::buffers::is_clear;
@@ -9,6 +9,7 @@ use crate::calls::searched;
 use crate::candidates::ROOM;
 use crate::candidates::has_plan;
 use crate::checks::is_plan_right;
+use crate::decisions::is_decided;
 use crate::models::Model;
 use limits::Limits;
 use search::Searched;
@@ -103,6 +104,9 @@ pub fn try_model(model: Model, extra: usize) -> Outcome {
     let words = Limits::WORK_WORDS * sizes.room + extra % 4;
     let bytes = sizes.room + sizes.pairs + extra % 4;
     if !compare_turned(model, expected, &mut work[..words], &mut plan[..bytes]) {
+        return Outcome::Difference;
+    }
+    if !is_decided(model, expected) {
         return Outcome::Difference;
     }
     if expected {

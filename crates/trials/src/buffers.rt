@@ -53,3 +53,24 @@ pub fn is_clear(work: &[u16]) -> bool {
     }
     true
 }
+
+// Fills the working space of a decision with junk.
+pub fn junk_space(space: &mut [u32]) {
+    let mut i = 0;
+    while i < space.len() {
+        space[i] = (i % 65521 + 7) as u32;
+        i += 1;
+    }
+}
+
+// Whether every word of it is 0.
+pub fn is_zero(space: &[u32]) -> bool {
+    let mut i = 0;
+    while i < space.len() {
+        if space[i] != 0 {
+            return false;
+        }
+        i += 1;
+    }
+    true
+}

@@ -1,8 +1,10 @@
 // The calls of the planner for a model: the six lists lent up to its last arc, with the numbers.
 use crate::models::Model;
+use decide::decide;
 use judge::judge;
 use planwalk::WalkAnswer;
 use planwalk::walk;
+use refusals::Verdict;
 use search::Searched;
 use search::search;
 
@@ -32,6 +34,34 @@ pub fn searched(model: Model, work: &mut [u16], plan: &mut [u8]) -> Searched {
         on,
         work,
         plan,
+    )
+}
+
+// What the decision answers.
+pub fn decided(model: Model, space: &mut [u32]) -> Verdict {
+    let m = model.arcs as usize;
+    let sources = model.sources;
+    let targets = model.targets;
+    let draws = model.draws;
+    let gains = model.gains;
+    let masks = model.masks;
+    let actions = model.actions;
+    let on = model.on;
+    decide(
+        model.modes,
+        model.start as u32,
+        model.colours,
+        &sources[..m],
+        &targets[..m],
+        &draws[..m],
+        &gains[..m],
+        &masks[..m],
+        &actions[..m],
+        model.credit,
+        model.bound,
+        model.barred,
+        on,
+        space,
     )
 }
 

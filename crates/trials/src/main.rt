@@ -1,4 +1,4 @@
-// Tries search: document 01's examples M and N, and random models, each compared with a plain search over mode and charge. The buffers hold
+// Tries search and the decision: document 01's examples M and N, and random models, each compared with a plain search over mode and charge. The buffers hold
 // junk before each call; every plan handed back is judged, walked for each colour, and walked plainly, by arcs that are on. Prints the examples'
 // answers, and for each family of models how many there were, how many have a plan, how many have none, and the differences.
 //
@@ -9,6 +9,7 @@ mod buffers;
 mod calls;
 mod candidates;
 mod checks;
+mod decisions;
 mod examples;
 mod models;
 mod pairs;
