@@ -1,44 +1,38 @@
--- The table of peaks: an array of which a word for each mode is lent, to the pass that fills it and to the search for the first peak that a
--- cycle keeps. What that search says of plans. Assumes nothing.
-use mathlib.Core.Path.{_≡_, sym, subst}
+-- The peaks of modes: an array of which a word for each mode is lent, to the decision that leaves a set of peaks in it and to the search for the first of
+-- them that a cycle keeps. What both say of plans. Assumes nothing.
+use mathlib.Core.Path.{_≡_, sym, subst, _∙_}
+use mathlib.Core.Bool.{Bool, true, false}
 use mathlib.Core.List.{List, _++_}
-use Prim.Native.Nat.{ℕ, _+_, _-_, _≤_, _<_}
+use Prim.Native.Nat.{ℕ, _-_, _≤_, _<_}
 use native.Mathlib.Omega.{arith}
-use native.Mathlib.Decide.{decLe}
-use lib.ListN.{length, getD, take, drop, replicate, length-append, List·getD-append, List·getD-eq-default}
+use native.Mathlib.Decide.{decLt}
+use lib.ListN.{length, getD, take, drop, replicate, length-append, List·getD-append}
 use lib.Seq.{length-take-le, take-at}
+use Rattle.limits.specs.Ceilings.{modesMost}
+use Rattle.nets.specs.Net.{Net, AcceptedLasso}
 use Rattle.nets.specs.Table.{KeptCycle}
-use Rattle.nets.specs.Net.{Net, Usable, AcceptedLasso}
-use Rattle.nets.proofs.Tables.{table-bound}
-use Rattle.nets.proofs.Criterion.{criterion}
-use Rattle.passes.specs.Pass.{node}
-use Rattle.passes.specs.Outcome.{Peak, Peaked, FirstKept}
+use Rattle.passes.specs.Outcome.{Peak, FirstKept}
 use Rattle.passes.specs.declared.pass.Task.{Task}
 use Rattle.passes.specs.Tasks.{taskNet}
-use Rattle.passes.proofs.Nodes.{node-first}
-use Rattle.limits.specs.Ceilings.{modesMost}
-use Rattle.search.specs.Tasks.{Searchable}
+use Rattle.deciding.specs.declared.Question.{Question}
+use Rattle.deciding.specs.Deciding.{askedNet, Decidable, Below, KeptFound}
+use Rattle.search.specs.Tasks.{Searchable, questionOf}
 use Rattle.search.proofs.Tasks.{take-replicate}
 
 -- the array as it is made
 abbrev blankTable : List ℕ
 blankTable = replicate modesMost 0
 
--- and once the words for n modes are those of best
-abbrev filled : ℕ → List ℕ → List ℕ
-filled n best = best ++ drop n blankTable
+-- and once the words for n modes are those of kept
+abbrev pub filled : ℕ → List ℕ → List ℕ
+filled n kept = kept ++ drop n blankTable
 
--- no peak is above the bound
-peaked-low : {g : Net} {b c r : ℕ} {best w : List ℕ} → c ≤ b → length best ≡ g .modes → Peaked g b c best w r → (s : ℕ)
-    → getD best s 0 ≤ b + 1
-peaked-low {g} {b} {c} {best = best} hc e p s =
-    elim (decLe (length best) s) [
-      | yes q ↦ omega (arith, List·getD-eq-default best 0 q)
-      | no q ↦
-          let high : ℕ → ℕ → ℕ = λ l t. getD best (node (g .modes) l t) 0 in
-          let low = table-bound g (Usable g) 0 b (g .start) c high hc (p .table) 0 s (omega arith) (omega arith) in
-          omega (arith, rw (node-first (g .modes) s) at low)
-    ]
+-- y is the word of the peak of mode m, and a cycle keeps that peak
+pub record KeptMode (g : Net) (b c m y : ℕ) : Type 0 where
+  pub some : 1 ≤ y
+  pub low : y - 1 ≤ b
+  pub peak : Peak g b c m (y - 1)
+  pub cycle : KeptCycle g b m (y - 1)
 
 module _ {rows places : List ℕ} {t : Task} {words : ℕ} (able : Searchable rows places t words) where
   -- a word for each mode is lent
@@ -49,69 +43,86 @@ module _ {rows places : List ℕ} {t : Task} {words : ℕ} (able : Searchable ro
   pub lent-zeros : take (t .modes) blankTable ≡ replicate (t .modes) 0
   lent-zeros = take-replicate (t .modes) modesMost (able .few-modes)
 
--- once the pass has filled it
-module _ {rows places : List ℕ} {t : Task} {words r : ℕ} {best w : List ℕ} (able : Searchable rows places t words)
-    (peaked : Peaked (taskNet rows places t) (t .bound) (t .credit) best w r) (kept : length best ≡ length (take (t .modes) blankTable)) where
-  best-size : length best ≡ t .modes
-  best-size = omega (arith, lent-words able)
+  -- with a word for each mode, the decision can be asked
+  module _ {q : Question} (same : q ≡ questionOf t) where
+    askable : {n : ℕ} → n ≡ t .modes → Decidable rows places q n
+    askable e =
+        rw (same, e) (record {
+          few-modes = able .few-modes;
+          few-arcs = able .few-arcs;
+          few-duties = able .few-duties;
+          fits = able .fits;
+          grouped = able .grouped;
+          credit = able .credit;
+          low = omega (arith, able .low);
+        })
 
-  best-front : take (t .modes) (filled (t .modes) best) ≡ best
-  best-front = take-at best (drop (t .modes) blankTable) (t .modes) best-size
+    pub lent-askable : Decidable rows places q (length (take (t .modes) blankTable))
+    lent-askable = askable (sym lent-words)
 
-  -- it has a word for each mode,
-  pub filled-long : t .modes ≤ length (filled (t .modes) best)
-  filled-long = omega (arith, best-size, length-append best (drop (t .modes) blankTable))
+    -- once it has left a set of peaks
+    module _ {kept : List ℕ} {some : Bool} (size : length kept ≡ length (take (t .modes) blankTable))
+        (left : KeptFound (askedNet rows places q (length (take (t .modes) blankTable))) (q .bound) (q .credit) kept some) where
+      found : KeptFound (taskNet rows places t) (t .bound) (t .credit) kept some
+      found =
+          subst (λ (n : ℕ). KeptFound (askedNet rows places (questionOf t) n) (t .bound) (t .credit) kept some) (sym lent-words)
+          (subst (λ (y : Question). KeptFound (askedNet rows places y (length (take (t .modes) blankTable))) (y .bound) (y .credit) kept some) same left)
 
-  -- as many are lent again,
-  pub filled-count : length (take (t .modes) (filled (t .modes) best)) ≡ t .modes
-  filled-count = rw best-front best-size
+      kept-size : length kept ≡ t .modes
+      kept-size = size ∙ sym lent-words
 
-  -- and none of them is above the bound plus 1
-  pub filled-low : (s : ℕ) → getD (take (t .modes) (filled (t .modes) best)) s 0 ≤ t .bound + 1
-  filled-low s = rw best-front (peaked-low (able .credit) best-size peaked s)
+      kept-front : take (t .modes) (filled (t .modes) kept) ≡ kept
+      kept-front = take-at kept (drop (t .modes) blankTable) (t .modes) kept-size
 
-  -- where mode m is answered as the first whose peak is kept
-  module _ {m : ℕ} (lent : FirstKept (taskNet rows places t) (t .bound) (take (t .modes) (filled (t .modes) best)) m) where
-    first : FirstKept (taskNet rows places t) (t .bound) best m
-    first = rw best-front at lent
+      -- if it is empty, there is no lasso
+      pub no-plan : some ≡ false → AcceptedLasso (taskNet rows places t) (t .bound) (t .credit) → ⊥
+      no-plan e = found .none e
 
-    -- if it is none, there is no lasso
-    pub no-plan : m ≡ t .modes → AcceptedLasso (taskNet rows places t) (t .bound) (t .credit) → ⊥
-    no-plan all plan =
-        let n = t .modes in
-        let high : ℕ → ℕ → ℕ = λ l t. getD best (node n l t) 0 in
-        let peak = criterion (taskNet rows places t) (t .bound) (t .credit) high (able .fits) (able .credit) (peaked .table) .0 plan in
-        first .none (peak .mode) (omega (arith, peak .bounded))
-        (record { peak = peak .peak; listed = rw (node-first n (peak .mode)) at (peak .listed); cycle = peak .cycle })
+      -- the array has a word for each mode,
+      pub filled-long : t .modes ≤ length (filled (t .modes) kept)
+      filled-long = omega (arith, kept-size, length-append kept (drop (t .modes) blankTable))
 
-    -- else the word of mode m
-    module _ (other : m ≡ t .modes → ⊥) where
-      first-mode : m < t .modes
-      first-mode = omega (arith, first .within, other)
+      -- as many are lent again,
+      pub filled-count : length (take (t .modes) (filled (t .modes) kept)) ≡ t .modes
+      filled-count = rw kept-front kept-size
 
-      first-word : getD (filled (t .modes) best) m 0 ≡ getD best m 0
-      first-word = List·getD-append best (drop (t .modes) blankTable) 0 m (omega (arith, first-mode, best-size))
+      -- and with them the first that is kept can be asked for
+      pub filled-askable : Decidable rows places q (length (take (t .modes) (filled (t .modes) kept))) × Below (q .bound) (take (t .modes) (filled (t .modes) kept))
+      filled-askable = (askable filled-count, rw (kept-front, same) (found .below))
 
-      -- is not 0,
-      pub first-some : 1 ≤ getD (filled (t .modes) best) m 0
-      first-some = omega (arith, first-word, first .kept first-mode .listed)
+      -- where the set has members, and mode m is answered as the first whose peak is kept
+      module _ {m : ℕ} (full : some ≡ true)
+          (lent : FirstKept (askedNet rows places q (length (take (t .modes) (filled (t .modes) kept)))) (q .bound) (take (t .modes) (filled (t .modes) kept)) m) where
+        first : FirstKept (taskNet rows places t) (t .bound) kept m
+        first =
+            subst (λ (w : List ℕ). FirstKept (taskNet rows places t) (t .bound) w m) kept-front
+            (subst (λ (n : ℕ). FirstKept (askedNet rows places (questionOf t) n) (t .bound) (take (t .modes) (filled (t .modes) kept)) m) filled-count
+            (subst (λ (y : Question). FirstKept (askedNet rows places y (length (take (t .modes) (filled (t .modes) kept)))) (y .bound) (take (t .modes) (filled (t .modes) kept)) m)
+            same lent))
 
-      -- is that of a charge up to the bound,
-      pub first-low : getD (filled (t .modes) best) m 0 - 1 ≤ t .bound
-      first-low = omega (arith, first-word, peaked-low (able .credit) best-size peaked m)
+        -- it is a mode, since one of the members is kept
+        first-mode : m < t .modes
+        first-mode =
+            let one = found .kept full in
+            let inside = found .peaks (one .mode) (one .peak) (one .listed) .mode in
+            elim (decLt m (t .modes)) [
+              | yes h ↦ h
+              | no h ↦ absurd (first .none (one .mode) (omega arith) (record { peak = one .peak; listed = one .listed; cycle = one .cycle }))
+            ]
 
-      -- of the mode's peak,
-      pub first-peak : Peak (taskNet rows places t) (t .bound) (t .credit) m (getD (filled (t .modes) best) m 0 - 1)
-      first-peak =
-          record {
-            high = λ l s. getD best (node (t .modes) l s) 0;
-            peaks = peaked .table;
-            mode = first-mode;
-            listed = rw (node-first (t .modes) m) (omega (arith, first-word, first-some));
-          }
+        first-word : getD (filled (t .modes) kept) m 0 ≡ getD kept m 0
+        first-word = List·getD-append kept (drop (t .modes) blankTable) 0 m (omega (arith, first-mode, kept-size))
 
-      -- and of one that a cycle keeps
-      pub first-cycle : KeptCycle (taskNet rows places t) (t .bound) m (getD (filled (t .modes) best) m 0 - 1)
-      first-cycle =
-          let k = first .kept first-mode in
-          subst (λ (x : ℕ). KeptCycle (taskNet rows places t) (t .bound) m x) (omega (arith, first-word, k .listed)) (k .cycle)
+        first-some : 1 ≤ getD (filled (t .modes) kept) m 0
+        first-some = omega (arith, first-word, first .kept first-mode .listed)
+
+        -- its word in the array is that of its peak, and a cycle keeps it
+        pub first-peak : KeptMode (taskNet rows places t) (t .bound) (t .credit) m (getD (filled (t .modes) kept) m 0)
+        first-peak =
+            let k = first .kept first-mode in
+            record {
+              some = first-some;
+              low = omega (arith, first-word, found .below .below m);
+              peak = found .peaks m (getD (filled (t .modes) kept) m 0 - 1) (omega (arith, first-word, first-some));
+              cycle = subst (λ (x : ℕ). KeptCycle (taskNet rows places t) (t .bound) m x) (omega (arith, first-word, k .listed)) (k .cycle);
+            }

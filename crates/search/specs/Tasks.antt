@@ -17,6 +17,7 @@ use Rattle.groups.specs.Rows.{sourceAt, barredAt, onAt}
 use Rattle.groups.specs.Grouped.{arcCount, Grouped}
 use Rattle.passes.specs.declared.pass.Task.{Task}
 use Rattle.passes.specs.Tasks.{taskNet}
+use Rattle.deciding.specs.declared.Question.{Question}
 use Rattle.search.specs.declared.Searched.{Searched}
 use Rattle.search.specs.declared.Searched.the-variants as outcome
 use Rattle.search.specs.Search.{noPlan, searchable}
@@ -47,6 +48,10 @@ pub record Searchable (rows places : List ℕ) (t : Task) (words : ℕ) : Type 0
   pub low : t .bound ≤ boundMost
   pub product : t .modes * (t .bound + 1) ≤ productMost
   pub space : workSpace (t .duties) (t .modes) (t .bound) ≤ words
+
+-- what the decision is asked, in the words of the task
+abbrev pub questionOf : Task → Question
+questionOf t = record { start = t .start; duties = t .duties; credit = t .credit; bound = t .bound }
 
 -- the lasso that is handed back, as p and q and the first p + q bytes of the plan buffer
 pub record LassoFound (g : Net) (b c p q : ℕ) (plan plan′ : List ℕ) : Type 0 where

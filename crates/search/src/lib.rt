@@ -1,15 +1,15 @@
 // Search: a plan for a model, or that there is none. Refusals 1 to 10.
 //
-// A pass (crate passes) finds the greatest charge with which each node, a level and a mode, is reached. One pass over a single level finds
-// the peaks, the greatest charges of the modes. Then a pass from each mode with its peak, over the arcs without a barred colour and the levels
-// 0 to r, of r required colours, looks for an arc that comes back to the mode in the last level with the peak or more. The first that is found
-// closes a cycle; the prefix leads to its mode.
+// Whether there is a plan is decided first (crate deciding), over the set of all peaks at once and at a cost that does not depend on the bound, and
+// no pass runs for a "no". Else the plan goes by the first mode whose peak, the greatest charge with which the mode can be reached, is kept by a cycle.
+// Two passes (crate passes) write it: one over a single level, of which the walk to the mode with its peak is the prefix, and one from there over the
+// arcs without a barred colour and the levels 0 to r, of r required colours, which ends with an arc that comes back to the mode in the last level with
+// the peak or more, and so closes the cycle.
 ghost use mathlib.Core.Path.{_≡_};
 ghost use Prim.Native.Nat.{_≤_};
 ghost use Rattle.limits.specs.Ceilings.{modesMost, coloursMost, boundMost};
 ghost use Rattle.model.specs.Lists.{lists, held};
 ghost use Rattle.switches.specs.PlansOn.{SomePlanOn};
-ghost use Rattle.model.specs.Required.{required};
 ghost use mathlib.Core.Logic.{_↔_};
 ghost use lib.ListN.{length};
 ghost use Rattle.search.specs.Search.{noPlan, Answered, spaces, levelsAndSpaces, searchAnswer, SearchOf};
@@ -17,6 +17,7 @@ ghost use Rattle.search.specs.Tasks.{Solvable, checkedOf};
 
 mod plans;
 
+use deciding::count_required;
 use groups::group;
 use limits::Limits;
 use model::Fitted;
@@ -25,7 +26,7 @@ use model::check_levels;
 use model::check_model;
 use passes::entries::clear;
 use passes::pass::Task;
-use plans::decide;
+use plans::make_plan;
 use refusals::Answer;
 use refusals::Refusal;
 use refusals::Verdict;
@@ -138,22 +139,8 @@ fn check_search(
     }
 }
 
-// How many of k colours are required.
-fn count_required(k: u32, barred: u8) -> u32
-    requires { ⌜ k ≤ coloursMost ⌝ }
-    ensures { λ r. ⌜ r ≡ required barred k ⌝ }
-{
-    let mut count = 0u32;
-    let mut j = 0u32;
-    while j < k {
-        count += 1 - ((barred as u32) >> j) % 2;
-        j += 1;
-    }
-    count
-}
-
 // A plan for a fit model, of arcs that are on, or that there is none, by its groups and rows, "made inside the call, never lent" (document 02, Ask 7).
-fn decide_model(
+fn plan_model(
     model: Model,
     c: u16,
     b: u16,
@@ -180,7 +167,7 @@ fn decide_model(
         credit: c,
         bound: b,
     };
-    decide(&groups.rows, &groups.places, task, work, plan)
+    make_plan(&groups.rows, &groups.places, task, work, plan)
 }
 
 // Search, with a byte of barred colours and the switches of the arcs: p and q of a plan in the plan buffer, or 10 where there is none of arcs that are on, or the
@@ -226,7 +213,7 @@ pub fn search(
     let model = checked.model;
     match verdict {
         Verdict::Yes => {
-            let searched = decide_model(model, c as u16, b as u16, barred, on, work, plan);
+            let searched = plan_model(model, c as u16, b as u16, barred, on, work, plan);
             clear(work);
             searched
         }

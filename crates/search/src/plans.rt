@@ -1,17 +1,20 @@
-// A plan or that there is none: the peaks, the first mode whose peak a cycle keeps, and the prefix and the cycle that are written.
+// A plan or that there is none: the first mode whose peak a cycle keeps, as the crate deciding finds it, and the prefix and the cycle that are written.
 ghost use mathlib.Core.Path.{_≡_};
 ghost use mathlib.Core.Logic.{_↔_};
-ghost use Prim.Native.Nat.{ℕ, _+_, _≤_, _<_};
-ghost use lib.ListN.{length, getD, replicate};
+ghost use Prim.Native.Nat.{_≤_, _<_};
+ghost use lib.ListN.{length, replicate};
 ghost use Rattle.limits.specs.Ceilings.{planBuffer};
 ghost use Rattle.nets.specs.Table.{KeptCycle};
 ghost use Rattle.nets.specs.Net.{AcceptedLasso};
 ghost use Rattle.passes.specs.Pass.{nodes, room};
-ghost use Rattle.passes.specs.Outcome.{Peak, Peaked, CyclePassed, FirstKept, PrefixWritten, CycleWritten};
+ghost use Rattle.passes.specs.Outcome.{Peak, Peaked, CyclePassed, PrefixWritten, CycleWritten};
 ghost use Rattle.passes.specs.Tasks.{taskNet};
 ghost use Rattle.search.specs.Search.{noPlan};
-ghost use Rattle.search.specs.Tasks.{Searchable, Written};
+ghost use Rattle.search.specs.Tasks.{Searchable, questionOf, Written};
 use crate::Searched;
+use deciding::Question;
+use deciding::find_kept;
+use deciding::first_kept;
 use groups::PLACES;
 use groups::WORDS;
 use limits::Limits;
@@ -96,32 +99,6 @@ fn find_cycle(
     )
 }
 
-// The first mode whose peak a cycle keeps; the number of modes where there is none. A mode that is not reached has 0 in the table of peaks.
-fn first_kept(
-    rows: &[u16; WORDS],
-    places: &[u8; PLACES],
-    task: Task,
-    peaks: &[u16],
-    work: &mut [u16],
-) -> usize
-    requires { ⌜ Searchable (now rows) (now places) task (length (now work)) ⌝ }
-    requires { ⌜ (length (now peaks) ≡ task .modes) × ((s : ℕ) → getD (now peaks) s 0 ≤ task .bound + 1) ⌝ }
-    ensures { λ r. ⌜ FirstKept (taskNet (now (rows .entry)) (now (places .entry)) task) (task .bound) (now (peaks .entry)) r ⌝ }
-{
-    let mut mode = 0;
-    while mode < task.modes {
-        let peak = peaks[mode];
-        if peak > 0 {
-            let outcome = find_cycle(rows, places, task, mode, peak - 1, work);
-            if outcome.found {
-                return mode;
-            }
-        }
-        mode += 1;
-    }
-    mode
-}
-
 // Writes a prefix that leads to a mode with its peak, from byte 0 on, and returns its length.
 fn write_prefix(
     rows: &[u16; WORDS],
@@ -164,9 +141,22 @@ fn write_cycle(
     last + 1
 }
 
-// A plan, or that there is none: a prefix to the first mode whose peak a cycle keeps, and straight after it that cycle. The working space is
-// left as the passes leave it. Rows and places are fields of one value, so they have one lifetime.
-pub fn decide<'a>(
+// What is asked of the crate deciding, in its words of 32 bits.
+fn question_of(task: Task) -> Question
+    ensures { λ r. ⌜ r ≡ questionOf task ⌝ }
+{
+    Question {
+        start: task.start,
+        duties: task.duties,
+        credit: task.credit as u32,
+        bound: task.bound as u32,
+    }
+}
+
+// A plan, or that there is none: a prefix to the first mode whose peak a cycle keeps, and straight after it that cycle. Where there is none no pass
+// runs, so that the working space is as it was; else it is left as the passes leave it. Rows and places are fields of one value, so they have one
+// lifetime.
+pub fn make_plan<'a>(
     rows: &'a [u16; WORDS],
     places: &'a [u8; PLACES],
     task: Task,
@@ -179,13 +169,13 @@ pub fn decide<'a>(
     ensures answered { λ r. ⌜ Written (taskNet (now (rows .entry)) (now (places .entry)) task) (task .bound) (task .credit) (now (plan .entry)) (now (plan .exit)) r ⌝ }
 {
     let modes = task.modes;
-    let mut peaks = [0u16; MODES];
-    find_peaks(rows, places, task, &mut peaks[..modes], work);
-    let mode = first_kept(rows, places, task, &peaks[..modes], work);
-    if mode == modes {
+    let question = question_of(task);
+    let mut kept = [0u32; MODES];
+    if !find_kept(rows, places, question, &mut kept[..modes]) {
         return Searched::Refused(Refusal::NoPlan);
     }
-    let peak = peaks[mode] - 1;
+    let mode = first_kept(rows, places, question, &kept[..modes]);
+    let peak = (kept[mode] - 1) as u16;
     let p = write_prefix(rows, places, task, mode, peak, work, plan);
     let q = write_cycle(rows, places, task, mode, peak, work, &mut plan[p..]);
     let prefix = p as u32;

@@ -44,14 +44,14 @@ solvable t =
     let a = start d .args in
     told-solvable (a .n) (a .start) (a .k) (lists-of (start d)) (a .b) (a .c) _ _ (d .check-search .ensures) (t .enum-told .given .1)
 
-cast-decide-model : tie.Need-cast-decide-model
-cast-decide-model c = let able = solvable c in omega (arith, able .credit, able .low)
+cast-plan-model : tie.Need-cast-plan-model
+cast-plan-model c = let able = solvable c in omega (arith, able .credit, able .low)
 
-cast-decide-model-2 : tie.Need-cast-decide-model-2
-cast-decide-model-2 c = let able = solvable c in omega (arith, able .low)
+cast-plan-model-2 : tie.Need-cast-plan-model-2
+cast-plan-model-2 c = let able = solvable c in omega (arith, able .low)
 
-decide-model-requires : tie.Need-decide-model-requires
-decide-model-requires c κs = solvable (c .before .before)
+plan-model-requires : tie.Need-plan-model-requires
+plan-model-requires c κs = solvable (c .before .before)
 
 clear-requires : tie.Need-clear-requires
 clear-requires c κs = search needs
@@ -69,7 +69,7 @@ returns : tie.Need-returns
 returns c =
     let clear = c .before .before in
     let e = clear .before .before .before .before .before .before in
-    let y = e .decide-model in
+    let y = e .plan-model in
     let t = e .before .before .before in
     let d = checked t in
     let a = start d .args in
@@ -92,9 +92,9 @@ search-spec =
     (tie.spec
     check-search-requires
     enum-told
-    cast-decide-model
-    cast-decide-model-2
-    decide-model-requires
+    cast-plan-model
+    cast-plan-model-2
+    plan-model-requires
     clear-requires
     enum-known-verdict
     same-length

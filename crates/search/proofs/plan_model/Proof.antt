@@ -1,12 +1,12 @@
--- `search::decide_model` meets its contract: the rows and groups stand for the model. Assumes nothing.
+-- `search::plan_model` meets its contract: the rows and groups stand for the model. Assumes nothing.
 use Rattle.refusals.proofs.Tests.{differ-no}
 use Rattle.search.proofs.Standing.{solvable-searchable, solved-none, solved-answered}
 use borrow.Author.Needs.{needs}
-use Rattle.search.proofs.decide_model.Statement.{statement}
-use Rattle.search.proofs.decide_model.Tie as tie
+use Rattle.search.proofs.plan_model.Statement.{statement}
+use Rattle.search.proofs.plan_model.Tie as tie
 
 -- from what the decision asks to the number of duties, from there to the groups, and from these to the beginning
-abbrev duties-of : tie.After-decide-arg4 → tie.After-count-required
+abbrev duties-of : tie.After-make-plan-arg4 → tie.After-count-required
 duties-of c = c .before .before .before .before .before
 
 abbrev groups-of : tie.After-count-required → tie.After-group
@@ -33,8 +33,8 @@ count-required-requires c κs = start (c .before .before .before) .pre .holds .f
 cast-duties : tie.Need-cast-duties
 cast-duties c = search needs
 
-decide-requires : tie.Need-decide-requires
-decide-requires c κs =
+make-plan-requires : tie.Need-make-plan-requires
+make-plan-requires c κs =
     let k = duties-of c in
     let d = groups-of k in
     solvable-searchable (start d .args .barred) (start d .args .on) (start d .pre) (d .group .ensures) (k .count-required .ensures) (differ-no (start d .args .barred) 0 .0)
@@ -53,12 +53,12 @@ returns c =
     let x = start d .args .barred in
     let on = start d .args .on in
     let able = start d .pre in (
-      solved-none x on able (d .group .ensures) (k .count-required .ensures) (differ-no x 0 .0) (y .decide .ensures .0),
-      solved-answered x on able (d .group .ensures) (k .count-required .ensures) (differ-no x 0 .0) (y .decide .ensures .1),
+      solved-none x on able (d .group .ensures) (k .count-required .ensures) (differ-no x 0 .0) (y .make-plan .ensures .0),
+      solved-answered x on able (d .group .ensures) (k .count-required .ensures) (differ-no x 0 .0) (y .make-plan .ensures .1),
     )
 
-pub decide-model-spec : {M : Type 1} → statement M
-decide-model-spec =
+pub plan-model-spec : {M : Type 1} → statement M
+plan-model-spec =
     tie.close
     (tie.spec
     group-requires
@@ -67,7 +67,7 @@ decide-model-spec =
     cast-colours
     count-required-requires
     cast-duties
-    decide-requires
+    make-plan-requires
     same-length
     same-length-2
     returns)
