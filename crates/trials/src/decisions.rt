@@ -14,62 +14,51 @@ const SPACE: usize = Limits::DECIDE_WORDS
 // How many times as large the numbers are made.
 const SCALE: u16 = 100;
 
-// A model with larger numbers, and whether they are all within their ceilings.
-struct Scaled {
-    model: Model,
-    fits: bool,
-}
+// Stands for a decision that leaves a word of the space that is not 0; no call answers it.
+const UNCLEARED: u8 = 255;
 
-// A draw or a gain made larger, or one above the ceiling where it would pass it.
-fn enlarged(part: u16) -> u16 {
+// A draw or a gain made larger, or above its ceiling where it would pass it.
+fn enlarge_part(part: u16) -> u16 {
     if part > Limits::DRAW / SCALE {
         return Limits::DRAW + 1;
     }
     part * SCALE
 }
 
-// The model with draws, gains, credit and bound made larger.
-fn scaled(model: Model) -> Scaled {
+// The model with draws, gains, bound and credit made larger.
+fn enlarge(model: Model) -> Model {
     let mut other = model;
-    let mut fits = model.bound <= Limits::BOUND && model.credit <= Limits::BOUND;
     let m = model.arcs;
     let mut a: u8 = 0;
     while a < m {
         let at = a as usize;
-        let draw = enlarged(other.draws[at]);
-        let gain = enlarged(other.gains[at]);
-        other.draws[at] = draw;
-        other.gains[at] = gain;
-        fits = fits && draw <= Limits::DRAW && gain <= Limits::DRAW;
+        other.draws[at] = enlarge_part(other.draws[at]);
+        other.gains[at] = enlarge_part(other.gains[at]);
         a += 1;
     }
     other.bound = model.bound % (Limits::BOUND + 1) * (SCALE as u32);
     other.credit = model.credit % (Limits::BOUND + 1) * (SCALE as u32);
-    Scaled { model: other, fits }
+    other
 }
 
-// Whether the decision answers the number, and leaves a space of junk zero.
-fn is_answered(model: Model, number: u8) -> bool {
+// The number that the decision answers, with a space of junk.
+fn number_of(model: Model) -> u8 {
     let mut space = [0u32; SPACE];
     junk_space(&mut space);
     let verdict = decided(model, &mut space);
     let answer = verdict.answer();
-    if answer.number != number {
-        return false;
+    if answer.number % 10 == 0 && !is_zero(&space) {
+        return UNCLEARED;
     }
-    is_zero(&space)
+    answer.number
 }
 
-// Whether the decision is the expected one, for the model and for the larger one where that is fit.
+// Whether the decision is the expected one, also for the larger model; that one is unfit, 5, where a draw or a gain would pass its ceiling.
 pub fn is_decided(model: Model, expected: bool) -> bool {
-    let number = if expected { 0 } else { 10 };
-    if !is_answered(model, number) {
+    let right = if expected { 0 } else { 10 };
+    if number_of(model) != right {
         return false;
     }
-    let larger = scaled(model);
-    if !larger.fits {
-        return true;
-    }
-    let other = larger.model;
-    is_answered(other, number)
+    let larger = number_of(enlarge(model));
+    larger == right || larger == 5
 }
