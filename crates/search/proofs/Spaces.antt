@@ -6,7 +6,7 @@ use native.Mathlib.Nat.{add-zero, suc-mul, add-mul, mul-assoc, mul-le-mul}
 use native.Mathlib.Numerals.{add-one}
 use native.Mathlib.Omega.{arith}
 use lib.ListN.{length, take, drop, length-drop}
-use Rattle.limits.specs.Ceilings.{coloursMost, productMost, planMost, workWords, workLevels, workSpace, planLevels, planBuffer}
+use Rattle.limits.specs.Ceilings.{coloursMost, productMost, planMost, planLevels, planBuffer}
 use Rattle.judge.proofs.Arcs.{rest-part}
 use Rattle.passes.specs.Pass.{node, nodes, room}
 
@@ -24,13 +24,6 @@ module _ (k n b : ℕ) where
   buffer-short few product =
       let levels : k + planLevels ≤ coloursMost + planLevels = omega arith in
       omega (arith, mul-assoc (k + planLevels) n (b + 1), mul-le-mul levels product)
-
-  -- the working space holds the queue of the pass over the modes
-  pub queue-held : (r size : ℕ) → r ≤ room n b → workSpace k n b ≤ size → workWords * r ≤ size
-  unfolding room
-  queue-held r size few space =
-      let x = n * (b + 1) in
-      omega (arith, mul-assoc (workWords * (k + workLevels)) n (b + 1), mul-assoc workWords (k + workLevels) x, add-mul k workLevels x)
 
   -- a plan whose parts are as short as the passes has room in the buffer
   pub plan-held : (p q : ℕ) → p ≤ room n b → q ≤ room (nodes n k) b → p + q ≤ planBuffer k n b

@@ -10,12 +10,13 @@ use Rattle.limits.specs.Ceilings.{modesMost, coloursMost}
 use Rattle.groups.specs.Rows.{barredAt, onAt}
 use Rattle.passes.specs.Pass.{Pass, Ready, node, room}
 use Rattle.passes.specs.Queue.{Passed}
-use Rattle.passes.specs.Outcome.{Peaked, CyclePassed}
+use Rattle.passes.specs.Outcome.{Peak, CyclePassed}
 use Rattle.passes.specs.declared.pass.Task.{Task}
 use Rattle.passes.specs.Tasks.{taskNet, passOf}
-use Rattle.passes.proofs.Outcomes.{peaksPass, cyclePass, passed-peaked, passed-cycle}
+use Rattle.passes.proofs.Outcomes.{cyclePass, passed-cycle}
 use Rattle.passes.proofs.Queue.{ready-kept}
-use Rattle.search.specs.Tasks.{Searchable}
+use Rattle.search.specs.Tasks.{Searchable, PrefixPassed}
+use Rattle.search.proofs.Prefix.{prefixPass, passed-prefix}
 
 -- the most nodes of a pass
 abbrev pub nodesMost : ℕ
@@ -68,13 +69,14 @@ module _ {rows places : List ℕ} {t : Task} {words : ℕ} (able : Searchable ro
         × ((s < length table) × (c ≤ t .bound) × (table ≡ replicate (length table) 0))
     pass-asked lasting hs hc = (pass-ready lasting refl refl, (omega (arith, size, count), hc, rw size blank))
 
-  -- what the pass for the peaks leaves
-  pub peaks-left : {peaks best w : List ℕ} {found : Bool} {head a tail : ℕ} → peaks ≡ replicate (t .modes) 0 → length best ≡ length peaks
-      → length w ≡ words → Passed (peaksPass (taskNet rows places t) places (t .bound)) (t .start) (t .credit) best w found head a tail
-      → Peaked (taskNet rows places t) (t .bound) (t .credit) best w tail
-  peaks-left e hb hw p =
-      passed-peaked (taskNet rows places t) places (t .bound) (able .fits) (t .credit)
-      (pass-ready (omega arith) (sym (one-mul (t .modes))) e false hb hw) p
+  -- what the pass to mode m with its peak leaves
+  pub prefix-left : {m e : ℕ} {table best w : List ℕ} {found : Bool} {head a tail : ℕ} → Peak (taskNet rows places t) (t .bound) (t .credit) m e
+      → ((m ≡ t .start) × (e ≡ t .credit) → ⊥) → table ≡ replicate (t .modes) 0 → length best ≡ length table → length w ≡ words
+      → Passed (prefixPass (taskNet rows places t) places (t .bound) m e) (t .start) (t .credit) best w found head a tail
+      → PrefixPassed (taskNet rows places t) (t .bound) (t .credit) m e w head a
+  prefix-left {m} {e} peak other q hb hw p =
+      passed-prefix (taskNet rows places t) places (t .bound) (t .credit) m e (able .fits) peak other
+      (pass-ready (omega arith) (sym (one-mul (t .modes))) q false hb hw) p
 
   -- where nothing is barred all arcs last, so that the pass from mode m with charge e is that over the arcs that last
   cycle-same : (m e : ℕ) → taskPass rows places t (t .barred) (t .duties) (node (t .modes) (t .duties) m) e

@@ -6,7 +6,7 @@ use mathlib.Core.Logic.{_↔_}
 use Prim.Native.Nat.{ℕ, _+_, _-_, _*_, _≤_, _<_}
 use native.Mathlib.Numerals.{add-one}
 use native.Mathlib.Omega.{arith}
-use lib.ListN.{length, getD, take, drop, set, length-append, length-drop, drop-of-length-le}
+use lib.ListN.{length, take, drop, set, length-append, length-drop, drop-of-length-le}
 use lib.Seq.{length-take-le, take-at, drop-at, take-append-add, drop-append-add, take-suc-set, drop-set-lt, drop-drop}
 use Rattle.limits.specs.Ceilings.{coloursMost, productMost, planBuffer}
 use Rattle.refusals.proofs.Verdicts.{clash}
@@ -15,48 +15,43 @@ use Rattle.model.specs.Plans.{Plan}
 use Rattle.model.proofs.Required.{required-room}
 use Rattle.judge.specs.Shape.{planOf}
 use Rattle.judge.proofs.Arcs.{rest-part}
-use Rattle.nets.specs.Net.{Net, Usable, AcceptedLasso}
+use Rattle.nets.specs.Net.{Net, AcceptedLasso}
 use Rattle.nets.specs.Table.{KeptCycle}
 use Rattle.nets.specs.Whole.{whole, lassoPlan}
-use Rattle.nets.proofs.Tables.{table-unique}
 use Rattle.nets.proofs.Whole.{lasso-serves}
 use Rattle.nets.proofs.Criterion.{reached-lasso}
-use Rattle.passes.specs.Pass.{node}
-use Rattle.passes.specs.Queue.{SomeEntry, nodeAt, chargeAt}
 use Rattle.passes.specs.Trace.{Wrote}
-use Rattle.passes.specs.Outcome.{Peak, Peaked, CyclePassed, PrefixWritten, CycleWritten}
+use Rattle.passes.specs.Outcome.{CyclePassed, PrefixWritten, CycleWritten}
 use Rattle.search.specs.declared.Searched.{Searched}
 use Rattle.search.specs.declared.Searched.the-variants as outcome
 use Rattle.search.specs.Search as search
 use Rattle.search.specs.Search.{noPlan, Found, Answered}
-use Rattle.search.specs.Tasks.{LassoFound, Written, none, found}
-use Rattle.passes.proofs.Nodes.{node-first}
+use Rattle.search.specs.Tasks.{PrefixPassed, LassoFound, Written, none, found}
 use Rattle.search.proofs.Spaces.{plan-held, buffer-short, prefix-few, cycle-few}
 
-module _ {g : Net} {b c r : ℕ} {best w : List ℕ} (peaked : Peaked g b c best w r) where
-  -- the table that the pass leaves has the peak of a mode
-  peak-listed : {s e : ℕ} → Peak g b c s e → getD best s 0 ≡ e + 1
-  peak-listed {s} {e} p =
-      let table : ℕ → ℕ → ℕ = λ l t. getD best (node (g .modes) l t) 0 in
-      let same : p .high 0 s ≡ getD best (node (g .modes) 0 s) 0 =
-      table-unique g (Usable g) 0 b (g .start) c (p .high) table (p .peaks) (peaked .table) 0 s (omega arith) (p .mode)
-      in
-      omega (arith, rw (node-first (g .modes) s) at same, p .listed)
+-- bytes that are read back from an entry, and one arc more: later bytes are not touched
+last-later : {w : List ℕ} {i r : ℕ} {plan plan₁ : List ℕ} (a : ℕ) → Wrote w i plan plan₁ r → drop (r + 1) (set plan₁ r a) ≡ drop (r + 1) plan
+last-later {r = r} {plan} {plan₁} a wrote =
+    drop-set-lt (r + 1) plan₁ r a (omega arith) ∙ sym (drop-drop 1 r plan₁) ∙ ap {B = List ℕ} (drop 1) (wrote .later) ∙ drop-drop 1 r plan
 
-  -- and the queue an entry for it
-  pub peak-entry : {s e : ℕ} → Peak g b c s e → SomeEntry w 0 r s (e + 1)
-  peak-entry {s} {e} p =
-      let listed = peak-listed p in subst (λ (y : ℕ). SomeEntry w 0 r s y) listed (peaked .held s (p .mode) (omega (arith, listed)))
+-- at the beginning the prefix is empty
+pub prefix-none : {g : Net} {b c s e : ℕ} (plan : List ℕ) → s ≡ g .start → e ≡ c → PrefixWritten g b c s e plan plan 0
+prefix-none plan hs hc =
+    record {
+      few = omega arith;
+      arcs = record { reached = record { arcs = []; leads = sym hs; levels = refl; possible = tt; reaches = sym hc }; same = refl };
+      later = refl;
+    }
 
-  -- the arcs that are read back from an entry are the prefix that leads to its mode with its charge
-  pub prefix-written : {i s e x : ℕ} {plan plan′ : List ℕ} → i < r → nodeAt w i ≡ s → chargeAt w i ≡ e → Wrote w i plan plan′ x
-      → PrefixWritten g b c s e plan plan′ x
-  prefix-written {i} {x = x} {plan′ = plan′} h node charge wrote =
-      record {
-        few = omega (arith, peaked .few, wrote .few);
-        arcs = rw (node, charge) at (peaked .arcs i h (take x plan′) (wrote .arcs));
-        later = wrote .later;
-      }
+-- else it is the arcs that are read back from the entry of its last arc, and that arc
+pub prefix-written : {g : Net} {b c s e head a r : ℕ} {w plan plan₁ : List ℕ} → PrefixPassed g b c s e w head a → Wrote w head plan plan₁ r
+    → r < length plan₁ → PrefixWritten g b c s e plan (set plan₁ r a) (r + 1)
+prefix-written {a = a} {r} {plan₁ = plan₁} passed wrote long =
+    record {
+      few = omega (arith, passed .few, wrote .few);
+      arcs = rw (add-one r, take-suc-set plan₁ r a long) (passed .arcs (take r plan₁) (wrote .arcs));
+      later = last-later a wrote;
+    }
 
 module _ {g : Net} {b s e head a : ℕ} {w : List ℕ} {found : Bool} (passed : CyclePassed g b s e w found head a)
     (cycle : KeptCycle g b s e) where
@@ -75,9 +70,7 @@ module _ {g : Net} {b s e head a : ℕ} {w : List ℕ} {found : Bool} (passed : 
       record {
         few = omega (arith, passed .few cycle-found, wrote .few);
         arcs = rw (add-one r, take-suc-set plan₁ r a long) (passed .arcs cycle-found (take r plan₁) (wrote .arcs));
-        later =
-            drop-set-lt (r + 1) plan₁ r a (omega arith) ∙ sym (drop-drop 1 r plan₁) ∙ ap {B = List ℕ} (drop 1) (wrote .later)
-            ∙ drop-drop 1 r plan;
+        later = last-later a wrote;
       }
 
 module _ {g : Net} {b c s e p q : ℕ} {plan plan₁ part : List ℕ} (prefix : PrefixWritten g b c s e plan plan₁ p)

@@ -3,7 +3,7 @@
 use Prim.Native.Nat.{ℕ, _+_, _*_, _≤_, _<_}
 use mathlib.Core.Path.{_≡_}
 use mathlib.Core.Bool.{false}
-use mathlib.Core.List.{List}
+use mathlib.Core.List.{List, [], _∷_, _++_}
 use lib.ListN.{length, take, drop}
 use Rattle.limits.specs.Ceilings.{modesMost, arcsMost, coloursMost, boundMost, productMost, planMost, workSpace, planBuffer}
 use Rattle.model.specs.declared.Fitted.{Fitted}
@@ -16,6 +16,10 @@ use Rattle.nets.specs.Whole.{lassoPlan}
 use Rattle.groups.specs.Rows.{sourceAt, barredAt, onAt}
 use Rattle.groups.specs.Grouped.{arcCount, Grouped}
 use Rattle.passes.specs.declared.pass.Task.{Task}
+use Rattle.passes.specs.Pass.{room}
+use Rattle.passes.specs.Queue.{byteCount}
+use Rattle.passes.specs.Trace.{Linked, Traced}
+use Rattle.passes.specs.Outcome.{Arrival}
 use Rattle.passes.specs.Tasks.{taskNet}
 use Rattle.deciding.specs.declared.Question.{Question}
 use Rattle.search.specs.declared.Searched.{Searched}
@@ -52,6 +56,13 @@ pub record Searchable (rows places : List ℕ) (t : Task) (words : ℕ) : Type 0
 -- what the decision is asked, in the words of the task
 abbrev pub questionOf : Task → Question
 questionOf t = record { start = t .start; duties = t .duties; credit = t .credit; bound = t .bound }
+
+-- what the pass to mode s with its peak e leaves: the arcs to entry head and arc a come there
+pub record PrefixPassed (g : Net) (b c s e : ℕ) (w : List ℕ) (head a : ℕ) : Type 0 where
+  pub few : head < room (g .modes) b
+  pub linked : Linked w head
+  pub byte : a < byteCount
+  pub arcs : (l : List ℕ) → Traced w head 0 l → Arrival g b c s e (l ++ (a ∷ []))
 
 -- the lasso that is handed back, as p and q and the first p + q bytes of the plan buffer
 pub record LassoFound (g : Net) (b c p q : ℕ) (plan plan′ : List ℕ) : Type 0 where

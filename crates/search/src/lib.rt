@@ -2,9 +2,9 @@
 //
 // Whether there is a plan is decided first (crate deciding), over the set of all peaks at once and at a cost that does not depend on the bound, and
 // no pass runs for a "no". Else the plan goes by the first mode whose peak, the greatest charge with which the mode can be reached, is kept by a cycle.
-// Two passes (crate passes) write it: one over a single level, of which the walk to the mode with its peak is the prefix, and one from there over the
-// arcs without a barred colour and the levels 0 to r, of r required colours, which ends with an arc that comes back to the mode in the last level with
-// the peak or more, and so closes the cycle.
+// Two passes (crate passes) write it, and each ends with an arc that comes to that mode with the peak or more: for the prefix one from the start mode
+// over a single level, none where the prefix is empty; for the cycle one from the mode with its peak, over the arcs without a barred colour and the
+// levels 0 to r, of r required colours, which comes back in the last level.
 ghost use mathlib.Core.Path.{_≡_};
 ghost use Prim.Native.Nat.{_≤_};
 ghost use Rattle.limits.specs.Ceilings.{modesMost, coloursMost, boundMost};

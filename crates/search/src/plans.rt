@@ -1,16 +1,17 @@
 // A plan or that there is none: the first mode whose peak a cycle keeps, as the crate deciding finds it, and the prefix and the cycle that are written.
 ghost use mathlib.Core.Path.{_≡_};
+ghost use mathlib.Core.Bool.{true};
 ghost use mathlib.Core.Logic.{_↔_};
 ghost use Prim.Native.Nat.{_≤_, _<_};
-ghost use lib.ListN.{length, replicate};
+ghost use lib.ListN.{length};
 ghost use Rattle.limits.specs.Ceilings.{planBuffer};
 ghost use Rattle.nets.specs.Table.{KeptCycle};
 ghost use Rattle.nets.specs.Net.{AcceptedLasso};
 ghost use Rattle.passes.specs.Pass.{nodes, room};
-ghost use Rattle.passes.specs.Outcome.{Peak, Peaked, CyclePassed, PrefixWritten, CycleWritten};
+ghost use Rattle.passes.specs.Outcome.{Peak, CyclePassed, PrefixWritten, CycleWritten};
 ghost use Rattle.passes.specs.Tasks.{taskNet};
 ghost use Rattle.search.specs.Search.{noPlan};
-ghost use Rattle.search.specs.Tasks.{Searchable, questionOf, Written};
+ghost use Rattle.search.specs.Tasks.{Searchable, questionOf, PrefixPassed, Written};
 use crate::Searched;
 use deciding::Question;
 use deciding::find_kept;
@@ -18,7 +19,6 @@ use deciding::first_kept;
 use groups::PLACES;
 use groups::WORDS;
 use limits::Limits;
-use passes::entries::entry_of;
 use passes::entries::trace;
 use passes::pass;
 use passes::pass::Aim;
@@ -31,37 +31,38 @@ const MODES: usize = Limits::MODES as usize;
 
 const NODES: usize = ((Limits::COLOURS as usize) + 1) * MODES;
 
-// The pass for the peaks: from the start mode with the credit, over a single level; least is above the bound, so that no arc closes a cycle.
-// Returns the number of entries.
-fn find_peaks(
+// The pass to a mode with its peak: from the start mode with the credit, over a single level. It ends at the first arc that comes there with the peak or
+// more, and no charge of the mode is above its peak.
+fn find_prefix(
     rows: &[u16; WORDS],
     places: &[u8; PLACES],
     task: Task,
-    peaks: &mut [u16],
+    mode: usize,
+    peak: u16,
     work: &mut [u16],
-) -> usize
+) -> Outcome
     requires { ⌜ Searchable (now rows) (now places) task (length (now work)) ⌝ }
-    requires { ⌜ now peaks ≡ replicate (task .modes) 0 ⌝ }
-    ensures { λ r. ⌜ Peaked (taskNet (now (rows .entry)) (now (places .entry)) task) (task .bound) (task .credit) (now (peaks .exit)) (now (work .exit)) r ⌝ }
+    requires { ⌜ Peak (taskNet (now rows) (now places) task) (task .bound) (task .credit) mode peak × ((mode ≡ task .start) × (peak ≡ task .credit) → ⊥) ⌝ }
+    ensures { λ r. ⌜ PrefixPassed (taskNet (now (rows .entry)) (now (places .entry)) task) (task .bound) (task .credit) mode peak (now (work .exit)) (r .head) (r .arc) ⌝ }
 {
-    let least = task.bound + 1;
+    let modes = task.modes;
     let aim = Aim {
         lasting: false,
         last: 0,
-        goal: 0,
-        least,
+        goal: mode,
+        least: peak,
     };
-    let outcome = pass::run(
+    let mut best = [0u16; MODES];
+    pass::run(
         rows,
         places,
         task,
         aim,
         task.start,
         task.credit,
-        peaks,
+        &mut best[..modes],
         work,
-    );
-    outcome.tail
+    )
 }
 
 // The pass from a mode with a charge, over the arcs that last and a level for each duty and one more: an arc that comes back to the mode in the
@@ -99,7 +100,17 @@ fn find_cycle(
     )
 }
 
-// Writes a prefix that leads to a mode with its peak, from byte 0 on, and returns its length.
+// Whether a mode with a charge is the start mode with the credit.
+fn is_beginning(task: Task, mode: usize, charge: u16) -> bool
+    ensures { λ r. ⌜ (r ≡ true) ↔ ((mode ≡ task .start) × (charge ≡ task .credit)) ⌝ }
+{
+    if mode != task.start {
+        return false;
+    }
+    charge == task.credit
+}
+
+// Writes a prefix that leads to a mode with its peak, from byte 0 on, and returns its length: 0 at the beginning, and else the pass has a last arc.
 fn write_prefix(
     rows: &[u16; WORDS],
     places: &[u8; PLACES],
@@ -114,10 +125,13 @@ fn write_prefix(
     requires { ⌜ room (task .modes) (task .bound) ≤ length (now plan) ⌝ }
     ensures { λ r. ⌜ PrefixWritten (taskNet (now (rows .entry)) (now (places .entry)) task) (task .bound) (task .credit) mode peak (now (plan .entry)) (now (plan .exit)) r ⌝ }
 {
-    let modes = task.modes;
-    let mut peaks = [0u16; MODES];
-    let tail = find_peaks(rows, places, task, &mut peaks[..modes], work);
-    trace(work, entry_of(work, tail, mode, peak), plan)
+    if is_beginning(task, mode, peak) {
+        return 0;
+    }
+    let outcome = find_prefix(rows, places, task, mode, peak, work);
+    let last = trace(work, outcome.head, plan);
+    plan[last] = outcome.arc as u8;
+    last + 1
 }
 
 // Writes a cycle from a mode that keeps a charge, from byte 0 of its part of the plan buffer on, and returns its length.

@@ -1,47 +1,53 @@
--- `plans::write_prefix` meets its contract: the pass for the peaks has an entry for the peak, and its arcs are the prefix. Assumes
--- nothing.
+-- `plans::write_prefix` meets its contract: at the beginning the prefix is empty; else the pass finds an arc that comes to the peak, and the arcs read
+-- back and that arc are the prefix. Assumes nothing.
+use mathlib.Core.Bool.{false≢true}
+use mathlib.Core.Path.{sym, _∙_}
 use native.Mathlib.Omega.{arith}
 use borrow.Author.Needs.{needs}
-use Rattle.search.proofs.Spaces.{queue-held}
-use Rattle.search.proofs.Written.{peak-entry, prefix-written}
-use Rattle.search.proofs.Peaks.{lent-words, lent-zeros}
+use Rattle.search.proofs.Written.{prefix-none, prefix-written}
 use Rattle.search.proofs.plans.write_prefix.Statement.{statement}
 use Rattle.search.proofs.plans.write_prefix.Tie as tie
 
--- from the pass to the beginning, and from the entry to the pass
-abbrev start : tie.After-find-peaks → tie.Start
-start f = f .before .before .before .before .before
+-- from the pass to the beginning, and from the arcs read back to the pass
+abbrev start : tie.After-find-prefix → tie.Start
+start d = d .before .before .before .before .before .before
 
-abbrev pass-of : tie.After-entry-of → tie.After-find-peaks
-pass-of e = e .before .before .before .before .before
+abbrev pass-of : tie.After-trace → tie.After-find-prefix
+pass-of d = d .before .before .before .before .before
 
-array-borrow-prefix-peaks : tie.Need-array-borrow-prefix-peaks
-array-borrow-prefix-peaks c = search needs
+is-beginning-requires : tie.Need-is-beginning-requires
+is-beginning-requires c κs = search needs
 
-slice-aggregate-find-peaks : tie.Need-slice-aggregate-find-peaks
-slice-aggregate-find-peaks c = lent-words (c .before .before .before .pre .0)
+returns : tie.Need-returns
+returns c =
+    let here = c .before .is-beginning .ensures .0 (c .if1 .taken) in
+    prefix-none _ (here .0) (here .1)
 
-find-peaks-requires : tie.Need-find-peaks-requires
-find-peaks-requires c κs = let s = c .before .before .before .before in (s .pre .0, lent-zeros (s .pre .0))
-
-entry-of-requires : tie.Need-entry-of-requires
-entry-of-requires c κs =
-    let d = c .before .before .before .before in
-    let f = d .find-peaks in
-    let s = start d in
-    let t = s .args .task in
-    let size = f .kept .1 .1 .1 .1 .0 in (
-      peak-entry (f .ensures) (s .pre .1 .0),
-      queue-held (t .duties) (t .modes) (t .bound) (f .result) _ (f .ensures .few) (omega (arith, size, s .pre .0 .space)),
-    )
+find-prefix-requires : tie.Need-find-prefix-requires
+find-prefix-requires c κs =
+    let s = c .before .before .before .before .before in
+    let begun = c .before .before .is-beginning .ensures in
+    (s .pre .0, (s .pre .1 .0, λ here. false≢true (sym (c .before .if1 .left) ∙ begun .1 here)))
 
 trace-requires : tie.Need-trace-requires
 trace-requires c κs =
-    let e = c .before in
-    let d = pass-of e in
-    let peaked = d .find-peaks .ensures in
-    let here = e .entry-of in
-    (peaked .linked (here .result) (here .ensures .0), omega (arith, here .ensures .0, peaked .few, start d .pre .1 .1))
+    let f = c .before .before .before .before in
+    let passed = f .find-prefix .ensures in
+    (passed .linked, omega (arith, passed .few, start f .pre .1 .1))
+
+cast-plan : tie.Need-cast-plan
+cast-plan c = omega (arith, c .before .before .before .before .before .before .before .before .find-prefix .ensures .byte)
+
+slice-write-plan : tie.Need-slice-write-plan
+slice-write-plan c =
+    let t = c .before .before .before in
+    let f = pass-of t in
+    omega (arith, f .find-prefix .ensures .few, t .trace .ensures .few, t .trace .kept .1 .1 .0, start f .pre .1 .1)
+
+add-result : tie.Need-add-result
+add-result c =
+    let t = c .before .before .before in
+    omega (arith, slice-write-plan c, t .trace .kept .1 .1 .0, start (pass-of t) .good .1 .1 .1 .1 .1 .1 .0)
 
 same-length : tie.Need-same-length
 same-length c = search needs
@@ -49,22 +55,20 @@ same-length c = search needs
 same-length-2 : tie.Need-same-length-2
 same-length-2 c = search needs
 
-returns : tie.Need-returns
-returns c =
-    let t = c .before .before in
-    let e = t .before .before in
-    let here = e .entry-of .ensures in
-    prefix-written (pass-of e .find-peaks .ensures) (here .0) (here .1) (here .2) (t .trace .ensures)
+returns-2 : tie.Need-returns-2
+returns-2 c = let t = c .before .before .before in prefix-written (pass-of t .find-prefix .ensures) (t .trace .ensures) (slice-write-plan c)
 
 pub write-prefix-spec : {M : Type 1} → statement M
 write-prefix-spec =
     tie.close
     (tie.spec
-    array-borrow-prefix-peaks
-    slice-aggregate-find-peaks
-    find-peaks-requires
-    entry-of-requires
+    is-beginning-requires
+    returns
+    find-prefix-requires
     trace-requires
+    cast-plan
+    slice-write-plan
+    add-result
     same-length
     same-length-2
-    returns)
+    returns-2)
