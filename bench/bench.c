@@ -1,6 +1,7 @@
 /*
- * The benchmark: the library against the same algorithm in C, compiled with -O2 and with -O3. Answers and buffers are compared first, and a
- * difference ends the run; then each is timed. It prints times and ratios and asserts no time.
+ * The benchmark: the library against the same algorithm in C, compiled with -O2 and with -O3, and search and the decision also against two
+ * other ways to tell whether there is a plan. Answers and buffers are compared first, and a difference ends the run; then each is timed. It
+ * prints times and ratios and asserts no time.
  */
 #define _POSIX_C_SOURCE 199309L
 
@@ -13,17 +14,20 @@
 #include "chargeplan.h"
 #include "inputs.h"
 #include "reference.h"
+#include "rivals.h"
 
 enum {
-    VERSIONS = 3,
+    VERSIONS = 5,
     SET_MOST = 16,
     REPETITIONS = 15,
     SAMPLE_MICROSECONDS = 5000,
     TRIES_MOST = 100000,
     WORK_WORDS = CHARGEPLAN_WORK_WORDS_MOST,
+    DECIDE_WORDS = CHARGEPLAN_DECIDE_WORDS_MOST,
     PLAN_BYTES = CHARGEPLAN_PLAN_BYTES_MOST
 };
 
+/* The entries of the library or of a reference; or a rival, which has none of them. */
 struct version {
     const char *name;
     search_entry *search;
@@ -33,11 +37,13 @@ struct version {
     ward_entry *ward;
     reach_start_entry *reach_start;
     reach_switch_entry *reach_switch;
+    decide_entry *decide;
+    rival_entry *rival;
 };
 
 /*
  * A set of inputs of one kind that have the same number as answer. Plans to be judged have `length` arcs. Texts to be read have `comments`
- * comments and the colours of each arc `times` times.
+ * comments and the colours of each arc `times` times. Models to be decided have the bound `b`.
  */
 struct family {
     const char *name;
@@ -48,15 +54,18 @@ struct family {
     uint32_t length;
     size_t comments;
     size_t times;
+    uint32_t b;
 };
 
 static const struct version versions[VERSIONS] = {
     {"library", chargeplan_search, chargeplan_judge, chargeplan_read, chargeplan_join, chargeplan_ward, chargeplan_reach_start,
-     chargeplan_reach_switch},
+     chargeplan_reach_switch, chargeplan_decide, NULL},
     {"C -O2", reference_o2_search, reference_o2_judge, reference_o2_read, reference_o2_join, reference_o2_ward,
-     reference_o2_reach_start, reference_o2_reach_switch},
+     reference_o2_reach_start, reference_o2_reach_switch, reference_o2_decide, NULL},
     {"C -O3", reference_o3_search, reference_o3_judge, reference_o3_read, reference_o3_join, reference_o3_ward,
-     reference_o3_reach_start, reference_o3_reach_switch},
+     reference_o3_reach_start, reference_o3_reach_switch, reference_o3_decide, NULL},
+    {"Algorithm 1", NULL, NULL, NULL, NULL, NULL, NULL, NULL, NULL, algorithm_1},
+    {"plain search", NULL, NULL, NULL, NULL, NULL, NULL, NULL, NULL, search_configurations},
 };
 
 /* The lists that reading and the join fill, and the numbers that they answer. */
@@ -75,7 +84,7 @@ struct filled {
 
 /*
  * Allocated once: the inputs of a family, their habits, their plans to be judged, their texts, their wearers, the buffers of search, the
- * lists to be filled, the reach that was made last, and what the library left in these.
+ * working space of the decision, the lists to be filled, the reach that was made last, and what the library left in these.
  */
 static struct input inputs[SET_MOST], habits[SET_MOST];
 static uint8_t judged[SET_MOST][CHARGEPLAN_PLAN_MOST];
@@ -83,6 +92,7 @@ static char hoa[SET_MOST][TEXT_MOST], dimacs[SET_MOST][TEXT_MOST];
 static struct chargeplan_wearer wearers[SET_MOST][WEARERS], library_wearers[WEARERS];
 static uint16_t work[WORK_WORDS], library_work[WORK_WORDS];
 static uint8_t plan[PLAN_BYTES], library_plan[PLAN_BYTES];
+static uint32_t decide_work[DECIDE_WORDS], library_decide_work[DECIDE_WORDS];
 static struct filled filled, library_filled;
 static struct chargeplan_reach reach, library_reach;
 
@@ -92,12 +102,30 @@ static void fail(const struct family *family, const char *what)
     exit(1);
 }
 
+static uint64_t call_rival(const struct version *version, const struct input *in)
+{
+    struct chargeplan_model m = model_of_input(in);
+
+    return version->rival(&m, in->c, in->b, in->barred, in->on);
+}
+
 static uint64_t call_search(const struct version *version, const struct input *in)
 {
+    if (version->rival != NULL)
+        return call_rival(version, in);
     return version->search(in->n, in->start, in->k, in->sources, in->arcs, in->targets, in->arcs, in->draws, in->arcs,
                            in->gains, in->arcs, in->colours, in->arcs, in->actions, in->arcs, in->c, in->b, in->barred, in->on[0],
                            in->on[1], in->on[2], in->on[3], work, chargeplan_work_words(in->n, in->k, in->b), plan,
                            chargeplan_plan_bytes(in->n, in->k, in->b));
+}
+
+static uint64_t call_decide(const struct version *version, const struct input *in)
+{
+    if (version->rival != NULL)
+        return call_rival(version, in);
+    return version->decide(in->n, in->start, in->k, in->sources, in->arcs, in->targets, in->arcs, in->draws, in->arcs,
+                           in->gains, in->arcs, in->colours, in->arcs, in->actions, in->arcs, in->c, in->b, in->barred, in->on[0],
+                           in->on[1], in->on[2], in->on[3], decide_work, chargeplan_decide_words(in->n, in->k));
 }
 
 static uint64_t call_judge(const struct version *version, const struct input *in)
@@ -181,62 +209,81 @@ static uint64_t call_switch_to_same(const struct version *version, const struct 
 }
 
 static const struct family families[] = {
-    {"search, random, 64 modes, 255 arcs, b 127, with a plan", call_search, make_64_modes, 16, 0, 0, 0, 0},
-    {"search, random, 64 modes, 255 arcs, b 127, without", call_search, make_64_modes, 16, 10, 0, 0, 0},
-    {"search, chain of 64 modes with +1 loops, b 127, without", call_search, make_chain, 1, 10, 0, 0, 0},
-    {"search, document 001's figure 6, b 60, with a plan", call_search, make_figure_6, 1, 0, 0, 0, 0},
-    {"search, ring of 64 modes, 255 arcs, b 127, without", call_search, make_ring, 1, 10, 0, 0, 0},
-    {"search, random, 8 modes, 64 arcs, b 1,023, with a plan", call_search, make_8_modes, 16, 0, 0, 0, 0},
-    {"search, random, 8 modes, 64 arcs, b 1,023, without", call_search, make_8_modes, 16, 10, 0, 0, 0},
-    {"search, 1 mode, 255 arcs, b 8,191, k 0, with a plan", call_search, make_one_mode, 16, 0, 0, 0, 0},
-    {"search, 1 mode, 255 arcs, b 8,191, k 4, with a plan", call_search, make_one_mode_colours, 16, 0, 0, 0, 0},
-    {"search, 1 mode, 255 arcs, b 8,191, k 1, without", call_search, make_one_mode_climb, 4, 10, 0, 0, 0},
-    {"judging, 1 arc", call_judge, make_plan, 16, 0, 1, 0, 0},
-    {"judging, 255 arcs", call_judge, make_plan, 16, 0, 255, 0, 0},
-    {"judging, 4,000 arcs", call_judge, make_plan, 16, 0, 4000, 0, 0},
-    {"judging, 65,000 arcs", call_judge, make_plan, 16, 0, 65000, 0, 0},
-    {"judging, 65,000 arcs, many steps cut off at the bound", call_judge, make_steep_plan, 16, 0, 65000, 0, 0},
-    {"search, 64 modes, 255 arcs with both parts, with a plan", call_search, make_64_modes_both, 16, 0, 0, 0, 0},
-    {"judging, 65,000 arcs with both parts", call_judge, make_plan_both, 16, 0, 65000, 0, 0},
-    {"judging, 65,000 arcs, below, exactly and above the bound", call_judge, make_low_bound_plan, 16, 0, 65000, 0, 0},
-    {"search, 64 modes, 255 arcs, a colour barred, with a plan", call_search, make_64_modes_barred, 16, 0, 0, 0, 0},
-    {"judging, 65,000 arcs, a colour barred", call_judge, make_plan_barred, 16, 0, 65000, 0, 0},
-    {"reading, 64 modes, 255 arcs, sources ascending", call_read, make_model_with_texts, 16, 0, 0, 0, 1},
-    {"reading, the same with 1,000 comments of 64 bytes", call_read, make_model_with_texts, 4, 0, 0, 1000, 1},
-    {"reading, the same with 2,000 comments", call_read, make_model_with_texts, 4, 0, 0, 2000, 1},
-    {"reading, the same with 4,000 comments", call_read, make_model_with_texts, 4, 0, 0, 4000, 1},
-    {"reading, the same with each colour 100 times", call_read, make_model_with_texts, 4, 0, 0, 0, 100},
-    {"reading, the same with each colour 200 times", call_read, make_model_with_texts, 4, 0, 0, 0, 200},
-    {"reading, the same with each colour 400 times", call_read, make_model_with_texts, 4, 0, 0, 0, 400},
-    {"reading, 64 modes, 255 arcs, sources descending", call_read, make_descending_model, 16, 0, 0, 0, 1},
-    {"reading, the same with each colour 100 times", call_read, make_descending_model, 4, 0, 0, 0, 100},
-    {"reading, the same with each colour 200 times", call_read, make_descending_model, 4, 0, 0, 0, 200},
-    {"reading, the same with each colour 400 times", call_read, make_descending_model, 4, 0, 0, 0, 400},
-    {"join, 255 by 255 arcs, 255 pairs written", call_join, make_large_join, 16, 0, 0, 0, 0},
-    {"join, 12 by 4 arcs, 12 pairs written", call_join, make_small_join, 16, 0, 0, 0, 0},
-    {"ward, 1,000 wearers, 255 arcs, a plan of 64 arcs", call_ward, make_ward, 16, 0, 64, 0, 0},
-    {"ward, 1,000 wearers, 255 arcs, a plan of 640 arcs", call_ward, make_ward, 16, 0, 640, 0, 0},
-    {"ward, 1,000 wearers with 6: the checks of 255 arcs alone", call_ward, make_ward_of_sixes, 16, 6, 64, 0, 0},
-    {"search, 64 modes, 255 arcs, one in four off, with a plan", call_search, make_64_modes_off, 16, 0, 0, 0, 0},
-    {"reach, random, 64 modes, 255 arcs, b 127", call_reach, make_reach, 16, 0, 0, 0, 0},
-    {"reach, the same, b 8,191", call_reach, make_far_reach, 16, 0, 0, 0, 0},
-    {"search for the peaks alone, the same, b 127", call_search, make_reach, 16, 10, 0, 0, 0},
-    {"reach, chain of 64 modes with +1 loops, b 127", call_reach, make_reach_chain, 1, 0, 0, 0, 0},
-    {"reach, the same, b 8,191", call_reach, make_far_reach_chain, 1, 0, 0, 0, 0},
-    {"search for the peaks alone, the same, b 127", call_search, make_reach_chain, 1, 10, 0, 0, 0},
-    {"reach, ring of 64 modes, 255 arcs, b 127", call_reach, make_reach_ring, 1, 0, 0, 0, 0},
-    {"reach, the same, b 8,191", call_reach, make_far_reach_ring, 1, 0, 0, 0, 0},
-    {"search for the peaks alone, the same, b 127", call_search, make_reach_ring, 1, 10, 0, 0, 0},
-    {"switching an arc off, random, 64 modes, 255 arcs, b 127", call_switch, make_switching, 16, 0, 0, 0, 0},
-    {"switching, the same, b 8,191", call_switch, make_far_switching, 16, 0, 0, 0, 0},
-    {"switching to what it is: the checks of 255 arcs alone", call_switch_to_same, make_switching, 16, 0, 0, 0, 0},
+    {"search, random, 64 modes, 255 arcs, b 127, with a plan", call_search, make_64_modes, 16, 0, 0, 0, 0, 0},
+    {"search, random, 64 modes, 255 arcs, b 127, without", call_search, make_64_modes, 16, 10, 0, 0, 0, 0},
+    {"search, chain of 64 modes with +1 loops, b 127, without", call_search, make_chain, 1, 10, 0, 0, 0, 0},
+    {"search, document 001's figure 6, b 60, with a plan", call_search, make_figure_6, 1, 0, 0, 0, 0, 0},
+    {"search, ring of 64 modes, 255 arcs, b 127, without", call_search, make_ring, 1, 10, 0, 0, 0, 0},
+    {"search, random, 8 modes, 64 arcs, b 1,023, with a plan", call_search, make_8_modes, 16, 0, 0, 0, 0, 0},
+    {"search, random, 8 modes, 64 arcs, b 1,023, without", call_search, make_8_modes, 16, 10, 0, 0, 0, 0},
+    {"search, 1 mode, 255 arcs, b 8,191, k 0, with a plan", call_search, make_one_mode, 16, 0, 0, 0, 0, 0},
+    {"search, 1 mode, 255 arcs, b 8,191, k 4, with a plan", call_search, make_one_mode_colours, 16, 0, 0, 0, 0, 0},
+    {"search, 1 mode, 255 arcs, b 8,191, k 1, without", call_search, make_one_mode_climb, 4, 10, 0, 0, 0, 0},
+    {"judging, 1 arc", call_judge, make_plan, 16, 0, 1, 0, 0, 0},
+    {"judging, 255 arcs", call_judge, make_plan, 16, 0, 255, 0, 0, 0},
+    {"judging, 4,000 arcs", call_judge, make_plan, 16, 0, 4000, 0, 0, 0},
+    {"judging, 65,000 arcs", call_judge, make_plan, 16, 0, 65000, 0, 0, 0},
+    {"judging, 65,000 arcs, many steps cut off at the bound", call_judge, make_steep_plan, 16, 0, 65000, 0, 0, 0},
+    {"search, 64 modes, 255 arcs with both parts, with a plan", call_search, make_64_modes_both, 16, 0, 0, 0, 0, 0},
+    {"judging, 65,000 arcs with both parts", call_judge, make_plan_both, 16, 0, 65000, 0, 0, 0},
+    {"judging, 65,000 arcs, below, exactly and above the bound", call_judge, make_low_bound_plan, 16, 0, 65000, 0, 0, 0},
+    {"search, 64 modes, 255 arcs, a colour barred, with a plan", call_search, make_64_modes_barred, 16, 0, 0, 0, 0, 0},
+    {"judging, 65,000 arcs, a colour barred", call_judge, make_plan_barred, 16, 0, 65000, 0, 0, 0},
+    {"reading, 64 modes, 255 arcs, sources ascending", call_read, make_model_with_texts, 16, 0, 0, 0, 1, 0},
+    {"reading, the same with 1,000 comments of 64 bytes", call_read, make_model_with_texts, 4, 0, 0, 1000, 1, 0},
+    {"reading, the same with 2,000 comments", call_read, make_model_with_texts, 4, 0, 0, 2000, 1, 0},
+    {"reading, the same with 4,000 comments", call_read, make_model_with_texts, 4, 0, 0, 4000, 1, 0},
+    {"reading, the same with each colour 100 times", call_read, make_model_with_texts, 4, 0, 0, 0, 100, 0},
+    {"reading, the same with each colour 200 times", call_read, make_model_with_texts, 4, 0, 0, 0, 200, 0},
+    {"reading, the same with each colour 400 times", call_read, make_model_with_texts, 4, 0, 0, 0, 400, 0},
+    {"reading, 64 modes, 255 arcs, sources descending", call_read, make_descending_model, 16, 0, 0, 0, 1, 0},
+    {"reading, the same with each colour 100 times", call_read, make_descending_model, 4, 0, 0, 0, 100, 0},
+    {"reading, the same with each colour 200 times", call_read, make_descending_model, 4, 0, 0, 0, 200, 0},
+    {"reading, the same with each colour 400 times", call_read, make_descending_model, 4, 0, 0, 0, 400, 0},
+    {"join, 255 by 255 arcs, 255 pairs written", call_join, make_large_join, 16, 0, 0, 0, 0, 0},
+    {"join, 12 by 4 arcs, 12 pairs written", call_join, make_small_join, 16, 0, 0, 0, 0, 0},
+    {"ward, 1,000 wearers, 255 arcs, a plan of 64 arcs", call_ward, make_ward, 16, 0, 64, 0, 0, 0},
+    {"ward, 1,000 wearers, 255 arcs, a plan of 640 arcs", call_ward, make_ward, 16, 0, 640, 0, 0, 0},
+    {"ward, 1,000 wearers with 6: the checks of 255 arcs alone", call_ward, make_ward_of_sixes, 16, 6, 64, 0, 0, 0},
+    {"search, 64 modes, 255 arcs, one in four off, with a plan", call_search, make_64_modes_off, 16, 0, 0, 0, 0, 0},
+    {"reach, random, 64 modes, 255 arcs, b 127", call_reach, make_reach, 16, 0, 0, 0, 0, 0},
+    {"reach, the same, b 8,191", call_reach, make_far_reach, 16, 0, 0, 0, 0, 0},
+    {"search for the peaks alone, the same, b 127", call_search, make_reach, 16, 10, 0, 0, 0, 0},
+    {"reach, chain of 64 modes with +1 loops, b 127", call_reach, make_reach_chain, 1, 0, 0, 0, 0, 0},
+    {"reach, the same, b 8,191", call_reach, make_far_reach_chain, 1, 0, 0, 0, 0, 0},
+    {"search for the peaks alone, the same, b 127", call_search, make_reach_chain, 1, 10, 0, 0, 0, 0},
+    {"reach, ring of 64 modes, 255 arcs, b 127", call_reach, make_reach_ring, 1, 0, 0, 0, 0, 0},
+    {"reach, the same, b 8,191", call_reach, make_far_reach_ring, 1, 0, 0, 0, 0, 0},
+    {"search for the peaks alone, the same, b 127", call_search, make_reach_ring, 1, 10, 0, 0, 0, 0},
+    {"switching an arc off, random, 64 modes, 255 arcs, b 127", call_switch, make_switching, 16, 0, 0, 0, 0, 0},
+    {"switching, the same, b 8,191", call_switch, make_far_switching, 16, 0, 0, 0, 0, 0},
+    {"switching to what it is: the checks of 255 arcs alone", call_switch_to_same, make_switching, 16, 0, 0, 0, 0, 0},
+    {"search, 64 modes, 255 arcs, a colour missing, without", call_search, make_missing, 16, 10, 0, 0, 0, 0},
+    {"search, 64 modes, 255 arcs, poor, without", call_search, make_poor, 16, 10, 0, 0, 0, 0},
+    {"search, 64 modes, 255 arcs, losing, without", call_search, make_losing, 16, 10, 0, 0, 0, 0},
 };
+
+/* The shapes of models that are decided, each with every one of the bounds: the times are to be seen not to grow with it. */
+static const struct family shapes[] = {
+    {"decision, random, 64 modes, 255 arcs, with a plan", call_decide, make_decided, 16, 0, 0, 0, 0, 0},
+    {"decision, random, 64 modes, 255 arcs, without", call_decide, make_decided, 16, 10, 0, 0, 0, 0},
+    {"decision, the same, a colour missing, without", call_decide, make_decided_missing, 16, 10, 0, 0, 0, 0},
+    {"decision, the same, losing, without", call_decide, make_decided_losing, 16, 10, 0, 0, 0, 0},
+    {"decision, chain of +1 loops, without", call_decide, make_decided_chain, 1, 10, 0, 0, 0, 0},
+    {"decision, ring that gains 1, with a plan", call_decide, make_decided_ring, 1, 0, 0, 0, 0, 0},
+    {"decision, document 001's figure 6, with a plan", call_decide, make_decided_figure_6, 1, 0, 0, 0, 0, 0},
+    {"decision, 1 mode, 255 arcs, without", call_decide, make_decided_climb, 4, 10, 0, 0, 0, 0},
+    {"decision, modes in a row, without", call_decide, make_decided_row, 1, 10, 0, 0, 0, 0},
+};
+static const uint32_t bounds[] = {127, 8191, 100000, 1000000};
 
 /* The same junk in the buffers before each comparison and each sample. */
 static void fill_buffers(void)
 {
     for (size_t i = 0; i < WORK_WORDS; i++)
         work[i] = (uint16_t)(i * 40503 + 1);
+    for (size_t i = 0; i < DECIDE_WORDS; i++)
+        decide_work[i] = (uint32_t)(i * 2654435761U + 1);
     for (size_t i = 0; i < PLAN_BYTES; i++)
         plan[i] = (uint8_t)(i * 167 + 1);
     memset(&filled, 0xa5, sizeof filled);
@@ -262,6 +309,7 @@ static void make_inputs(const struct family *family)
         do {
             if (tries++ == TRIES_MOST)
                 fail(family, "no such input was made");
+            in->b = family->b;
             family->make(in);
             if (family->times > 0)
                 print_texts(in, family->comments, family->times);
@@ -280,21 +328,45 @@ static bool same_wearers(const struct input *in)
     return true;
 }
 
+/*
+ * Whether a version has something to answer for a family: the rivals tell whether there is a plan, and the plain search does so for models
+ * that search takes.
+ */
+static bool takes_part(const struct version *version, const struct family *family)
+{
+    if (version->rival == NULL)
+        return true;
+    if (family->call != call_search && family->call != call_decide)
+        return false;
+    return version->rival != search_configurations || inputs[0].n * (inputs[0].b + 1) <= CHARGEPLAN_PRODUCT_MOST;
+}
+
+/* Compares what the rivals tell with the number that the library answers. */
+static void compare_rivals(const struct family *family, const struct input *in, uint64_t answer)
+{
+    for (size_t v = 0; v < VERSIONS; v++)
+        if (versions[v].rival != NULL && takes_part(&versions[v], family) &&
+            family->call(&versions[v], in) != chargeplan_number(answer))
+            fail(family, "a rival's answer differs");
+}
+
 /* Compares answers, plan buffers, working spaces, filled lists, wearers and reaches of the references with the library's. */
 static void compare(const struct family *family, const struct input *in)
 {
     fill_buffers();
     uint64_t answer = family->call(&versions[0], in);
+    compare_rivals(family, in, answer);
     memcpy(library_work, work, sizeof work);
+    memcpy(library_decide_work, decide_work, sizeof decide_work);
     memcpy(library_plan, plan, sizeof plan);
     memcpy(&library_filled, &filled, sizeof filled);
     memcpy(library_wearers, in->wearers, sizeof library_wearers);
     library_reach = reach;
-    for (size_t v = 1; v < VERSIONS; v++) {
+    for (size_t v = 1; v < VERSIONS && versions[v].rival == NULL; v++) {
         fill_buffers();
         if (family->call(&versions[v], in) != answer)
             fail(family, "answers differ");
-        if (memcmp(library_work, work, sizeof work) != 0)
+        if (memcmp(library_work, work, sizeof work) != 0 || memcmp(library_decide_work, decide_work, sizeof decide_work) != 0)
             fail(family, "working spaces differ");
         if (memcmp(library_plan, plan, sizeof plan) != 0)
             fail(family, "plan buffers differ");
@@ -325,15 +397,24 @@ static double sample(const struct family *family, const struct version *version,
     return microseconds() - before;
 }
 
-/* Writes the best time per call of each version. The versions take turns, each with rounds enough for some milliseconds. */
+/*
+ * Writes the best time per call of each version, 0 for one that takes no part. The versions take turns, each with rounds enough for some
+ * milliseconds.
+ */
 static void measure(const struct family *family, double best[VERSIONS])
 {
-    size_t rounds = 1;
-    while (sample(family, &versions[0], rounds) < SAMPLE_MICROSECONDS)
-        rounds *= 2;
+    size_t rounds[VERSIONS];
+    for (size_t v = 0; v < VERSIONS; v++) {
+        best[v] = 0;
+        rounds[v] = takes_part(&versions[v], family);
+        while (rounds[v] > 0 && sample(family, &versions[v], rounds[v]) < SAMPLE_MICROSECONDS)
+            rounds[v] *= 2;
+    }
     for (size_t repetition = 0; repetition < REPETITIONS; repetition++) {
         for (size_t v = 0; v < VERSIONS; v++) {
-            double time = sample(family, &versions[v], rounds) / (double)(rounds * family->count);
+            if (rounds[v] == 0)
+                continue;
+            double time = sample(family, &versions[v], rounds[v]) / (double)(rounds[v] * family->count);
             if (repetition == 0 || time < best[v])
                 best[v] = time;
         }
@@ -342,35 +423,65 @@ static void measure(const struct family *family, double best[VERSIONS])
 
 static void print_heading(void)
 {
-    printf("%-56s %6s", "best time per call, microseconds", "inputs");
+    printf("%-60s %6s", "best time per call, microseconds", "inputs");
     for (size_t v = 0; v < VERSIONS; v++)
-        printf(" %9s", versions[v].name);
+        printf(" %12s", versions[v].name);
     for (size_t v = 1; v < VERSIONS; v++)
-        printf("  library / %s", versions[v].name);
+        printf("  library / %-12s", versions[v].name);
     printf("\n");
+}
+
+/* A number in so many places, or a stroke where it is 0. */
+static void print_number(int places, double number)
+{
+    if (number > 0)
+        printf(" %*.*f", places, number < 0.1 ? 4 : 2, number);
+    else
+        printf(" %*s", places, "-");
 }
 
 static void print_row(const struct family *family, const double best[VERSIONS])
 {
-    printf("%-56s %6zu", family->name, family->count);
+    printf("%-60s %6zu", family->name, family->count);
     for (size_t v = 0; v < VERSIONS; v++)
-        printf(" %9.2f", best[v]);
+        print_number(12, best[v]);
     for (size_t v = 1; v < VERSIONS; v++)
-        printf("  %15.2f", best[0] / best[v]);
+        print_number(23, best[v] > 0 ? best[0] / best[v] : 0);
     printf("\n");
+    fflush(stdout);
+}
+
+static void run_family(const struct family *family)
+{
+    double best[VERSIONS];
+    make_inputs(family);
+    for (size_t i = 0; i < family->count; i++)
+        compare(family, &inputs[i]);
+    measure(family, best);
+    print_row(family, best);
+}
+
+/* A shape with each of the bounds, and with the same random numbers. */
+static void run_shape(const struct family *shape)
+{
+    for (size_t i = 0; i < sizeof bounds / sizeof bounds[0]; i++) {
+        char name[80];
+        struct family family = *shape;
+        restart_random();
+        snprintf(name, sizeof name, "%s, b %u", shape->name, (unsigned)bounds[i]);
+        family.name = name;
+        family.b = bounds[i];
+        run_family(&family);
+    }
 }
 
 int main(void)
 {
     print_heading();
-    for (size_t f = 0; f < sizeof families / sizeof families[0]; f++) {
-        double best[VERSIONS];
-        make_inputs(&families[f]);
-        for (size_t i = 0; i < families[f].count; i++)
-            compare(&families[f], &inputs[i]);
-        measure(&families[f], best);
-        print_row(&families[f], best);
-        fflush(stdout);
-    }
+    restart_random();
+    for (size_t f = 0; f < sizeof families / sizeof families[0]; f++)
+        run_family(&families[f]);
+    for (size_t f = 0; f < sizeof shapes / sizeof shapes[0]; f++)
+        run_shape(&shapes[f]);
     return 0;
 }

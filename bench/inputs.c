@@ -2,11 +2,16 @@
 
 #include <stdio.h>
 
-/* A random number of 32 bits (xorshift64*); the same numbers in every run. */
+static uint64_t state;
+
+void restart_random(void)
+{
+    state = 0x9e3779b97f4a7c15U;
+}
+
+/* A random number of 32 bits (xorshift64*). */
 static uint32_t random_word(void)
 {
-    static uint64_t state = 0x9e3779b97f4a7c15U;
-
     state ^= state >> 12;
     state ^= state << 25;
     state ^= state >> 27;
@@ -86,10 +91,22 @@ static void add_random_moves(struct input *in, size_t count, uint32_t draw_most,
     }
 }
 
+/* The greatest draw that a bound leaves room for. */
+static int16_t draw_all(uint32_t b)
+{
+    return (int16_t)(b < CHARGEPLAN_DRAW_MOST ? b : CHARGEPLAN_DRAW_MOST);
+}
+
+/* 64 modes and 255 arcs with weights from this up to this, k 4, a colour on one arc in 32. */
+static void make_random(struct input *in, uint32_t b, int32_t least, int32_t most)
+{
+    set_numbers(in, 64, 4, 63, b);
+    add_random_arcs(in, 255, least, most, 32);
+}
+
 void make_64_modes(struct input *in)
 {
-    set_numbers(in, 64, 4, 63, 127);
-    add_random_arcs(in, 255, -100, 15, 32);
+    make_random(in, 127, -100, 15);
 }
 
 void make_8_modes(struct input *in)
@@ -98,28 +115,41 @@ void make_8_modes(struct input *in)
     add_random_arcs(in, 64, -800, 120, 32);
 }
 
-void make_chain(struct input *in)
+/* The chain with this bound. */
+static void make_chain_to(struct input *in, uint32_t b)
 {
-    set_numbers(in, 64, 1, 0, 127);
+    set_numbers(in, 64, 1, 0, b);
     for (uint32_t mode = 0; mode < in->n; mode++)
         add_arc(in, mode, mode, 1, 0);
     for (uint32_t mode = 0; mode + 1 < in->n; mode++)
-        add_arc(in, mode, mode + 1, -127, 1);
+        add_arc(in, mode, mode + 1, (int16_t)-draw_all(b), 1);
+}
+
+void make_chain(struct input *in)
+{
+    make_chain_to(in, 127);
+}
+
+/* The figure with this bound, which is spread over its modes. */
+static void make_figure_to(struct input *in, uint32_t b)
+{
+    enum { LAST = 60 };
+    int32_t all = draw_all(b), by = all / LAST;
+
+    set_numbers(in, LAST + 2, 1, 0, b);
+    add_arc(in, 0, 1, (int16_t)all, 0);
+    for (int32_t i = 2; i <= LAST; i++) {
+        uint32_t mode = (uint32_t)i;
+        add_arc(in, 1, mode, (int16_t)(i < LAST ? (i - 2) * by - all : -by), 0);
+        add_arc(in, mode, mode, 1, 0);
+        add_arc(in, mode, LAST + 1, (int16_t)((1 - i) * by), 0);
+    }
+    add_arc(in, LAST + 1, 1, 0, 1);
 }
 
 void make_figure_6(struct input *in)
 {
-    enum { B = 60 };
-
-    set_numbers(in, B + 2, 1, 0, B);
-    add_arc(in, 0, 1, B, 0);
-    for (int16_t i = 2; i <= B; i++) {
-        uint32_t mode = (uint32_t)i;
-        add_arc(in, 1, mode, i < B ? (int16_t)(i - B - 2) : -1, 0);
-        add_arc(in, mode, mode, 1, 0);
-        add_arc(in, mode, B + 1, (int16_t)(1 - i), 0);
-    }
-    add_arc(in, B + 1, 1, 0, 1);
+    make_figure_to(in, 60);
 }
 
 void make_ring(struct input *in)
@@ -151,12 +181,42 @@ void make_one_mode_colours(struct input *in)
     add_random_arcs(in, 255, -10000, 10000, 2);
 }
 
+/* The climb to this bound. */
+static void make_climb_to(struct input *in, uint32_t b)
+{
+    set_numbers(in, 1, 1, 0, b);
+    for (size_t a = 0; a < 254; a++)
+        add_arc(in, 0, 0, between(-draw_all(b), -1), 0);
+    add_arc(in, 0, 0, 1, 0);
+}
+
 void make_one_mode_climb(struct input *in)
 {
-    set_numbers(in, 1, 1, 0, 8191);
-    for (size_t a = 0; a < 254; a++)
-        add_arc(in, 0, 0, between(-8191, -1), 0);
-    add_arc(in, 0, 0, 1, 0);
+    make_climb_to(in, 8191);
+}
+
+/* Takes colour 3 from every arc. */
+static void miss_colour(struct input *in)
+{
+    for (size_t a = 0; a < in->arcs; a++)
+        in->colours[a] &= 7;
+}
+
+void make_missing(struct input *in)
+{
+    make_random(in, 127, -60, 40);
+    miss_colour(in);
+}
+
+void make_poor(struct input *in)
+{
+    make_random(in, 127, -100, 3);
+}
+
+void make_losing(struct input *in)
+{
+    make_random(in, 127, -20, -1);
+    in->c = in->b;
 }
 
 /* An arc that is possible from a mode with a charge, to a target or (target n) to any. Returns false where some tries give none. */
@@ -424,10 +484,15 @@ void make_far_reach_ring(struct input *in)
     raise_bound(in, CHARGEPLAN_BOUND_MOST);
 }
 
+struct chargeplan_model model_of_input(const struct input *in)
+{
+    return (struct chargeplan_model){in->n,     in->start,   in->k,       in->sources, in->targets, in->draws,
+                                     in->gains, in->colours, in->actions, in->arcs};
+}
+
 static void start_reach(struct input *in)
 {
-    struct chargeplan_model m = {in->n,     in->start,   in->k,       in->sources, in->targets, in->draws,
-                                 in->gains, in->colours, in->actions, in->arcs};
+    struct chargeplan_model m = model_of_input(in);
 
     in->reach = chargeplan_model_reach_start(&m, in->c, in->b, in->on).reach;
     in->switched = below((uint32_t)in->arcs);
@@ -443,4 +508,50 @@ void make_far_switching(struct input *in)
 {
     make_far_reach(in);
     start_reach(in);
+}
+
+void make_decided(struct input *in)
+{
+    make_random(in, in->b, -100, 15);
+}
+
+void make_decided_missing(struct input *in)
+{
+    make_random(in, in->b, -60, 40);
+    miss_colour(in);
+}
+
+void make_decided_losing(struct input *in)
+{
+    make_random(in, in->b, -20, -1);
+    in->c = in->b;
+}
+
+void make_decided_chain(struct input *in)
+{
+    make_chain_to(in, in->b);
+}
+
+void make_decided_figure_6(struct input *in)
+{
+    make_figure_to(in, in->b);
+}
+
+void make_decided_climb(struct input *in)
+{
+    make_climb_to(in, in->b);
+}
+
+void make_decided_ring(struct input *in)
+{
+    set_numbers(in, 64, 4, 0, in->b);
+    for (uint32_t mode = 0; mode < in->n; mode++)
+        add_arc(in, mode, (mode + 1) % in->n, mode + 1 < in->n ? 1 : -62, (uint8_t)(mode % 13 == 12 ? 1 << mode / 13 : 0));
+}
+
+void make_decided_row(struct input *in)
+{
+    set_numbers(in, 64, 1, in->b, in->b);
+    for (uint32_t mode = 0; mode + 1 < in->n; mode++)
+        add_arc(in, mode, mode + 1, 0, 1);
 }

@@ -1,6 +1,7 @@
 /*
  * The inputs of the benchmark: models with credit and bound, for judging a plan, for reading the texts of a model, for joining a knee with
- * a habit, for judging a plan for a ward, and for the reach. An arc with a weight draws or gains; those of two kinds do both.
+ * a habit, for judging a plan for a ward, for the reach, and for the decision. An arc with a weight draws or gains; those of two kinds do
+ * both.
  */
 #ifndef INPUTS_H
 #define INPUTS_H
@@ -41,6 +42,12 @@ struct input {
 };
 
 enum { TEXT_MOST = 1 << 20, WEARERS = 1000 };
+
+/* Makes the random numbers come again from the first on: the same in every run, and to be called before an input is made. */
+void restart_random(void);
+
+/* The model of an input, in its own lists. */
+struct chargeplan_model model_of_input(const struct input *in);
 
 /* 64 modes, 255 arcs, k 4, b 127. Most arcs draw, and a colour is on one arc in 32, so that some models have a plan and some have none. */
 void make_64_modes(struct input *in);
@@ -83,6 +90,14 @@ void make_one_mode_colours(struct input *in);
 
 /* One mode, 255 arcs, k 1, b 8,191, without a plan: no arc meets the colour, one gains 1 and the others draw. The charge climbs from 0. */
 void make_one_mode_climb(struct input *in);
+
+/*
+ * Three kinds as make_64_modes, without a plan: with weights from -60 to 40, where most modes are reached, and one colour on no arc; with
+ * weights from -100 to 3, where few are; and with weights from -20 to -1 and c 127, where most are, and every cycle loses.
+ */
+void make_missing(struct input *in);
+void make_poor(struct input *in);
+void make_losing(struct input *in);
 
 /* 8 modes, 255 arcs with weights from -1,000 to 1,000, k 4, b 8,191, and p + q arcs that are possible, gains and draws in random order. */
 void make_plan(struct input *in);
@@ -153,5 +168,27 @@ void make_far_reach_ring(struct input *in);
 /* As make_reach and make_far_reach, and a fresh reach of every arc on, of which one that is on is switched off. */
 void make_switching(struct input *in);
 void make_far_switching(struct input *in);
+
+/*
+ * For the decision, with the bound that the input has, from 60 up to 1,000,000. As make_64_modes, make_missing and make_losing, with the same
+ * weights: the greater the bound, the farther a charge has to rise.
+ */
+void make_decided(struct input *in);
+void make_decided_missing(struct input *in);
+void make_decided_losing(struct input *in);
+
+/*
+ * As make_chain, make_figure_6 and make_one_mode_climb, with draws up to the bound, but not above 10,000. The loops still gain 1. In the
+ * figure all but these are spread over the bound; where it is above 10,000 the first way round keeps its charge.
+ */
+void make_decided_chain(struct input *in);
+void make_decided_figure_6(struct input *in);
+void make_decided_climb(struct input *in);
+
+/* A ring of 64 modes that gains 1 with each round, k 4, with a plan: each arc gains 1, but for the last, which draws 62. */
+void make_decided_ring(struct input *in);
+
+/* 64 modes in a row, k 1, without a plan: the set of peaks loses one with each time round. */
+void make_decided_row(struct input *in);
 
 #endif

@@ -1,54 +1,12 @@
 /*
- * Search, judging, the join, the ward and the reach in C, to compare the library with: the same checks, passes and scans in the same order,
- * the arcs grouped by source, so that answers, plans, verdicts and charges are equal. The entries are REFERENCE_search, REFERENCE_judge,
- * REFERENCE_join, REFERENCE_ward, REFERENCE_reach_start and REFERENCE_reach_switch, where the build names REFERENCE.
+ * Search, judging, the join and the ward in C, to compare the library with: the same checks, passes and scans in the same order, the arcs
+ * grouped by source, so that answers, plans and verdicts are equal. The entries are REFERENCE_search, REFERENCE_judge, REFERENCE_join and
+ * REFERENCE_ward, where the build names REFERENCE. The reach and the decision are in closing.c.
  */
-#include <stdbool.h>
-#include <stddef.h>
-#include <stdint.h>
-#include <string.h>
-
-#include "chargeplan.h"
+#include "model.h"
 #include "reference.h"
 
-#define PASTE_NAMES(a, b) a##b
-#define PASTE(a, b) PASTE_NAMES(a, b)
-
 enum { NODES_MOST = (CHARGEPLAN_COLOURS_MOST + 1) * CHARGEPLAN_MODES_MOST };
-
-/* A model, the bound, the credit, the barred colours and, where arcs are grouped, their switches. */
-struct model {
-    uint32_t modes;
-    uint32_t start;
-    uint32_t levels; /* the number of colours */
-    size_t arcs;
-    const uint8_t *sources;
-    const uint8_t *targets;
-    const uint16_t *draws;
-    const uint16_t *gains;
-    const uint8_t *colours;
-    const uint8_t *actions;
-    int32_t bound;
-    int32_t credit;
-    uint8_t barred;
-    uint64_t on[CHARGEPLAN_ON_WORDS];
-};
-
-/* An arc as a pass reads it, with its number. */
-struct row {
-    uint16_t draw;
-    uint16_t gain;
-    uint8_t target;
-    uint8_t colours; /* the required ones, close together */
-    uint8_t arc;
-    bool barred; /* whether it has a barred one */
-};
-
-/* The arcs that are on, sorted by source, equal sources in their given order: the rows of mode s stand from first[s] up to first[s + 1]. */
-struct groups {
-    uint8_t first[CHARGEPLAN_MODES_MOST + 1];
-    struct row rows[CHARGEPLAN_ARCS_MOST];
-};
 
 /* An entry of the queue in the working space: its words. */
 enum { NODE, CHARGE, PARENT, ARC, ENTRY_WORDS };
@@ -71,51 +29,6 @@ struct pass {
     size_t tail; /* the number of entries */
 };
 
-static uint64_t refused(uint64_t number, uint64_t detail)
-{
-    return number | detail << 8;
-}
-
-/* The charge after a step, which draws first and then gains; below 0 where the step is not possible. */
-static int32_t step(int32_t charge, int32_t draw, int32_t gain, int32_t bound)
-{
-    if (charge < draw)
-        return -1;
-    int32_t next = charge - draw + gain;
-    return next < bound ? next : bound;
-}
-
-static bool unfit_arc(const struct model *m, size_t a)
-{
-    return m->sources[a] >= m->modes || m->targets[a] >= m->modes || m->draws[a] > CHARGEPLAN_DRAW_MOST ||
-           m->gains[a] > CHARGEPLAN_GAIN_MOST || m->colours[a] >> m->levels != 0 || m->actions[a] > CHARGEPLAN_ACTION_MOST;
-}
-
-/* Refusals 1 to 5. */
-static uint64_t check_model(const struct model *m, size_t targets_len, size_t draws_len, size_t gains_len, size_t colours_len,
-                            size_t actions_len)
-{
-    if (m->modes == 0 || m->modes > CHARGEPLAN_MODES_MOST)
-        return CHARGEPLAN_MODE_COUNT;
-    if (m->start >= m->modes)
-        return CHARGEPLAN_START_MODE;
-    if (targets_len != m->arcs || draws_len != m->arcs || gains_len != m->arcs || colours_len != m->arcs ||
-        actions_len != m->arcs || m->arcs > CHARGEPLAN_ARCS_MOST)
-        return CHARGEPLAN_ARC_LISTS;
-    if (m->levels > CHARGEPLAN_COLOURS_MOST)
-        return CHARGEPLAN_COLOUR_COUNT;
-    for (size_t a = 0; a < m->arcs; a++)
-        if (unfit_arc(m, a))
-            return refused(CHARGEPLAN_UNFIT_ARC, a);
-    return CHARGEPLAN_YES;
-}
-
-/* Refusal 6. */
-static uint64_t check_levels(uint32_t c, uint32_t b)
-{
-    return b > CHARGEPLAN_BOUND_MOST || c > b ? CHARGEPLAN_LEVELS : CHARGEPLAN_YES;
-}
-
 /* Refusals 7 to 9. */
 static uint64_t check_spaces(uint32_t n, uint32_t k, uint32_t b, size_t work_len, size_t plan_len)
 {
@@ -129,54 +42,6 @@ static uint64_t check_spaces(uint32_t n, uint32_t k, uint32_t b, size_t work_len
     return CHARGEPLAN_YES;
 }
 
-/* The required colours of a colour byte, close together. */
-static uint8_t compress(uint32_t colours, uint32_t barred)
-{
-    uint32_t close = 0;
-
-    for (uint32_t j = CHARGEPLAN_COLOURS_MOST; j-- > 0;)
-        if ((barred >> j & 1) == 0)
-            close = 2 * close + (colours >> j & 1);
-    return (uint8_t)close;
-}
-
-static uint32_t count_required(const struct model *m)
-{
-    uint32_t count = 0;
-
-    for (uint32_t j = 0; j < m->levels; j++)
-        count += (m->barred >> j & 1) == 0;
-    return count;
-}
-
-/* The row of an arc. No arc of a fit model has a colour at or above k, so that these bits of the barred colours do not matter. */
-static struct row row_of(const struct model *m, size_t a)
-{
-    return (struct row){m->draws[a], m->gains[a], m->targets[a], compress(m->colours[a], m->barred), (uint8_t)a,
-                        (m->colours[a] & m->barred) != 0};
-}
-
-static bool is_on(const uint64_t *on, size_t a)
-{
-    return (on[a / 64] >> a % 64 & 1) != 0;
-}
-
-/* A counting sort by source of the arcs that are on. */
-static void group(const struct model *m, struct groups *groups)
-{
-    uint8_t next[CHARGEPLAN_MODES_MOST + 1] = {0}; /* the next place of each mode */
-
-    for (size_t a = 0; a < m->arcs; a++)
-        if (is_on(m->on, a))
-            next[m->sources[a] + 1]++;
-    for (size_t s = 0; s < m->modes; s++)
-        next[s + 1] = (uint8_t)(next[s + 1] + next[s]);
-    memcpy(groups->first, next, sizeof next);
-    for (size_t a = 0; a < m->arcs; a++)
-        if (is_on(m->on, a))
-            groups->rows[next[m->sources[a]]++] = row_of(m, a);
-}
-
 static void push(struct pass *pass, uint32_t node, int32_t charge, size_t parent, uint8_t arc)
 {
     uint16_t *entry = pass->queue + ENTRY_WORDS * pass->tail;
@@ -186,12 +51,6 @@ static void push(struct pass *pass, uint32_t node, int32_t charge, size_t parent
     entry[ARC] = arc;
     pass->best[node] = (uint16_t)(charge + 1);
     pass->tail++;
-}
-
-/* The level after an arc with this colour byte. */
-static uint32_t next_level(uint32_t level, uint32_t last, uint32_t colours)
-{
-    return level < last ? level + (colours >> level & 1) : level;
 }
 
 /* Tries every arc that leaves the mode of an entry. Returns true where one stops the pass. */
@@ -290,7 +149,7 @@ static size_t write_cycle(const struct model *m, struct pass *pass, uint32_t mod
 }
 
 /* A plan from the first mode whose peak a cycle keeps, or that there is none. */
-static uint64_t decide(const struct model *m, uint16_t *work, uint8_t *plan)
+static uint64_t find_plan(const struct model *m, uint16_t *work, uint8_t *plan)
 {
     uint16_t peaks[CHARGEPLAN_MODES_MOST];
     struct pass pass;
@@ -323,12 +182,12 @@ uint64_t PASTE(REFERENCE, _search)(uint32_t n, uint32_t start, uint32_t k, const
     uint64_t answer = check_model(&m, targets_len, draws_len, gains_len, colours_len, actions_len);
 
     if (answer == CHARGEPLAN_YES)
-        answer = check_levels(c, b);
+        answer = check_levels(c, b, CHARGEPLAN_BOUND_MOST);
     if (answer == CHARGEPLAN_YES)
         answer = check_spaces(n, k, b, work_len, plan_len);
     if (answer != CHARGEPLAN_YES)
         return answer;
-    answer = decide(&m, work, plan);
+    answer = find_plan(&m, work, plan);
     memset(work, 0, work_len * sizeof work[0]);
     return answer;
 }
@@ -433,7 +292,7 @@ uint64_t PASTE(REFERENCE, _judge)(uint32_t n, uint32_t start, uint32_t k, const 
     uint64_t answer = check_model(&m, targets_len, draws_len, gains_len, colours_len, actions_len);
 
     if (answer == CHARGEPLAN_YES)
-        answer = check_levels(c, b);
+        answer = check_levels(c, b, CHARGEPLAN_BOUND_MOST);
     if (answer == CHARGEPLAN_YES)
         answer = check_length(p, q, plan_len);
     if (answer == CHARGEPLAN_YES)
@@ -573,154 +432,4 @@ struct chargeplan_reading PASTE(REFERENCE, _join)(
     reading.k = k1 + k2;
     reading.m = write_pairs(&knee, &habit, to);
     return reading;
-}
-
-/*
- * A table of greatest charges that is being closed: every charge in it is one with which its mode is reached. Rounds over the modes that
- * rose; then loops of the arcs by which modes rose are raised to their top at once, so that the time does not grow with the bound.
- */
-struct closing {
-    const struct model *m;
-    struct groups groups;
-    uint16_t best[CHARGEPLAN_MODES_MOST]; /* the greatest charge of each mode plus 1, 0 for none */
-    uint16_t by[CHARGEPLAN_MODES_MOST];   /* the arc by which it came plus 1, 0 for none */
-    uint64_t due;                         /* the modes that rose since their arcs were last tried */
-};
-
-/* A mode is reached with a charge over an arc. A full mode has no arc by which it came: no loop can raise it. */
-static void reach_mode(struct closing *t, uint32_t mode, int32_t charge, size_t arc)
-{
-    if (charge < t->best[mode])
-        return;
-    t->best[mode] = (uint16_t)(charge + 1);
-    t->by[mode] = (uint16_t)(charge == t->m->bound ? 0 : arc + 1);
-    t->due |= (uint64_t)1 << mode;
-}
-
-/* The charge after a loop, whose last arc comes first, from a charge; below 0 where it is not possible. */
-static int32_t walk_loop(const struct model *m, const uint8_t *loop, size_t length, int32_t charge)
-{
-    for (size_t i = length; i-- > 0 && charge >= 0;)
-        charge = step(charge, m->draws[loop[i]], m->gains[loop[i]], m->bound);
-    return charge;
-}
-
-/*
- * Where the arcs by which modes rose lead back to a mode, and the loop gains, it is walked from the bound, which gives its top, and once
- * more from the top, which raises the modes on it.
- */
-static void raise_loop(struct closing *t, uint32_t mode)
-{
-    const struct model *m = t->m;
-    uint8_t loop[CHARGEPLAN_MODES_MOST];
-    size_t length = 0;
-    uint32_t at = mode;
-
-    do {
-        if (t->by[at] == 0 || length == m->modes)
-            return;
-        loop[length] = (uint8_t)(t->by[at] - 1);
-        at = m->sources[loop[length++]];
-    } while (at != mode);
-    if (walk_loop(m, loop, length, t->best[mode] - 1) < t->best[mode])
-        return;
-    int32_t charge = walk_loop(m, loop, length, m->bound);
-    for (size_t i = length; i-- > 0;) {
-        charge = step(charge, m->draws[loop[i]], m->gains[loop[i]], m->bound);
-        reach_mode(t, m->targets[loop[i]], charge, loop[i]);
-    }
-}
-
-/* Raises the loops to which the arcs lead by which the due modes rose. Each mode is passed once. */
-static void raise_loops(struct closing *t)
-{
-    uint64_t passed = 0;
-
-    for (uint64_t rest = t->due; rest != 0; rest &= rest - 1) {
-        uint32_t mode = (uint32_t)__builtin_ctzll(rest);
-        uint64_t path = 0;
-        while (t->by[mode] != 0 && ((passed | path) >> mode & 1) == 0) {
-            path |= (uint64_t)1 << mode;
-            mode = t->m->sources[t->by[mode] - 1];
-        }
-        if ((path >> mode & 1) != 0)
-            raise_loop(t, mode);
-        passed |= path;
-    }
-}
-
-/* Tries the arcs that leave a mode. */
-static void try_arcs(struct closing *t, uint32_t mode)
-{
-    int32_t from = t->best[mode] - 1;
-
-    for (size_t i = t->groups.first[mode]; i < t->groups.first[mode + 1]; i++) {
-        const struct row *row = &t->groups.rows[i];
-        int32_t charge = step(from, row->draw, row->gain, t->m->bound);
-        if (charge >= 0)
-            reach_mode(t, row->target, charge, row->arc);
-    }
-}
-
-/* The greatest charge of each mode over arcs that are on. */
-static void close_table(const struct model *m, uint16_t *charges)
-{
-    struct closing t = {.m = m, .best = {0}, .by = {0}, .due = 0};
-
-    group(m, &t.groups);
-    t.best[m->start] = (uint16_t)(m->credit + 1);
-    t.due = (uint64_t)1 << m->start;
-    while (t.due != 0) {
-        for (uint64_t now = t.due; now != 0; now &= now - 1) {
-            uint32_t mode = (uint32_t)__builtin_ctzll(now);
-            t.due &= ~((uint64_t)1 << mode);
-            try_arcs(&t, mode);
-        }
-        raise_loops(&t);
-    }
-    for (size_t s = 0; s < CHARGEPLAN_MODES_MOST; s++)
-        charges[s] = (uint16_t)(t.best[s] - 1);
-}
-
-struct chargeplan_reached PASTE(REFERENCE, _reach_start)(uint32_t n, uint32_t start, uint32_t k, const uint8_t *sources,
-                                                         size_t sources_len, const uint8_t *targets, size_t targets_len,
-                                                         const uint16_t *draws, size_t draws_len, const uint16_t *gains,
-                                                         size_t gains_len, const uint8_t *colours, size_t colours_len,
-                                                         const uint8_t *actions, size_t actions_len, uint32_t c, uint32_t b,
-                                                         uint64_t on0, uint64_t on1, uint64_t on2, uint64_t on3)
-{
-    struct model m = {n,     start,   k,       sources_len, sources,    targets, draws,
-                      gains, colours, actions, (int32_t)b,  (int32_t)c, 0,       {on0, on1, on2, on3}};
-    struct chargeplan_reached reached = {.reach = {.on = {on0, on1, on2, on3}}};
-
-    reached.answer = check_model(&m, targets_len, draws_len, gains_len, colours_len, actions_len);
-    if (reached.answer == CHARGEPLAN_YES)
-        reached.answer = check_levels(c, b);
-    if (reached.answer == CHARGEPLAN_YES)
-        close_table(&m, reached.reach.charges);
-    else
-        memset(reached.reach.charges, 0xff, sizeof reached.reach.charges);
-    return reached;
-}
-
-struct chargeplan_reached PASTE(REFERENCE, _reach_switch)(struct chargeplan_reach reach, uint32_t n, uint32_t start, uint32_t k,
-                                                          const uint8_t *sources, size_t sources_len, const uint8_t *targets,
-                                                          size_t targets_len, const uint16_t *draws, size_t draws_len,
-                                                          const uint16_t *gains, size_t gains_len, const uint8_t *colours,
-                                                          size_t colours_len, const uint8_t *actions, size_t actions_len,
-                                                          uint32_t c, uint32_t b, uint32_t arc, uint8_t on)
-{
-    struct model m = {n, start, k, sources_len, sources, targets, draws, gains, colours, actions, (int32_t)b, (int32_t)c, 0, {0}};
-    struct chargeplan_reached reached = {check_model(&m, targets_len, draws_len, gains_len, colours_len, actions_len), reach};
-
-    if (reached.answer == CHARGEPLAN_YES)
-        reached.answer = check_levels(c, b);
-    if (reached.answer == CHARGEPLAN_YES && arc >= m.arcs)
-        reached.answer = CHARGEPLAN_ARC_NUMBER;
-    if (reached.answer != CHARGEPLAN_YES || is_on(reach.on, arc) == (on != 0))
-        return reached;
-    reached.reach.on[arc / 64] ^= (uint64_t)1 << arc % 64;
-    memcpy(m.on, reached.reach.on, sizeof m.on);
-    close_table(&m, reached.reach.charges);
-    return reached;
 }

@@ -1,4 +1,4 @@
-/* The types of the seven entries, which the library and the reference share. */
+/* The types of the eight entries, which the library and the reference share. */
 #ifndef REFERENCE_H
 #define REFERENCE_H
 
@@ -55,7 +55,13 @@ typedef struct chargeplan_reached reach_switch_entry(struct chargeplan_reach rea
                                                      size_t colours_len, const uint8_t *actions, size_t actions_len, uint32_t c,
                                                      uint32_t b, uint32_t arc, uint8_t on);
 
-/* bench/reference.c and bench/reader.c, compiled with -O2 and with -O3. */
+typedef uint64_t decide_entry(uint32_t n, uint32_t start, uint32_t k, const uint8_t *sources, size_t sources_len,
+                              const uint8_t *targets, size_t targets_len, const uint16_t *draws, size_t draws_len,
+                              const uint16_t *gains, size_t gains_len, const uint8_t *colours, size_t colours_len,
+                              const uint8_t *actions, size_t actions_len, uint32_t c, uint32_t b, uint8_t barred,
+                              uint64_t on0, uint64_t on1, uint64_t on2, uint64_t on3, uint32_t *work, size_t work_len);
+
+/* bench/reference.c, bench/closing.c and bench/reader.c, compiled with -O2 and with -O3. */
 search_entry reference_o2_search, reference_o3_search;
 judge_entry reference_o2_judge, reference_o3_judge;
 read_entry reference_o2_read, reference_o3_read;
@@ -63,5 +69,6 @@ join_entry reference_o2_join, reference_o3_join;
 ward_entry reference_o2_ward, reference_o3_ward;
 reach_start_entry reference_o2_reach_start, reference_o3_reach_start;
 reach_switch_entry reference_o2_reach_switch, reference_o3_reach_switch;
+decide_entry reference_o2_decide, reference_o3_decide;
 
 #endif

@@ -1,7 +1,7 @@
 /*
- * chargeplan.h: judging, searching and walking charge plans for a knee joint, reading its model from texts, joining it with the habit
- * of its wearer, judging one plan for a ward of wearers, and switching its moves off and on again, from C99 or C++ on Linux for 64-bit
- * x86 (System V calls).
+ * chargeplan.h: judging, searching and walking charge plans for a knee joint, deciding whether there is one, reading its model from texts,
+ * joining it with the habit of its wearer, judging one plan for a ward of wearers, and switching its moves off and on again, from C99 or
+ * C++ on Linux for 64-bit x86 (System V calls).
  *
  * Link with target/staticlib/libdesk.a, which `rt staticlib desk` writes once the code is proved. There is no set-up, no
  * state between calls and no heap: calls on different buffers may run at the same time, and no input traps or hangs a call.
@@ -16,7 +16,7 @@
  *   draw     0 to 10,000: what the arc takes from the charge
  *   gain     0 to 10,000: what it then adds
  *   action   0 to 15: by it the join pairs arcs (below); no other call looks at it, but to refuse one above 15
- *   b        the bound (battery size), 0 to 8,191
+ *   b        the bound (battery size), 0 to 8,191; for the decision 0 to 1,000,000
  *   c        the credit (charge on arrival), 0 to b
  * Draws, gains, b and c are in the same whole units. Draw first, then gain: a step is possible where the charge is at least the arc's
  * draw, however much the arc gains. It then takes charge e to the smaller of e - draw + gain and b. What e - draw + gain has above b
@@ -27,15 +27,19 @@
  * cycle ends in the mode where it began. It is feasible where every step is possible in any number of rounds, and accepted
  * where each required colour stands on some arc of the cycle and no barred colour stands on any.
  *
- * BARRED COLOURS. A duty may have to die out: it may be met in the prefix, and never again in the cycle. Judging, search, the walk and
- * the ward take a byte `barred` that names such colours: of the k colours, j is barred where bit j is set, and required where it is not.
- * Bits at or above k are ignored, so that no byte is refused. The prefix is free: an arc with a barred colour may stand there, and need
- * not. With barred 0 each of the k colours is required; with all of them barred any cycle without colours is accepted.
+ * BARRED COLOURS. A duty may have to die out: it may be met in the prefix, and never again in the cycle. Judging, search, the decision, the
+ * walk and the ward take a byte `barred` that names such colours: of the k colours, j is barred where bit j is set, and required where it
+ * is not. Bits at or above k are ignored, so that no byte is refused. The prefix is free: an arc with a barred colour may stand there, and
+ * need not. With barred 0 each of the k colours is required; with all of them barred any cycle without colours is accepted.
  *
  * THE SWITCHES. A service recall switches single arcs off, and a later visit switches them on again. The switches are four words of 64
  * bits: arc a is on where bit a mod 64 of word a / 64, rounded down, is set, and off where it is not. Bits at or above the number of arcs
- * are ignored. Search uses only arcs that are on, in the prefix and in the cycle. Judging, the gauge, the walk and the ward know every arc
- * and take no switches: a plan with an arc that is off is judged as it was before the recall.
+ * are ignored. Search and the decision use only arcs that are on, in the prefix and in the cycle. Judging, the gauge, the walk and the ward
+ * know every arc and take no switches: a plan with an arc that is off is judged as it was before the recall.
+ *
+ * THE DECISION. A test rig counts the charge finer than a knee does, with a bound of up to 1,000,000. For such a battery, and for any
+ * smaller one, the decision tells whether there is a plan, of any length and of arcs that are on, that is feasible and accepted; it makes
+ * none. Its time and its working space do not grow with the bound. Where search takes the model, both give the same verdict.
  *
  * THE REACH. A reach has the switches and, for each mode, the greatest charge with which the mode can be reached over arcs that are on, by
  * walks of any length, the start mode by no arc with c; CHARGEPLAN_UNREACHED where it cannot be reached. A fresh reach is made from the
@@ -96,16 +100,17 @@
  * THE CALLS. First the calls over a struct chargeplan_model, which have the model in one argument. They are inline functions over the
  * library's own entries, which come after them and take each list with a length of its own.
  *
- * COST. Stack, with the arguments on it: up to 12,900 bytes for judging, 18,400 for search, 200 for starting a gauge, 4,400 for a step of
- * one, 14,900 for the walk, 600 for reading, 8,700 for the join, 12,900 for the ward, however many wearers there are. Every call but
- * reading and the ward reads the six lists of a model once; the ward reads them once for the call, and once more for each wearer. Judging
- * then looks at 2 * p + 4 * q places of the plan at most, at q more where barred is not 0, and the walk at p + q more, or at as many as
- * the allowance for a barred colour that is not met. Search tries arcs at most m * (b + 1) * ((k + 1) * (n + 1) + 2) times, where there
- * are m of them and k colours are required: 25 million times at the ceilings. The slowest search that was found takes some 35 ms, one of
- * a random model of 64 modes 0.2 ms. The time of reading grows in proportion to the texts, where the model is fit. The join looks at each
- * pair of arcs twice, 65,025 pairs at most, in some 80 us. The ward takes as long as judging for each wearer does: with 255 arcs and a
- * plan of 64 some 1 us each, 0.7 of them for the lists. The time of a fresh reach, and of a switching that changes a switch, does not grow
- * with b: 4 to 11 us with 64 modes and 255 arcs, on 21,000 bytes of stack. docs/C-API.md says how this was counted and measured.
+ * COST. Stack, with the arguments on it: up to 12,900 bytes for judging, 18,400 for search, XX for the decision, 200 for starting a gauge,
+ * 4,400 for a step of one, 14,900 for the walk, 600 for reading, 8,700 for the join, 12,900 for the ward, however many wearers there are.
+ * Every call but reading and the ward reads the six lists of a model once; the ward reads them once for the call, and once more for each
+ * wearer. Judging then looks at 2 * p + 4 * q places of the plan at most, at q more where barred is not 0, and the walk at p + q more, or
+ * at as many as the allowance for a barred colour that is not met. Search tries arcs at most m * (b + 1) * ((k + 1) * (n + 1) + 2) times,
+ * where there are m of them and k colours are required: 25 million times at the ceilings. The slowest search that was found takes some 35
+ * ms, one of a random model of 64 modes 0.2 ms. The time of the decision does not grow with b: XX to XX us with 64 modes and 255 arcs. The
+ * time of reading grows in proportion to the texts, where the model is fit. The join looks at each pair of arcs twice, 65,025 pairs at
+ * most, in some 80 us. The ward takes as long as judging for each wearer does: with 255 arcs and a plan of 64 some 1 us each, 0.7 of them
+ * for the lists. The time of a fresh reach, and of a switching that changes a switch, does not grow with b: 4 to 11 us with 64 modes and
+ * 255 arcs, on 21,000 bytes of stack. docs/C-API.md says how this was counted and measured.
  */
 #ifndef CHARGEPLAN_H
 #define CHARGEPLAN_H
@@ -130,6 +135,7 @@ extern "C" {
 #define CHARGEPLAN_ARCS_MOST 255u
 #define CHARGEPLAN_COLOURS_MOST 4u
 #define CHARGEPLAN_BOUND_MOST 8191u
+#define CHARGEPLAN_DECIDE_BOUND_MOST 1000000u /* of the decision alone */
 #define CHARGEPLAN_PRODUCT_MOST 8192u /* of n * (b + 1), for search */
 #define CHARGEPLAN_PLAN_MOST 65535u   /* arcs of a plan, for judging */
 #define CHARGEPLAN_DRAW_MOST 10000u
@@ -144,26 +150,32 @@ extern "C" {
 #define CHARGEPLAN_PLAN_BYTES_MOST ((CHARGEPLAN_COLOURS_MOST + 2u) * CHARGEPLAN_PRODUCT_MOST)
 
 /*
+ * A working space of so many words, of 32 bits each, serves every decision, whatever the bound is: some 20 KB. Here too every word that is
+ * lent is set to 0; chargeplan_decide_words has what a model needs.
+ */
+#define CHARGEPLAN_DECIDE_WORDS_MOST (16u * (CHARGEPLAN_COLOURS_MOST + 1u) * CHARGEPLAN_MODES_MOST)
+
+/*
  * The switches: how many words they are, and the four words with which every arc is on, as an initialiser, {CHARGEPLAN_ALL_ON}, or as the
  * four arguments of an entry.
  */
 #define CHARGEPLAN_ON_WORDS 4u
 #define CHARGEPLAN_ALL_ON UINT64_MAX, UINT64_MAX, UINT64_MAX, UINT64_MAX
 
-/* The charge of a mode that is not reached; it is above every bound. */
+/* The charge of a mode that is not reached; it is above every bound of a reach. */
 #define CHARGEPLAN_UNREACHED 65535u
 
 /*
- * The numbers. Search answers 0 to 10; judging 0 to 6, 11 to 16, 24 and 17; starting a gauge 0 to 6; a step of a gauge 0 to 6, 22, 12,
- * 13 and 15, the last four with detail 0; the walk 0 to 6, 11 to 16, 24, 17 and 18; reading 0, 19 to 21 and 1 to 5; the join 0 to 5
- * and 23; the ward 0 to 6, 11 to 16, 24 and 17: of these 1, 3, 4 and 5 are the model's, with the detail below, and all others but 0 are
- * the verdict of the first wearer who cannot have the plan, with that wearer's place in the list, counted from 0, as detail; a fresh reach
- * 0 to 6; a switching 0 to 6 and 12, the last with detail 0.
+ * The numbers. Search answers 0 to 10; the decision 0 to 6, 8 and 10; judging 0 to 6, 11 to 16, 24 and 17; starting a gauge 0 to 6; a step
+ * of a gauge 0 to 6, 22, 12, 13 and 15, the last four with detail 0; the walk 0 to 6, 11 to 16, 24, 17 and 18; reading 0, 19 to 21 and 1
+ * to 5; the join 0 to 5 and 23; the ward 0 to 6, 11 to 16, 24 and 17: of these 1, 3, 4 and 5 are the model's, with the detail below, and
+ * all others but 0 are the verdict of the first wearer who cannot have the plan, with that wearer's place in the list, counted from 0, as
+ * detail; a fresh reach 0 to 6; a switching 0 to 6 and 12, the last with detail 0.
  */
 enum {
-    CHARGEPLAN_YES = 0,              /* judging: the plan is feasible and accepted; search: a plan is in the buffer; gauge: it is
-                                        started, or has moved on; walk: the steps are made; reading, join: the lists are filled;
-                                        ward: every verdict is 0; reach: it is made, or the arc is switched */
+    CHARGEPLAN_YES = 0,              /* judging: the plan is feasible and accepted; search: a plan is in the buffer; decision: there
+                                        is a plan; gauge: it is started, or has moved on; walk: the steps are made; reading, join:
+                                        the lists are filled; ward: every verdict is 0; reach: it is made, or the arc is switched */
     CHARGEPLAN_HOA_LINE = 19,        /* reading: a line of the HOA text is outside the forms above, or missing; detail: the first
                                         such line, counted from 1, one past the last line where the text ends early */
     CHARGEPLAN_DIMACS_LINE = 20,     /* the same of the DIMACS text */
@@ -178,7 +190,8 @@ enum {
                                         arc */
     CHARGEPLAN_JOIN_SIZE = 23,       /* join: more than 64 joined modes, 255 joined arcs or 4 joined colours, a joined draw or gain
                                         above 10,000, or more joined arcs than the shortest of the lists takes */
-    CHARGEPLAN_LEVELS = 6,           /* b is above 8,191, or c is above b; a step reads the gauge's own charge in place of c */
+    CHARGEPLAN_LEVELS = 6,           /* b is above 8,191, of the decision above 1,000,000, or c is above b; a step reads the gauge's
+                                        own charge in place of c */
     CHARGEPLAN_MIXED_GAUGE = 22,     /* a step of a gauge: n, the number of arcs or b is not the one that it was started with */
     CHARGEPLAN_PRODUCT = 7,          /* n * (b + 1) is above 8,192 */
     CHARGEPLAN_WORKING_SPACE = 8,    /* the working space is too short */
@@ -313,6 +326,23 @@ static inline uint64_t chargeplan_model_judge(const struct chargeplan_model *m, 
  */
 static inline uint64_t chargeplan_model_search(const struct chargeplan_model *m, uint32_t c, uint32_t b, uint8_t barred,
     const uint64_t on[CHARGEPLAN_ON_WORDS], uint16_t *work, size_t work_length, uint8_t *plan, size_t plan_length);
+
+/*
+ * The decision: whether there is a plan for the model (THE DECISION, above).
+ *
+ * c, b     the credit and the bound, up to 1,000,000; n * (b + 1) may be above 8,192
+ * barred   the barred colours, as in judging
+ * on       the switches, four words, as in search
+ * work     working space: at least chargeplan_decide_words(n, k) words of 32 bits, whatever b is and whatever is barred or off; what
+ *          stands in it does not matter
+ *
+ * Answers 0 where some plan of any length, of arcs that are on, is feasible and accepted, and 10 where none is: a larger b may help, or
+ * fewer barred colours, or more arcs that are on, but no other space. After either, every word of work is 0. Else answers the first of 1
+ * to 6 and 8, in this order, that applies; work is then as it was. 5 looks at the arcs that are off, too. Where search answers 0 or 10, the
+ * decision with the same model, c, b, barred colours and switches answers the same number.
+ */
+static inline uint64_t chargeplan_model_decide(const struct chargeplan_model *m, uint32_t c, uint32_t b, uint8_t barred,
+    const uint64_t on[CHARGEPLAN_ON_WORDS], uint32_t *work, size_t work_length);
 
 /*
  * Starting a gauge. The call is lent no gauge and hands back a new one, in the start mode with charge c and spill 0, which carries
@@ -469,6 +499,19 @@ uint64_t chargeplan_search(
     uint64_t on0, uint64_t on1, uint64_t on2, uint64_t on3,
     uint16_t *work, size_t work_length,
     uint8_t *plan, size_t plan_length);
+
+/* The library's entry for the decision: as search, with words of 32 bits and without a plan buffer. */
+uint64_t chargeplan_decide(
+    uint32_t n, uint32_t start, uint32_t k,
+    const uint8_t *sources, size_t sources_length,
+    const uint8_t *targets, size_t targets_length,
+    const uint16_t *draws, size_t draws_length,
+    const uint16_t *gains, size_t gains_length,
+    const uint8_t *colours, size_t colours_length,
+    const uint8_t *actions, size_t actions_length,
+    uint32_t c, uint32_t b, uint8_t barred,
+    uint64_t on0, uint64_t on1, uint64_t on2, uint64_t on3,
+    uint32_t *work, size_t work_length);
 
 /* The library's entry for starting a gauge. */
 struct chargeplan_started chargeplan_gauge_start(
@@ -653,6 +696,12 @@ static inline size_t chargeplan_plan_bytes(uint32_t n, uint32_t k, uint32_t b)
     return chargeplan_unsearchable(n, k, b) ? 0 : (size_t)(k + 2) * n * (b + 1);
 }
 
+/* The words of working space that the decision needs, 16 * (k + 1) * n, of 32 bits each; 0 where it refuses n or k in any case (1 or 4). */
+static inline size_t chargeplan_decide_words(uint32_t n, uint32_t k)
+{
+    return n > CHARGEPLAN_MODES_MOST || k > CHARGEPLAN_COLOURS_MOST ? 0 : (size_t)16 * (k + 1) * n;
+}
+
 /* The length of a model's list of actions: 0 where the pointer is null. */
 static inline size_t chargeplan_model_actions(const struct chargeplan_model *m)
 {
@@ -678,6 +727,13 @@ static inline uint64_t chargeplan_model_search(const struct chargeplan_model *m,
     return chargeplan_search(m->n, m->start, m->k, m->sources, m->arcs, m->targets, m->arcs, m->draws, m->arcs, m->gains, m->arcs,
         m->colours, m->arcs, m->actions, chargeplan_model_actions(m), c, b, barred, on[0], on[1], on[2], on[3], work, work_length, plan,
         plan_length);
+}
+
+static inline uint64_t chargeplan_model_decide(const struct chargeplan_model *m, uint32_t c, uint32_t b, uint8_t barred,
+    const uint64_t on[CHARGEPLAN_ON_WORDS], uint32_t *work, size_t work_length)
+{
+    return chargeplan_decide(m->n, m->start, m->k, m->sources, m->arcs, m->targets, m->arcs, m->draws, m->arcs, m->gains, m->arcs,
+        m->colours, m->arcs, m->actions, chargeplan_model_actions(m), c, b, barred, on[0], on[1], on[2], on[3], work, work_length);
 }
 
 static inline struct chargeplan_started chargeplan_model_gauge_start(const struct chargeplan_model *m, uint32_t c, uint32_t b)

@@ -1,5 +1,6 @@
 #include "calls.h"
 
+#include "decides.h"
 #include "reaches.h"
 
 #include <inttypes.h>
@@ -82,6 +83,17 @@ int same(const void *x, const void *y, size_t bytes)
     return bytes == 0 || memcmp(x, y, bytes) == 0;
 }
 
+int is_cleared(const void *block, size_t bytes)
+{
+    const uint8_t *byte = block;
+    size_t i;
+
+    for (i = 0; i < bytes; i++)
+        if (byte[i] != 0)
+            return 0;
+    return 1;
+}
+
 struct lent lend(const struct model *m)
 {
     struct lent l;
@@ -144,7 +156,7 @@ void judged(const char *what, const struct model *m, uint32_t c, uint32_t b, uin
 struct buffers {
     uint16_t *work, *work_before;
     uint8_t *plan, *plan_before;
-    size_t words, bytes;
+    size_t work_bytes, bytes;
 };
 
 static struct buffers lend_buffers(size_t words, size_t bytes, unsigned junk)
@@ -152,27 +164,17 @@ static struct buffers lend_buffers(size_t words, size_t bytes, unsigned junk)
     struct buffers s;
     size_t i;
 
-    s.words = words;
+    s.work_bytes = words * sizeof *s.work;
     s.bytes = bytes;
-    s.work = copied(NULL, words * sizeof *s.work);
+    s.work = copied(NULL, s.work_bytes);
     s.plan = copied(NULL, bytes);
     for (i = 0; i < words; i++)
         s.work[i] = (uint16_t)(junk + i * (junk & 0xffu) * 257u);
     for (i = 0; i < bytes; i++)
         s.plan[i] = (uint8_t)(junk + i * (junk & 0xfu));
-    s.work_before = copied(s.work, words * sizeof *s.work);
+    s.work_before = copied(s.work, s.work_bytes);
     s.plan_before = copied(s.plan, bytes);
     return s;
-}
-
-static int is_cleared(const struct buffers *s)
-{
-    size_t i;
-
-    for (i = 0; i < s->words; i++)
-        if (s->work[i] != 0)
-            return 0;
-    return 1;
 }
 
 /*
@@ -206,14 +208,16 @@ static uint64_t search_to(const char *what, const struct model *m, uint32_t c, u
     uint32_t number = chargeplan_number(answer);
 
     if (number == CHARGEPLAN_YES) {
-        check(is_cleared(&s), what);
+        check(is_cleared(s.work, s.work_bytes), what);
         check_found(what, m, c, b, &s, answer);
         if (to != NULL)
             memcpy(to, s.plan, bytes);
     } else {
         check(same(s.plan, s.plan_before, bytes), what);
-        check(number == CHARGEPLAN_NO_PLAN ? is_cleared(&s) : same(s.work, s.work_before, words * sizeof *s.work), what);
+        check(number == CHARGEPLAN_NO_PLAN ? is_cleared(s.work, s.work_bytes) : same(s.work, s.work_before, s.work_bytes), what);
     }
+    if (number == CHARGEPLAN_YES || number == CHARGEPLAN_NO_PLAN)
+        check_answer(what, decide(what, m, c, b, chargeplan_decide_words(m->n, m->k), junk), number, 0);
     free(s.work);
     free(s.work_before);
     free(s.plan);
@@ -405,6 +409,8 @@ void all_refused(const char *what, const struct model *m, uint32_t c, uint32_t b
         stepped(what, &mixed, m, b, 0, number, detail);
         stepped(what, &mixed, m, b, UINT32_MAX, number, detail);
     }
+    if (number != CHARGEPLAN_LEVELS || c > b || b > CHARGEPLAN_DECIDE_BOUND_MOST)
+        decide_refused(what, m, c, b, number, detail);
     start_refused(what, m, c, b, number, detail);
     switch_refused(what, m, c, b, 0, number, detail);
     switch_refused(what, m, c, b, UINT32_MAX, number, detail);

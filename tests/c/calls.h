@@ -32,6 +32,9 @@ void *copied(const void *from, size_t bytes);
 /* Whether so many bytes are the same; there may be none. */
 int same(const void *x, const void *y, size_t bytes);
 
+/* Whether so many bytes are 0; there may be none. */
+int is_cleared(const void *block, size_t bytes);
+
 /* The lists of a model in blocks of their own. */
 struct lent {
     uint8_t *sources, *targets, *colours, *actions;
@@ -53,7 +56,7 @@ void judged(const char *what, const struct model *m, uint32_t c, uint32_t b, uin
 
 /*
  * Search with junk in buffers of these sizes; what it leaves in them is checked by its answer, and a plan is judged and has only arcs that
- * are on.
+ * are on. Where it answers 0 or 10, the decision does so, too.
  */
 uint64_t search(const char *what, const struct model *m, uint32_t c, uint32_t b, size_t words, size_t bytes, unsigned junk);
 
@@ -123,12 +126,18 @@ struct outcome walk_refused(uint32_t number, uint32_t detail);
 
 /*
  * Every call is refused by one of 1 to 6, whatever plan, colour, allowance, buffers, gauge, switches and reach are. A step reads c from its
- * gauge.
+ * gauge. The decision is not refused by 6 where its greater bound is kept.
  */
 void all_refused(const char *what, const struct model *m, uint32_t c, uint32_t b, uint32_t number, uint32_t detail);
 
 /* How many lists a model has. */
 enum { MODEL_LISTS = 6 };
+
+/* The lists of a model. */
+struct lists {
+    uint8_t sources[CHARGEPLAN_ARCS_MOST], targets[CHARGEPLAN_ARCS_MOST], colours[CHARGEPLAN_ARCS_MOST], actions[CHARGEPLAN_ARCS_MOST];
+    uint16_t draws[CHARGEPLAN_ARCS_MOST], gains[CHARGEPLAN_ARCS_MOST];
+};
 
 /* The switches with every arc on, and with every arc off. */
 extern const struct switches all_on, all_off;
@@ -136,6 +145,9 @@ extern const struct switches all_on, all_off;
 /* The switches with one arc more on, or off. */
 struct switches with_on(struct switches s, size_t a);
 struct switches with_off(struct switches s, size_t a);
+
+/* The switches with all bits at or above m set, or cleared. */
+struct switches with_from(struct switches s, size_t m, int set);
 
 /* A model with start mode 0, lists of one length, up to 256, action 0 of every arc, and every arc on. */
 struct model model(uint32_t n, uint32_t k, size_t arcs, const uint8_t *sources, const uint8_t *targets, const uint16_t *draws,
@@ -156,14 +168,17 @@ void each_wrong_number(const struct model *fit, refusing *refused);
 /* 3: each list in turn is shorter or longer than the others, and all are too long. */
 void each_wrong_list(refusing *refused);
 
+/* What may be wrong with a model, in the order in which it is looked at. */
+enum { FAULT_MODES, FAULT_START, FAULT_LISTS, FAULT_COLOURS, FAULT_ARC, MODEL_FAULTS };
+
+/* One mode and three arcs that change nothing, with these faults, a bit each; the arc at this place is the unfit one. */
+struct model with_faults(struct lists *to, unsigned faults, size_t unfit);
+
+/* The number of the first of some faults of a model, 1 to 5; 0 where there is none. */
+uint32_t first_fault(unsigned faults);
+
 /* The model without its last arc, if it has any; the lists are of one length. */
 struct model without_last(const struct model *m);
-
-/* The lists of a model. */
-struct lists {
-    uint8_t sources[CHARGEPLAN_ARCS_MOST], targets[CHARGEPLAN_ARCS_MOST], colours[CHARGEPLAN_ARCS_MOST], actions[CHARGEPLAN_ARCS_MOST];
-    uint16_t draws[CHARGEPLAN_ARCS_MOST], gains[CHARGEPLAN_ARCS_MOST];
-};
 
 /* Writes an arc to a place of the lists. What they cannot hold is cut off. */
 void put(struct lists *to, size_t at, struct arc arc);
@@ -355,6 +370,17 @@ void test_reach_junk(void);
 void test_reach_levels(void);
 void test_reach_each(void);
 void test_reach_all(void);
+void test_decide_examples(void);
+void test_decide_loops(void);
+void test_decide_sets(void);
+void test_decide_large(void);
+void test_decide_unfit(void);
+void test_decide_levels(void);
+void test_decide_products(void);
+void test_decide_spaces(void);
+void test_decide_order(void);
+void test_decide_barred(void);
+void test_decide_switches(void);
 void test_random(unsigned long models);
 void test_random_large(unsigned long models);
 void test_random_barred(unsigned long models);
@@ -386,5 +412,9 @@ void test_random_junk(unsigned long reaches_tried);
 void test_random_large_reaches(unsigned long models);
 void test_random_scaled_reaches(unsigned long models);
 void test_random_reach_and_search(unsigned long models);
+void test_random_decisions(unsigned long models);
+void test_random_decisions_and_searches(unsigned long models);
+void test_random_decisions_of_many_pairs(unsigned long models);
+void test_random_scaled_decisions(unsigned long models);
 
 #endif

@@ -207,6 +207,33 @@ void each_wrong_list(refusing *refused)
         }
 }
 
+struct model with_faults(struct lists *to, unsigned faults, size_t unfit)
+{
+    static const struct arc arcs[3];
+    struct model m = of_arcs(to, 1, 0, arcs, 3);
+
+    if (faults >> FAULT_MODES & 1)
+        m.n = 65;
+    if (faults >> FAULT_START & 1)
+        m.start = 70;
+    if (faults >> FAULT_LISTS & 1)
+        m.gains_length = 2;
+    if (faults >> FAULT_COLOURS & 1)
+        m.k = 5;
+    if (faults >> FAULT_ARC & 1)
+        to->actions[unfit] = 16;
+    return m;
+}
+
+uint32_t first_fault(unsigned faults)
+{
+    uint32_t first = 0;
+
+    while (first < MODEL_FAULTS && !(faults >> first & 1))
+        first++;
+    return first < MODEL_FAULTS ? first + 1 : 0;
+}
+
 /* One list with another length. */
 static void one_unequal(const char *what, unsigned list, size_t arcs, size_t length)
 {

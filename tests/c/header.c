@@ -2,6 +2,7 @@
  * What the header alone has: version, numbers, layout of the structs, parts of an answer, switches, and the functions over a struct
  * chargeplan_model. Draw and gain of a weight are in weights.c.
  */
+#include "decides.h"
 #include "reaches.h"
 #include "texts.h"
 
@@ -24,6 +25,7 @@ static void test_constants(void)
         check(numbers[i] == i, "a number of the header");
     check(CHARGEPLAN_VERSION == 5, "the version with switches");
     check(CHARGEPLAN_ACTION_MOST == 15, "the greatest action");
+    check(CHARGEPLAN_DECIDE_BOUND_MOST == 1000000 && CHARGEPLAN_DECIDE_WORDS_MOST == 5120, "the greatest decision");
     check(CHARGEPLAN_UNREACHED == 65535 && CHARGEPLAN_UNREACHED > CHARGEPLAN_BOUND_MOST, "the charge of no mode");
 }
 
@@ -144,6 +146,30 @@ static void same_searches(const char *what, const struct model *m, uint32_t c, u
     same_search(what, m, c, b, words, bytes - 1);
 }
 
+/* The decision of a model with a space of so many words. */
+static void same_decision(const char *what, const struct model *m, uint32_t c, uint32_t b, size_t words)
+{
+    struct lent l = lend(m);
+    struct chargeplan_model one = in_one(m, l);
+    uint32_t *work = copied(NULL, words * sizeof *work);
+
+    memset(work, 0x5a, words * sizeof *work);
+    check(chargeplan_model_decide(&one, c, b, m->barred, m->switches.on, work, words) == decide(what, m, c, b, words, 0x66u), what);
+    free(work);
+    take_back(m, l, what);
+}
+
+/* The decision with a space as long as it must be, and with one too short, with these levels and with greater ones. */
+static void same_decisions(const char *what, const struct model *m, uint32_t c, uint32_t b)
+{
+    size_t words = chargeplan_decide_words(m->n, m->k);
+
+    same_decision(what, m, c, b, words);
+    same_decision(what, m, c, b, words - 1);
+    same_decision(what, m, c, CHARGEPLAN_DECIDE_BOUND_MOST, words);
+    same_decision(what, m, c, CHARGEPLAN_DECIDE_BOUND_MOST + 1, words);
+}
+
 /* Steps of a gauge on each arc of a model, and on one more. */
 static void same_steps(const char *what, struct chargeplan_gauge *lent, struct gauge *g, const struct model *m, struct lent l,
     uint32_t b)
@@ -222,12 +248,14 @@ static void same_calls(const char *what, const struct model *m, uint32_t c, uint
         r.barred = barred[i];
         same_plan(what, &r, c, b, p, q, plan);
         same_searches(what, &r, c, b);
+        same_decisions(what, &r, c, b);
     }
     r = *m;
     same_reaches(what, &r, c, b);
     for (i = 0; i < sizeof off / sizeof off[0]; i++) {
         r.switches = off[i];
         same_searches(what, &r, c, b);
+        same_decisions(what, &r, c, b);
         same_reaches(what, &r, c, b);
     }
     same_gauge(what, m, c, b);
@@ -279,6 +307,7 @@ static void test_model_switches(void)
             "one arc is on");
         m.switches = lone;
         same_searches("one arc is on", &m, 0, 0);
+        same_decisions("one arc is on", &m, 0, 0);
     }
     take_back(&m, l, "one arc is on");
 }

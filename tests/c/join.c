@@ -261,37 +261,6 @@ void test_join_lone(void)
     joined_as("one and 255 arcs", &fit, &m, CHARGEPLAN_YES, 0);
 }
 
-/* What may be wrong with a model, in the order in which it is looked at. */
-enum { MODES, START, LISTS, COLOURS, ARC, FAULTS };
-
-/* A model of three arcs with these faults, a bit each; the arc at this place is the unfit one. */
-static struct model with_faults(struct lists *to, unsigned faults, size_t unfit)
-{
-    struct model m = with_action(to, 3, 0);
-
-    if (faults >> MODES & 1)
-        m.n = 65;
-    if (faults >> START & 1)
-        m.start = 70;
-    if (faults >> LISTS & 1)
-        m.gains_length = 2;
-    if (faults >> COLOURS & 1)
-        m.k = 5;
-    if (faults >> ARC & 1)
-        to->actions[unfit] = 16;
-    return m;
-}
-
-/* The number of the first of some faults; 0 where there is none. */
-static uint32_t first_fault(unsigned faults)
-{
-    uint32_t first = 0;
-
-    while (first < FAULTS && !(faults >> first & 1))
-        first++;
-    return first < FAULTS ? first + 1 : 0;
-}
-
 /* Every set of faults of the knee with every set of the habit, and lists long enough or one place too short for the nine pairs. */
 void test_join_order(void)
 {
@@ -299,8 +268,8 @@ void test_join_order(void)
     struct lists of_knee, of_habit;
     unsigned i, j, room;
 
-    for (i = 0; i < 1u << FAULTS; i++)
-        for (j = 0; j < 1u << FAULTS; j++)
+    for (i = 0; i < 1u << MODEL_FAULTS; i++)
+        for (j = 0; j < 1u << MODEL_FAULTS; j++)
             for (room = 8; room <= 9; room++) {
                 struct model knee = with_faults(&of_knee, i, 1), habit = with_faults(&of_habit, j, 2);
                 uint32_t own = first_fault(i), number = own != 0 ? own : first_fault(j);

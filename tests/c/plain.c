@@ -100,11 +100,6 @@ static struct step step_on(const struct model *m, size_t a, uint32_t charge, uin
     return draw_step(charge, m->draws[a], m->gains[a], b);
 }
 
-int32_t plain_charge_after(const struct model *m, size_t a, uint32_t charge, uint32_t b)
-{
-    return step_on(m, a, charge, b).charge;
-}
-
 /* 11 to 14. */
 static struct verdict plain_shape(const struct model *m, uint32_t p, uint32_t q, const uint8_t *plan, size_t length)
 {
@@ -306,8 +301,7 @@ struct warded plain_ward(const struct model *m, struct wearer *wearers, size_t c
     return answer;
 }
 
-/* The pair of a mode and a charge after an arc, or -1 where the arc does not leave the pair or is not possible there. */
-static int pair_after(const struct model *m, uint32_t b, uint32_t pair, size_t a)
+int plain_pair_after(const struct model *m, uint32_t b, uint32_t pair, size_t a)
 {
     int32_t charge = step_on(m, a, pair % (b + 1), b).charge;
 
@@ -316,15 +310,15 @@ static int pair_after(const struct model *m, uint32_t b, uint32_t pair, size_t a
     return m->targets[a] * (int)(b + 1) + charge;
 }
 
-/* The arcs of a plan's prefix are any that are on; those of its cycle are on and have no barred colour. */
-enum part { PREFIX, CYCLE };
+int plain_may_stand(enum part part, const struct model *m, size_t a)
+{
+    return plain_is_on(m->switches, a) && (part == PREFIX || !plain_has_barred(m, m->colours[a]));
+}
 
 /* The same, and -1 where the arc may not stand in this part. */
 static int pair_in(enum part part, const struct model *m, uint32_t b, uint32_t pair, size_t a)
 {
-    if (!plain_is_on(m->switches, a) || (part == CYCLE && plain_has_barred(m, m->colours[a])))
-        return -1;
-    return pair_after(m, b, pair, a);
+    return plain_may_stand(part, m, a) ? plain_pair_after(m, b, pair, a) : -1;
 }
 
 /* reach[x]: the pairs that are reached from pair x by one arc or more of this part, a bit for each. */

@@ -1,6 +1,7 @@
 /*
  * Judging, the existence of a plan, gauge, walk and ward, as plainly as document 01 and Asks 2 to 6, 9 and 11 of document 02 have them
- * and with no code of the library: what the C tests compare with. The join is in plain_join.h, the reach in plain_reach.h.
+ * and with no code of the library: what the C tests compare with. The join is in plain_join.h, the reach in plain_reach.h, the decision in
+ * plain_decide.h.
  */
 #ifndef PLAIN_H
 #define PLAIN_H
@@ -16,8 +17,8 @@ struct switches {
 /*
  * A model as a call is lent it: the six lists may be of unequal length, and null where they have none. Where there are weights, as
  * many as sources, the plain reading goes by them, as document 01 has it, and does not look at draws and gains. No call is lent them.
- * The barred colours are no part of a model, but are kept with it here: judging, search and the walk are lent the byte, no other call is.
- * Nor are the switches: search and a fresh reach are lent them.
+ * The barred colours are no part of a model, but are kept with it here: judging, search, the decision and the walk are lent the byte, no
+ * other call is. Nor are the switches: search, the decision and a fresh reach are lent them.
  */
 struct model {
     uint32_t n, start, k;
@@ -66,9 +67,6 @@ int plain_all_on(struct switches s, const uint8_t *arcs, size_t count);
 
 /* 1 to 6; number 0 where none applies. */
 struct verdict plain_fitness(const struct model *m, uint32_t c, uint32_t b);
-
-/* The charge after a step on an arc, or -1 where the step is not possible. */
-int32_t plain_charge_after(const struct model *m, size_t a, uint32_t charge, uint32_t b);
 
 /* Whether a barred colour of the model is among these, and whether every other one is. */
 int plain_has_barred(const struct model *m, uint32_t colours);
@@ -121,6 +119,16 @@ struct warded {
  */
 struct warded plain_ward(const struct model *m, struct wearer *wearers, size_t count, uint32_t p, uint32_t q, const uint8_t *plan,
     size_t length);
+
+/* The arcs of a plan's prefix are any that are on; those of its cycle are on and have no barred colour. */
+enum part { PREFIX, CYCLE };
+int plain_may_stand(enum part part, const struct model *m, size_t a);
+
+/*
+ * The pair of a mode and a charge after an arc, or -1 where the arc does not leave the pair or is not possible there. The pair of mode s and
+ * charge e has the number s * (b + 1) + e.
+ */
+int plain_pair_after(const struct model *m, uint32_t b, uint32_t pair, size_t a);
 
 /* The most pairs of a mode and a charge that plain_has_plan takes: n * (b + 1). */
 enum { PLAIN_PAIRS_MOST = 64 };

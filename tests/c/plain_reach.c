@@ -2,30 +2,21 @@
 
 #include <string.h>
 
-/* The most pairs of a mode and a charge: n * (b + 1). */
-enum { PAIRS_MOST = 64 * 8192 };
-
 /* Whether each pair is reached, and those that are reached and whose arcs are still to be tried. */
 static uint8_t is_reached[PAIRS_MOST];
 static uint32_t to_try[PAIRS_MOST];
 static size_t trying;
 
-/* The arcs that are on and leave each mode. */
-static struct {
-    uint8_t arcs[255];
-    size_t count;
-} leaving[REACH_PLACES];
-
-static void find_leaving(const struct model *m)
+void plain_find_leaving(const struct model *m, enum part part, struct leaving *of_mode)
 {
     size_t a;
 
-    memset(leaving, 0, sizeof leaving);
+    memset(of_mode, 0, m->n * sizeof *of_mode);
     for (a = 0; a < m->sources_length; a++) {
-        uint32_t mode = m->sources[a];
+        struct leaving *of_source = &of_mode[m->sources[a]];
 
-        if (plain_is_on(m->switches, a))
-            leaving[mode].arcs[leaving[mode].count++] = (uint8_t)a;
+        if (plain_may_stand(part, m, a))
+            of_source->arcs[of_source->count++] = (uint8_t)a;
     }
 }
 
@@ -37,37 +28,38 @@ static void reach_pair(uint32_t pair)
     to_try[trying++] = pair;
 }
 
-/* Every pair that a walk of arcs that are on leads to, from the start mode with charge c. */
-static void reach_pairs(const struct model *m, uint32_t c, uint32_t b)
+const uint8_t *plain_reached_pairs(const struct model *m, uint32_t c, uint32_t b)
 {
+    static struct leaving leaving[REACH_PLACES];
     size_t i;
 
     memset(is_reached, 0, m->n * (b + 1));
-    find_leaving(m);
+    plain_find_leaving(m, PREFIX, leaving);
     trying = 0;
     reach_pair(m->start * (b + 1) + c);
     while (trying > 0) {
-        uint32_t pair = to_try[--trying], mode = pair / (b + 1);
+        uint32_t pair = to_try[--trying];
+        const struct leaving *arcs = &leaving[pair / (b + 1)];
 
-        for (i = 0; i < leaving[mode].count; i++) {
-            uint8_t a = leaving[mode].arcs[i];
-            int32_t charge = plain_charge_after(m, a, pair % (b + 1), b);
+        for (i = 0; i < arcs->count; i++) {
+            int to = plain_pair_after(m, b, pair, arcs->arcs[i]);
 
-            if (charge >= 0)
-                reach_pair(m->targets[a] * (b + 1) + (uint32_t)charge);
+            if (to >= 0)
+                reach_pair((uint32_t)to);
         }
     }
+    return is_reached;
 }
 
 /* "Keep for each mode the greatest charge with which it can be reached (the start mode by no arc with c), or 'unreached'." */
 static void fill_charges(struct reach *r, const struct model *m, uint32_t c, uint32_t b)
 {
+    const uint8_t *reached = plain_reached_pairs(m, c, b);
     uint32_t mode, charge;
 
-    reach_pairs(m, c, b);
     for (mode = 0; mode < m->n; mode++)
         for (charge = 0; charge <= b; charge++)
-            if (is_reached[mode * (b + 1) + charge])
+            if (reached[mode * (b + 1) + charge])
                 r->charges[mode] = (uint16_t)charge;
 }
 

@@ -4,6 +4,19 @@
 
 #include "plain.h"
 
+/* The most pairs of a mode and a charge, n * (b + 1), for which there is space. */
+enum { PAIRS_MOST = 1 << 21 };
+
+/* The arcs that leave each mode and may stand in this part of a plan. */
+struct leaving {
+    uint8_t arcs[255];
+    size_t count;
+};
+void plain_find_leaving(const struct model *m, enum part part, struct leaving *of_mode);
+
+/* For each pair whether a walk of arcs that are on leads to it, from the start mode with charge c; of a fit model, until the next call. */
+const uint8_t *plain_reached_pairs(const struct model *m, uint32_t c, uint32_t b);
+
 /* The places of a reach, and the charge of a mode that is not reached. */
 enum { REACH_PLACES = 64, PLAIN_UNREACHED = 65535 };
 

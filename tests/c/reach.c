@@ -273,35 +273,26 @@ void test_reach_colours(void)
     }
 }
 
-/* The faults of a call, in the order in which they are looked at. */
-enum { OF_MODES, OF_START, OF_LISTS, OF_COLOURS, OF_ARC, OF_LEVELS, OF_NUMBER, FAULTS };
-
-/* Every set of faults: the first is answered. A fresh reach is given no arc number. */
+/* Every set of faults of the model, with right and wrong levels and arc numbers: the first is answered. A fresh reach has no number. */
 void test_reach_order(void)
 {
-    static const uint32_t numbers[] = {CHARGEPLAN_MODE_COUNT, CHARGEPLAN_START_MODE, CHARGEPLAN_ARC_LISTS, CHARGEPLAN_COLOUR_COUNT,
-        CHARGEPLAN_UNFIT_ARC, CHARGEPLAN_LEVELS, CHARGEPLAN_ARC_NUMBER};
-    static const struct arc arcs[] = {{0, 0, 0, 0, 0, 0}, {0, 1, 0, 0, 0, 0}, {1, 1, 0, 0, 0, 0}};
+    static const char what[] = "the order of the refusals";
+    struct lists lists;
     unsigned faults;
+    uint32_t c, arc;
 
-    for (faults = 1; faults < 1u << FAULTS; faults++) {
-        struct lists lists;
-        struct model m = of_arcs(&lists, 2, 1, arcs, 3);
-        uint32_t c = faults >> OF_LEVELS & 1 ? 6 : 5, arc = faults >> OF_NUMBER & 1 ? 3 : 2, detail;
-        unsigned first = 0;
+    for (faults = 0; faults < 1u << MODEL_FAULTS; faults++)
+        for (c = 5; c <= 6; c++)
+            for (arc = 2; arc <= 3; arc++) {
+                struct model m = with_faults(&lists, faults, 2);
+                uint32_t own = first_fault(faults), number = own != 0 ? own : c > 5 ? CHARGEPLAN_LEVELS : CHARGEPLAN_YES;
+                uint32_t detail = own == CHARGEPLAN_UNFIT_ARC ? 2 : 0;
 
-        while ((faults >> first & 1) == 0)
-            first++;
-        m.n = faults >> OF_MODES & 1 ? 65 : 2;
-        m.start = faults >> OF_START & 1 ? 70 : 0;
-        m.gains_length -= faults >> OF_LISTS & 1;
-        m.k = faults >> OF_COLOURS & 1 ? 5 : 1;
-        lists.draws[2] = faults >> OF_ARC & 1 ? 10001 : 0;
-        detail = first == OF_ARC ? 2 : 0;
-        switch_refused("the order of the refusals", &m, c, 5, arc, numbers[first], detail);
-        if (first < OF_NUMBER)
-            start_refused("the order of the refusals", &m, c, 5, numbers[first], detail);
-    }
+                if (number != CHARGEPLAN_YES)
+                    start_refused(what, &m, c, 5, number, detail);
+                if (number != CHARGEPLAN_YES || arc == 3)
+                    switch_refused(what, &m, c, 5, arc, number != CHARGEPLAN_YES ? number : CHARGEPLAN_ARC_NUMBER, detail);
+            }
 }
 
 /* 12, detail 0: numbers that are not cut down, and models of many lengths. */

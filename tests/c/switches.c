@@ -71,8 +71,7 @@ static void same_found(const char *what, struct model m, uint32_t c, uint32_t b,
     check(same(plan, again, chargeplan_prefix(answer) + chargeplan_cycle(answer)), what);
 }
 
-/* The switches with all bits at or above m set, or cleared. */
-static struct switches from(struct switches s, size_t m, int set)
+struct switches with_from(struct switches s, size_t m, int set)
 {
     for (; m < BITS; m++)
         s = set ? with_on(s, m) : with_off(s, m);
@@ -98,10 +97,10 @@ void test_switches_ignored(void)
             if (a + 2 < m && a % 3 == 0)
                 s = with_off(s, a);
         }
-        same_found("all on, other bits above", two, 0, 0, all_on, from(all_on, m, 0));
-        same_found("some off, other bits above", two, 0, 0, from(s, m, 1), from(s, m, 0));
-        searched_on("some off, no bits above", two, from(s, m, 0), 0, 0, m >= 2);
-        searched_on("all off, all bits above", two, from(all_off, m, 1), 0, 0, 0);
+        same_found("all on, other bits above", two, 0, 0, all_on, with_from(all_on, m, 0));
+        same_found("some off, other bits above", two, 0, 0, with_from(s, m, 1), with_from(s, m, 0));
+        searched_on("some off, no bits above", two, with_from(s, m, 0), 0, 0, m >= 2);
+        searched_on("all off, all bits above", two, with_from(all_off, m, 1), 0, 0, 0);
         searched_on("the last off, all bits above", two, m == 0 ? all_on : with_off(all_on, m - 1), 0, 0, 0);
     }
 }

@@ -180,6 +180,26 @@ static void test_random_reaches_and_searches(void)
     test_random_reach_and_search(random_models / 40);
 }
 
+static void test_random_decisions_of_small_models(void)
+{
+    test_random_decisions(random_models / 4);
+}
+
+static void test_random_models_decided_and_searched(void)
+{
+    test_random_decisions_and_searches(random_models / 100);
+}
+
+static void test_random_models_of_many_pairs(void)
+{
+    test_random_decisions_of_many_pairs(random_models / 400);
+}
+
+static void test_random_decisions_scaled(void)
+{
+    test_random_scaled_decisions(random_models / 50);
+}
+
 static const struct {
     const char *name;
     void (*run)(void);
@@ -295,6 +315,17 @@ static const struct {
     {"reach, switchings with other levels and models", test_reach_levels},
     {"reach, each of 255 arcs off and on again", test_reach_each},
     {"reach, all arcs off and on again", test_reach_all},
+    {"decision, document 01's examples scaled up", test_decide_examples},
+    {"decision, loops raised to their top", test_decide_loops},
+    {"decision, peaks that do not come again", test_decide_sets},
+    {"decision, a ring and a chain of 64 modes", test_decide_large},
+    {"decision, 1 to 5", test_decide_unfit},
+    {"decision, 6: bounds up to 1,000,000", test_decide_levels},
+    {"decision, 7 and 9 are not looked at", test_decide_products},
+    {"decision, 8, and what is left in the space", test_decide_spaces},
+    {"decision, the order of the refusals", test_decide_order},
+    {"decision, barred colours", test_decide_barred},
+    {"decision, switches", test_decide_switches},
     {"header", test_header},
     {"random models and plans", test_random_models},
     {"random models with many arcs", test_random_large_models},
@@ -327,6 +358,10 @@ static const struct {
     {"random reaches and switchings with many arcs", test_random_reaches_of_large_models},
     {"random reaches of models scaled up", test_random_reaches_scaled},
     {"random reaches, and searches that need their charges", test_random_reaches_and_searches},
+    {"random decisions", test_random_decisions_of_small_models},
+    {"random decisions, and searches of many arcs", test_random_models_decided_and_searched},
+    {"random decisions of models that search refuses", test_random_models_of_many_pairs},
+    {"random decisions of models scaled up", test_random_decisions_scaled},
 };
 
 int main(int argc, char **argv)
