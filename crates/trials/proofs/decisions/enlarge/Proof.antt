@@ -31,4 +31,6 @@ enlarge-spec =
     (search needs)
     (search needs)
     (search needs)
+    (search needs)
+    (search needs)
     (search needs))
