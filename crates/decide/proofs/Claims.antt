@@ -8,7 +8,6 @@ use Prim.Native.Nat.{ℕ, _<_}
 use native.Mathlib.Omega.{arith}
 use lib.ListN.{length, replicate}
 use Rattle.refusals.specs.declared.Refusal.{Refusal}
-use Rattle.refusals.specs.declared.Refusal.the-variants.{NoPlan}
 use Rattle.refusals.specs.declared.Answer.{Answer}
 use Rattle.refusals.specs.declared.Verdict.{Verdict}
 use Rattle.refusals.specs.declared.Verdict.the-variants.{Yes, Refused}
@@ -19,7 +18,7 @@ use Rattle.model.specs.Lists.{Lists, automatonOf}
 use Rattle.model.specs.Plans.{Plan, IsPlan, Feasible, Accepted, SomePlan}
 use Rattle.model.proofs.Plans.{serves-ignored}
 use Rattle.switches.specs.Switches.{SameBelow, AllBelow}
-use Rattle.switches.specs.PlansOn.{AllOn, ServesOn, SomePlanOn}
+use Rattle.switches.specs.PlansOn.{AllOn, SomePlanOn}
 use Rattle.switches.proofs.PlansOn.{some-plan-all-on, some-plan-ignored}
 use Rattle.decide.specs.Decide.{decidable, answerIf, Decision, DecideOf}
 

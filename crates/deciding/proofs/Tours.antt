@@ -17,14 +17,14 @@ use Rattle.groups.specs.Grouped.{arcCount}
 use Rattle.passes.specs.RowsNet.{rowsNet}
 use Rattle.closing.specs.declared.Level.{Level}
 use Rattle.closing.specs.Closed.{ClosedLevel}
-use Rattle.closing.specs.Stratum.{Stratum, stratum, levelAlone, graphOf, leavesBy, leaving, Staying, Leaving, Ready, Placed}
+use Rattle.closing.specs.Stratum.{Stratum, stratum, graphOf, leavesBy, leaving, Staying, Leaving, Ready, Placed}
 use Rattle.closing.specs.Tables.{Closable, Closes, Findable}
 use Rattle.closing.proofs.Closed.{closed-level-same}
 use Rattle.sets.specs.Levels.{LevelTable, StaysIn, LeavesFor, Entered}
 use Rattle.sets.specs.Sets.{counted, LastTable}
 use Rattle.sets.proofs.Levels.{entered-first, entered-bound, level-table, level-entered}
 use Rattle.deciding.specs.declared.Question.{Question}
-use Rattle.deciding.specs.Deciding.{word, lastOf, levelAt, askedNet, Decidable, Below, Enterable, ClosedTo, EntersNext}
+use Rattle.deciding.specs.Deciding.{word, lastOf, levelAt, askedNet, Decidable, Below, Enterable, EntersNext}
 use Rattle.deciding.proofs.Words.{word-inside}
 
 -- the numbers of a level, as the code makes them

@@ -1,11 +1,10 @@
--- What a pass leaves, in the words of nets: its table is the table of the greatest charges, and the arcs read back are walks of the net.
--- So the pass for the peaks finds them, and the pass from a mode with a charge says whether a cycle keeps it. Assumes nothing.
+-- What the pass from a mode with a charge leaves, in the words of nets: it says whether a cycle keeps the charge, and the arcs read back are that cycle. Assumes
+-- nothing.
 use mathlib.Core.Path.{_≡_, refl, sym, ap, subst, _∙_}
-use mathlib.Core.Bool.{Bool, true, false, _&&_, and-eq-true-iff}
+use mathlib.Core.Bool.{Bool, true, _&&_, and-eq-true-iff}
 use mathlib.Core.Logic.{_↔_}
 use mathlib.Core.List.{List, [], _∷_, _++_}
-use Prim.Native.Nat.{ℕ, suc, _+_, _/_, _≤_, _<_}
-use native.Mathlib.Nat.{div-eq-of-lt, mod-eq-of-lt}
+use Prim.Native.Nat.{ℕ, suc, _+_, _/_, _<_}
 use native.Mathlib.Omega.{arith}
 use lib.ListN.{length, getD}
 use Rattle.walks.specs.BoundedStep.{after}
@@ -15,16 +14,12 @@ use Rattle.nets.proofs.Decides.{kept-closed, closed-kept}
 use Rattle.passes.specs.Pass.{Pass, Ready, node, room}
 use Rattle.passes.specs.Queue.{nodeAt, chargeAt, Covers, Closes, Begun, Passed}
 use Rattle.passes.specs.Trace.{Traced}
-use Rattle.passes.specs.Outcome.{Kept, Peaked, CyclePassed}
-use Rattle.passes.proofs.Nodes.{node-level, node-mode, nodes-first}
+use Rattle.passes.specs.Outcome.{Kept, CyclePassed}
+use Rattle.passes.proofs.Nodes.{node-level, node-mode}
 use Rattle.passes.proofs.Steps.{closes-at, closes-not, along-taken, arc-along}
-use Rattle.passes.proofs.Queue.{along-low, node-levels, queue-room, entry-low}
+use Rattle.passes.proofs.Queue.{node-levels, queue-room, entry-low}
 use Rattle.passes.proofs.Traces.{queue-linked}
-use Rattle.passes.proofs.Walks.{traced-reached, listed-reached, covered-closed}
-
--- the pass for the peaks: a single level, and a charge that no arc comes to
-abbrev pub peaksPass : Net → List ℕ → ℕ → Pass
-peaksPass g places b = record { net = g; places = places; ok = g .on; last = 0; bound = b; goal = 0; least = b + 1 }
+use Rattle.passes.proofs.Walks.{traced-reached, covered-closed}
 
 -- the pass from mode m with charge e: the levels 0 to k, and back to m in the last one with e or more
 abbrev pub cyclePass : Net → List ℕ → ℕ → ℕ → ℕ → Pass
@@ -40,55 +35,14 @@ cyclePass g places b m e =
     }
 
 module _ (net : Net) (places : List ℕ) (b : ℕ) (fits : Fits net) where
-  -- a prefix may use the arcs that are on, a cycle those that last
-  usable-ok : (a : ℕ) → Usable net a ↔ ((a < net .count) × (net .on a ≡ true))
-  usable-ok a = (λ h. h, λ h. h)
-
+  -- a cycle may use the arcs that last
   lasts-ok : (a : ℕ) → Lasts net a ↔ ((a < net .count) × ((net .on a && net .lasting a) ≡ true))
   lasts-ok a =
       let both = and-eq-true-iff (net .on a) (net .lasting a) in
       (λ h. (h .0 .0, both .1 (h .0 .1, h .1)), λ h. ((h .0, both .0 (h .1) .0), both .0 (h .1) .1))
 
-  peaks-usable : (a : ℕ) → a < net .count → net .on a ≡ true → Usable net a
-  peaks-usable a h o = (h, o)
-
   cycle-usable : (a : ℕ) → a < net .count → (net .on a && net .lasting a) ≡ true → Usable net a
   cycle-usable a h o = lasts-ok a .1 (h, o) .0
-
-  -- no arc comes to a charge above the bound
-  peaks-unclosed : {c head a tail : ℕ} {best w : List ℕ} {found : Bool} → Passed (peaksPass net places b) (net .start) c best w found head a tail
-      → found ≡ false
-  peaks-unclosed {found = false} p = refl
-  peaks-unclosed {found = true} p =
-      let h = p .closing refl in
-      absurd (omega (arith, along-low (h .step), closes-at 0 (b + 1) (h .node) (h .charge) .0 (h .at-goal) .1))
-
-  -- no arc closes a cycle in the pass for the peaks, and it leaves the peaks
-  pub passed-peaked : (c : ℕ) {best w : List ℕ} {found : Bool} {head a tail : ℕ}
-      → Ready (peaksPass net places b) (length best) (length w) → Passed (peaksPass net places b) (net .start) c best w found head a tail
-      → Peaked net b c best w tail
-  passed-peaked c {best} {w} {tail = tail} r p =
-      let P = peaksPass net places b in
-      let n = net .modes in
-      let from = p .from in
-      let size : length best ≡ n = r .table ∙ nodes-first n in
-      record {
-        table =
-            record {
-              closed = covered-closed P fits peaks-usable (Usable net) usable-ok (net .start) c best w tail (fits .starts) from (p .covers (peaks-unclosed p));
-              attained = λ j t x hj. listed-reached P fits peaks-usable (Usable net) usable-ok (net .start) c best w tail (fits .starts) from j t x;
-            };
-        held = λ m hm. from .queue .held m;
-        few = subst (λ (y : ℕ). tail ≤ room y b) size (queue-room (from .queue));
-        linked = λ i h. queue-linked r (from .queue) h;
-        arcs = λ i h arcs t.
-            let low : nodeAt w i < n = omega (arith, entry-low i (from .queue) h .0) in
-            let d =
-            traced-reached P fits peaks-usable (Usable net) usable-ok (net .start) c best w tail (fits .starts) from i 0 (nodeAt w i) (chargeAt w i) arcs h
-            (div-eq-of-lt low) (mod-eq-of-lt low) refl t
-            in
-            record { reached = d .0; same = d .1 };
-      }
 
   module _ (m e : ℕ) (best w : List ℕ) (tail : ℕ) (hm : m < net .modes) (from : Begun (cyclePass net places b m e) m e best w tail) where
     -- where every greatest charge is covered, no cycle from m keeps e: an arc would close it

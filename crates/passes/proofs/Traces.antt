@@ -1,18 +1,14 @@
 -- Laws of the arcs that are read back: their number, how they are written from the last to the first, that a queue can be read; and of the
 -- search for an entry. Assumes nothing.
 use mathlib.Core.Path.{_≡_, refl, sym, ap, subst, subst₂, _∙_}
-use mathlib.Core.Bool.{Bool, true, false, true≢false, _&&_, and-eq-true-iff}
-use mathlib.Core.List.{List, [], _∷_}
-use Prim.Native.Nat.{ℕ, zero, suc, _+_, _-_, _≤_, _<_}
+use mathlib.Core.List.{List, _∷_}
+use Prim.Native.Nat.{ℕ, suc, _+_, _-_, _≤_, _<_}
 use native.Mathlib.Omega.{arith}
 use native.Mathlib.Numerals.{add-one}
-use native.Mathlib.Decide.{ℕ-discrete}
-use borrow.Author.Tests.{eqb-true, eq-eqb}
-use lib.Dec.{eqb}
 use lib.ListN.{length, set, take, drop, length-set}
 use lib.Seq.{getD-set-same, slice, slice-cons, slice-empty, drop-set-lt, take-set-lt}
 use Rattle.passes.specs.Pass.{Pass, Ready}
-use Rattle.passes.specs.Queue.{nodeAt, chargeAt, parentAt, numberAt, SomeEntry, Queue}
+use Rattle.passes.specs.Queue.{parentAt, numberAt, Queue}
 use Rattle.passes.specs.Trace.{Linked, Chain, root, link, Traced, here, there, Wrote}
 use Rattle.passes.proofs.Queue.{entry-space}
 
@@ -111,31 +107,6 @@ tracing-all {w} {i} {len} {j} {at} {plan₀} {plan} l c t h =
 pub tracing-some : {w : List ℕ} {i len j at : ℕ} {plan₀ plan : List ℕ} → Tracing w i len plan₀ plan j at → 0 < j → 0 < at
 tracing-some t pos = omega (arith, chain-next (t .chain) pos .1)
 
--- where the test r of entry i says yes, it has the node and the charge
-pub entry-here : {r : Bool} (w : List ℕ) (i v x : ℕ) → r ≡ (eqb (nodeAt w i) v && eqb (chargeAt w i) x) → r ≡ true
-    → (nodeAt w i ≡ v) × (chargeAt w i ≡ x)
-entry-here w i v x e same =
-    let tests = and-eq-true-iff (eqb (nodeAt w i) v) (eqb (chargeAt w i) x) .0 (sym e ∙ same) in
-    (eqb-true (nodeAt w i) v (tests .0), eqb-true (chargeAt w i) x (tests .1))
-
--- where it says no, an entry from i + 1 on has them
-pub entry-after : {r : Bool} {w : List ℕ} {i tail v : ℕ} (x : ℕ) → SomeEntry w i tail v (x + 1)
-    → r ≡ (eqb (nodeAt w i) v && eqb (chargeAt w i) x) → r ≡ false → SomeEntry w (i + 1) tail v (x + 1)
-entry-after {w = w} {i} {tail} {v} x n e differs = go (ℕ-discrete i (n .index))
-  where
-    same : i ≡ n .index → (eqb (nodeAt w i) v && eqb (chargeAt w i) x) ≡ true
-    same q =
-        and-eq-true-iff (eqb (nodeAt w i) v) (eqb (chargeAt w i) x) .1 (
-          eq-eqb (nodeAt w i) v (subst (λ k. nodeAt w k ≡ v) (sym q) (n .node)),
-          eq-eqb (chargeAt w i) x (omega (arith, subst (λ k. chargeAt w k + 1 ≡ x + 1) (sym q) (n .charge))),
-        )
-
-    go : Dec (i ≡ n .index) → SomeEntry w (i + 1) tail v (x + 1)
-    go (yes q) = absurd (true≢false (sym (e ∙ same q) ∙ differs))
-    go (no ne) =
-        let from = n .from in
-        record { index = n .index; from = omega arith; before = n .before; node = n .node; charge = n .charge }
-
 -- the entries of a queue can be read back
 pub queue-linked : {P : Pass} {best w : List ℕ} {tail i : ℕ} → Ready P (length best) (length w) → Queue P best w tail → i < tail
     → Linked w i
@@ -153,23 +124,3 @@ module _ (w : List ℕ) (tail : ℕ) (back : (i : ℕ) → 0 < i → i < tail �
   traced-le h (there {j = j} pos ep ea t) =
       let q = traced-le h t in
       omega (arith, back j pos (omega arith))
-
-  -- what leads from entry j to entry i can be read back to the first entry
-  traced-from : (fuel i j : ℕ) (arcs : List ℕ) → i < tail → j ≤ fuel → Traced w i j arcs → (l : List ℕ) × Traced w i 0 l
-  traced-from zero i j arcs h f t = let z : j ≡ 0 = omega arith in (arcs, rw z at t)
-  traced-from (suc fuel) i j arcs h f t =
-      elim (ℕ-discrete j 0) [
-        | yes z ↦ (arcs, subst (λ (m : ℕ). Traced w i m arcs) z t)
-        | no z ↦
-            let q = traced-le h t in
-            let p = back j (omega arith) (omega arith) in
-            traced-from fuel i (parentAt w j) (numberAt w j ∷ arcs) h (omega arith) (there (omega arith) refl refl t)
-      ]
-
-  -- every entry can be read back
-  pub traced-some : (i : ℕ) → i < tail → (l : List ℕ) × Traced w i 0 l
-  traced-some i h = traced-from i i i [] h (omega arith) (here refl)
-
--- the arcs to an entry that is linked can be read back
-pub linked-traced : {w : List ℕ} {i : ℕ} → Linked w i → (l : List ℕ) × Traced w i 0 l
-linked-traced {w} {i} k = traced-some w (suc i) (λ j h0 h1. k .back j h0 (omega arith)) i (omega arith)

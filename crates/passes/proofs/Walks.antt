@@ -4,7 +4,7 @@ use mathlib.Core.Path.{_≡_, refl, sym, ap, subst, _∙_}
 use mathlib.Core.Bool.{true}
 use mathlib.Core.List.{List, [], _∷_}
 use mathlib.Core.Logic.{_↔_}
-use Prim.Native.Nat.{ℕ, suc, _+_, _/_, _%_, _<_}
+use Prim.Native.Nat.{ℕ, _+_, _/_, _%_, _<_}
 use native.Mathlib.Nat.{div-eq-of-lt, mod-eq-of-lt}
 use native.Mathlib.Omega.{arith}
 use lib.ListN.{getD}
@@ -16,8 +16,8 @@ use Rattle.nets.specs.Table.{next, level, Closed, Reached}
 use Rattle.passes.specs.Pass.{Pass, node}
 use Rattle.passes.specs.Queue.{nodeAt, chargeAt, Made, Covers, Begun}
 use Rattle.passes.specs.Trace.{Traced, here, there}
-use Rattle.passes.proofs.Nodes.{node-level, node-mode, node-first}
-use Rattle.passes.proofs.Traces.{traced-le, traced-some}
+use Rattle.passes.proofs.Nodes.{node-first}
+use Rattle.passes.proofs.Traces.{traced-le}
 use Rattle.passes.proofs.Steps.{Taken, along-taken, arc-along}
 
 module _ (P : Pass) (fits : Fits (P .net)) (usable : (a : ℕ) → a < P .net .count → P .ok a ≡ true → Usable (P .net) a) (ok : ℕ → Type 0)
@@ -67,15 +67,6 @@ module _ (P : Pass) (fits : Fits (P .net)) (usable : (a : ℕ) → a < P .net .c
           },
           refl,
         )
-
-    -- what the table lists is reached
-    pub listed-reached : (l t x : ℕ) → t < P .net .modes → getD best (node (P .net .modes) l t) 0 ≡ suc x
-        → Reached (P .net) ok (P .last) (P .bound) m c l t x
-    listed-reached l t x h q =
-        let e = begun .queue .held (node (P .net .modes) l t) (omega arith) in
-        let d = traced-some w tail (λ i h0 h1. begun .queue .made i h0 h1 .back) (e .index) (e .before) in
-        traced-reached (e .index) l t x (d .0) (e .before) (rw (e .node) (node-level (P .net .modes) l t h))
-        (rw (e .node) (node-mode (P .net .modes) l t h)) (omega (arith, e .charge)) (d .1) .0
 
     -- a table whose greatest charges are all covered is closed
     pub covered-closed : ((v x : ℕ) → getD best v 0 ≡ x + 1 → (a : ℕ) → Covers P best a v x)

@@ -6,8 +6,8 @@ use Prim.Native.Nat.{ℕ, suc, _≤_, _<_}
 use lib.ListN.{getD, take, drop}
 use Rattle.nets.specs.Net.{Net, Usable}
 use Rattle.nets.specs.Table.{Reached, Peaks, KeptCycle}
-use Rattle.passes.specs.Pass.{node, nodes, room}
-use Rattle.passes.specs.Queue.{byteCount, SomeEntry, nodeAt, chargeAt}
+use Rattle.passes.specs.Pass.{nodes, room}
+use Rattle.passes.specs.Queue.{byteCount}
 use Rattle.passes.specs.Trace.{Linked, Traced}
 
 -- the arcs are a walk of possible steps from the start mode with credit c to mode t with charge x
@@ -32,14 +32,6 @@ pub record KeptPeak (g : Net) (b s y : ℕ) : Type 0 where
   pub peak : ℕ
   pub listed : y ≡ suc peak
   pub cycle : KeptCycle g b s peak
-
--- what the pass for the peaks leaves: the table, and a queue of r entries in w from which the arcs to each can be read
-pub record Peaked (g : Net) (b c : ℕ) (best w : List ℕ) (r : ℕ) : Type 0 where
-  pub table : Peaks g b c (λ l t. getD best (node (g .modes) l t) 0)
-  pub held : (s : ℕ) → s < g .modes → 0 < getD best s 0 → SomeEntry w 0 r s (getD best s 0)
-  pub few : r ≤ room (g .modes) b
-  pub linked : (i : ℕ) → i < r → Linked w i
-  pub arcs : (i : ℕ) → i < r → (l : List ℕ) → Traced w i 0 l → Arrival g b c (nodeAt w i) (chargeAt w i) l
 
 -- what the pass from mode s with charge e leaves: no cycle keeps e, or the arcs to entry head and arc a are one that does
 pub record CyclePassed (g : Net) (b s e : ℕ) (w : List ℕ) (found : Bool) (head a : ℕ) : Type 0 where

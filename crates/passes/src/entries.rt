@@ -1,12 +1,10 @@
 // The entries of the queue in the working space: four words each, for the node, the charge, the entry that it was reached from and the arc.
-// Writing them, looking one up, and reading the arcs back.
+// Writing them, and reading the arcs back.
 ghost use mathlib.Core.Path.{_≡_};
-ghost use mathlib.Core.Bool.{_&&_};
 ghost use Prim.Native.Nat.{_+_, _*_, _≤_, _<_};
-ghost use lib.Dec.{eqb};
 ghost use lib.ListN.{length, replicate};
 ghost use Rattle.limits.specs.Ceilings.{workWords};
-ghost use Rattle.passes.specs.Queue.{byteCount, nodeAt, chargeAt, parentAt, numberAt, SomeEntry, Pushed};
+ghost use Rattle.passes.specs.Queue.{byteCount, nodeAt, chargeAt, parentAt, numberAt, Pushed};
 ghost use Rattle.passes.specs.Trace.{Linked, Chain, Wrote};
 use limits::Limits;
 
@@ -112,31 +110,4 @@ pub fn trace(work: &[u16], i: usize, plan: &mut [u8]) -> usize
         entry = parent_of(work, entry);
     }
     steps
-}
-
-// Whether an entry has a node and a charge.
-fn is_entry(work: &[u16], i: usize, node: usize, charge: u16) -> bool
-    requires { ⌜ workWords * i + workWords ≤ length (now work) ⌝ }
-    ensures { λ r. ⌜ r ≡ eqb (nodeAt (now (work .entry)) i) node && eqb (chargeAt (now (work .entry)) i) charge ⌝ }
-{
-    if node_of(work, i) != node {
-        return false;
-    }
-    charge_of(work, i) == charge
-}
-
-// The first entry with a node and a charge.
-pub fn entry_of(work: &[u16], tail: usize, node: usize, charge: u16) -> usize
-    requires { ⌜ SomeEntry (now work) 0 tail node (charge + 1) × (workWords * tail ≤ length (now work)) ⌝ }
-    ensures { λ r. ⌜ (r < tail) × (nodeAt (now (work .entry)) r ≡ node) × (chargeAt (now (work .entry)) r ≡ charge) ⌝ }
-{
-    let mut i = 0;
-    while i < tail {
-        if is_entry(work, i, node, charge) {
-            return i;
-        }
-        i += 1;
-    }
-    // Not reached: some entry has them.
-    i
 }

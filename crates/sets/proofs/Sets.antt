@@ -16,7 +16,6 @@ use Rattle.nets.proofs.Kept.{kept-returned}
 use Rattle.nets.proofs.Criterion.{criterion}
 use Rattle.closing.specs.Closed.{wordIf, onlyAt}
 use Rattle.closing.proofs.Closed.{only-at}
-use Rattle.sets.specs.Levels.{ReachedFrom}
 use Rattle.sets.specs.Sets.{counted, LastTable, sifted, PeakSet, KeptMember}
 use Rattle.sets.proofs.Counted.{counted-duty, counted-modes, counted-kept}
 use Rattle.sets.proofs.Hops.{Hop, HopFrom, hop-kept, come-round}

@@ -1,6 +1,6 @@
 -- Sets of peaks. A set begins as the peaks of all modes; from all its members at once, those stay that are reached again in the last level with
 -- the peak or more, as Emerson and Lei do for sets of states. A set is a table: the peak of a member plus 1, and 0 for a mode that is none.
-use Prim.Native.Nat.{ℕ, zero, suc, _≤_, _<_}
+use Prim.Native.Nat.{ℕ, zero, suc, _<_}
 use mathlib.Core.Path.{_≡_}
 use mathlib.Core.Bool.{true}
 use lib.Dec.{leb}

@@ -1,5 +1,5 @@
 -- `check_decide` meets its contract: 1 to 5, then 6, then 8. Assumes nothing.
-use mathlib.Core.Path.{_≡_, ap, _∙_}
+use mathlib.Core.Path.{ap, _∙_}
 use Rattle.limits.specs.Ceilings.{decideBoundMost}
 use Rattle.refusals.specs.declared.Verdict.{Verdict}
 use Rattle.refusals.specs.Refusals.{andThen}

@@ -1,5 +1,4 @@
 -- `decide_model` meets its contract: the rows and groups stand for the model. Assumes nothing.
-use native.Mathlib.Omega.{arith}
 use Rattle.decide.proofs.Decidable.{space-modes}
 use Rattle.decide.proofs.Standing.{part-lent, answerable-decidable, answered}
 use borrow.Author.Needs.{needs}

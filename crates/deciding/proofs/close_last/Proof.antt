@@ -2,7 +2,6 @@
 use mathlib.Core.Path.{sym}
 use native.Mathlib.Omega.{arith}
 use Rattle.deciding.proofs.Words.{lent-words}
-use borrow.Author.Needs.{needs}
 use Rattle.deciding.proofs.close_last.Statement.{statement}
 use Rattle.deciding.proofs.close_last.Tie as tie
 

@@ -3,7 +3,6 @@ use mathlib.Core.Path.{sym, _∙_}
 use native.Mathlib.Omega.{arith}
 use Rattle.deciding.proofs.Words.{lent-words, back-fits, lent-back}
 use Rattle.deciding.proofs.Tours.{enters-next}
-use borrow.Author.Needs.{needs}
 use Rattle.deciding.proofs.enter_next.Statement.{statement}
 use Rattle.deciding.proofs.enter_next.Tie as tie
 

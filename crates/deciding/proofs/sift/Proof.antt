@@ -1,5 +1,5 @@
 -- `sift` meets its contract: a word more is sifted at each turn. Assumes nothing.
-use Prim.Native.Nat.{ℕ, _-_}
+use Prim.Native.Nat.{_-_}
 use native.Mathlib.Omega.{arith}
 use lib.ListN.{length}
 use Rattle.deciding.proofs.Sifts.{SiftedTo, sifted-to-none, sifted-to-more, sifted-to-done}

@@ -3,7 +3,6 @@ use mathlib.Core.Path.{sym, _∙_}
 use native.Mathlib.Omega.{arith}
 use Rattle.deciding.proofs.Words.{lent-words, back-fits, lent-back}
 use Rattle.deciding.proofs.Kept.{sifted-once}
-use borrow.Author.Needs.{needs}
 use Rattle.deciding.proofs.sift_once.Statement.{statement}
 use Rattle.deciding.proofs.sift_once.Tie as tie
 

@@ -1,6 +1,5 @@
 -- `sift_word` meets its contract. Assumes nothing.
 use borrow.Author.Tests.{le-leb, lt-leb}
-use borrow.Author.Needs.{needs}
 use Rattle.deciding.proofs.sift_word.Statement.{statement}
 use Rattle.deciding.proofs.sift_word.Tie as tie
 
