@@ -258,17 +258,17 @@ static const struct family families[] = {
     {"switching an arc off, random, 64 modes, 255 arcs, b 127", call_switch, make_switching, 16, 0, 0, 0, 0, 0},
     {"switching, the same, b 8,191", call_switch, make_far_switching, 16, 0, 0, 0, 0, 0},
     {"switching to what it is: the checks of 255 arcs alone", call_switch_to_same, make_switching, 16, 0, 0, 0, 0, 0},
-    {"search, 64 modes, 255 arcs, a colour missing, without", call_search, make_missing, 16, 10, 0, 0, 0, 0},
+    {"search, 64 modes, 255 arcs, a colour missing, without", call_search, make_missing, 4, 10, 0, 0, 0, 0},
     {"search, 64 modes, 255 arcs, poor, without", call_search, make_poor, 16, 10, 0, 0, 0, 0},
-    {"search, 64 modes, 255 arcs, losing, without", call_search, make_losing, 16, 10, 0, 0, 0, 0},
+    {"search, 64 modes, 255 arcs, losing, without", call_search, make_losing, 4, 10, 0, 0, 0, 0},
 };
 
 /* The shapes of models that are decided, each with every one of the bounds: the times are to be seen not to grow with it. */
 static const struct family shapes[] = {
     {"decision, random, 64 modes, 255 arcs, with a plan", call_decide, make_decided, 16, 0, 0, 0, 0, 0},
     {"decision, random, 64 modes, 255 arcs, without", call_decide, make_decided, 16, 10, 0, 0, 0, 0},
-    {"decision, the same, a colour missing, without", call_decide, make_decided_missing, 16, 10, 0, 0, 0, 0},
-    {"decision, the same, losing, without", call_decide, make_decided_losing, 16, 10, 0, 0, 0, 0},
+    {"decision, the same, a colour missing, without", call_decide, make_decided_missing, 4, 10, 0, 0, 0, 0},
+    {"decision, the same, losing, without", call_decide, make_decided_losing, 4, 10, 0, 0, 0, 0},
     {"decision, chain of +1 loops, without", call_decide, make_decided_chain, 1, 10, 0, 0, 0, 0},
     {"decision, ring that gains 1, with a plan", call_decide, make_decided_ring, 1, 0, 0, 0, 0, 0},
     {"decision, document 001's figure 6, with a plan", call_decide, make_decided_figure_6, 1, 0, 0, 0, 0, 0},

@@ -1,13 +1,13 @@
 /*
  * The reach and the decision in C, to compare the library with: the same checks, and tables of greatest charges closed in the same way, so
  * that answers and charges are equal. The entries are REFERENCE_reach_start, REFERENCE_reach_switch and REFERENCE_decide, where the build
- * names REFERENCE.
+ * names REFERENCE. Search takes from it the mode that its cycle begins in.
  */
-#include "model.h"
+#include "closing.h"
 #include "reference.h"
 
-/* The tables of a closing, with a word for each mode. */
-enum { CLOSING_TABLES = 3 };
+/* The tables of a closing, and with a set of peaks those of the decision, each with a word for each mode. */
+enum { CLOSING_TABLES = 3, DECISION_TABLES };
 
 /* A colour that every arc has. */
 enum { EVERY_ARC = 1 << 7 };
@@ -18,7 +18,7 @@ enum { EVERY_ARC = 1 << 7 };
  */
 struct closing {
     const struct model *m;
-    struct groups groups;
+    const struct groups *groups;
     bool lasting;    /* arcs with a barred colour are left out */
     uint32_t leaves; /* colours: an arc with one of them leads to the later table */
     uint32_t *best;  /* the greatest charge of each mode plus 1, 0 for none */
@@ -28,13 +28,9 @@ struct closing {
 };
 
 /* A closing with its tables in these words. */
-static void start_closing(struct closing *t, const struct model *m, uint32_t *words)
+static struct closing start_closing(const struct model *m, const struct groups *groups, uint32_t *words)
 {
-    t->m = m;
-    group(m, &t->groups);
-    t->best = words;
-    t->later = words + m->modes;
-    t->by = words + 2 * m->modes;
+    return (struct closing){.m = m, .groups = groups, .best = words, .later = words + m->modes, .by = words + 2 * m->modes};
 }
 
 /* A mode is reached with a charge over an arc. A full mode has no arc by which it came: no loop can raise it. */
@@ -104,8 +100,8 @@ static void try_arcs(struct closing *t, uint32_t mode)
 {
     int32_t from = (int32_t)t->best[mode] - 1;
 
-    for (size_t i = t->groups.first[mode]; i < t->groups.first[mode + 1]; i++) {
-        const struct row *row = &t->groups.rows[i];
+    for (size_t i = t->groups->first[mode]; i < t->groups->first[mode + 1]; i++) {
+        const struct row *row = &t->groups->rows[i];
         int32_t charge = step(from, row->draw, row->gain, t->m->bound);
         if (charge < 0 || (t->lasting && row->barred))
             continue;
@@ -150,9 +146,10 @@ static void find_peaks(struct closing *t)
 static void find_charges(const struct model *m, uint16_t *charges)
 {
     uint32_t words[CLOSING_TABLES * CHARGEPLAN_MODES_MOST];
-    struct closing t;
+    struct groups groups;
+    struct closing t = start_closing(m, &groups, words);
 
-    start_closing(&t, m, words);
+    group(m, &groups);
     find_peaks(&t);
     memset(charges, 0xff, CHARGEPLAN_MODES_MOST * sizeof charges[0]);
     for (size_t s = 0; s < m->modes; s++)
@@ -242,24 +239,55 @@ static struct sifting sift(const struct closing *t, uint32_t *set)
 }
 
 /*
- * Whether there is a plan. The set has all peaks at first; those that a tour from all of them does not come back to are taken out, until it
- * is empty or keeps all: then going back from peak to peak must come round, and that closed walk is a cycle.
+ * Finds whether there is a plan. The set has all peaks at first; those that a tour from all of them does not come back to are taken out,
+ * until it is empty or keeps all: then going back from peak to peak must come round, and that closed walk is a cycle.
  */
-static bool has_plan(const struct model *m, uint32_t *work)
+static bool find_kept(struct closing *t, uint32_t duties, uint32_t *set)
 {
-    uint32_t *set = work + CLOSING_TABLES * m->modes, duties = count_required(m);
-    struct closing t;
+    size_t bytes = t->m->modes * sizeof set[0];
 
-    start_closing(&t, m, work);
-    find_peaks(&t);
-    memcpy(set, t.best, m->modes * sizeof set[0]);
+    find_peaks(t);
+    memcpy(set, t->best, bytes);
     for (;;) {
-        memcpy(t.best, set, m->modes * sizeof set[0]);
-        tour(&t, duties);
-        struct sifting sifting = sift(&t, set);
+        memcpy(t->best, set, bytes);
+        tour(t, duties);
+        struct sifting sifting = sift(t, set);
         if (!sifting.changed || !sifting.some)
             return sifting.some;
     }
+}
+
+/* Whether a cycle keeps the peak of a mode: a tour from it alone. */
+static bool keeps(struct closing *t, uint32_t duties, uint32_t mode, uint32_t peak)
+{
+    memset(t->best, 0, t->m->modes * sizeof t->best[0]);
+    t->best[mode] = peak;
+    tour(t, duties);
+    return t->best[mode] >= peak;
+}
+
+uint32_t PASTE(REFERENCE, _first_kept)(const struct model *m, const struct groups *groups, int32_t *peak)
+{
+    uint32_t words[DECISION_TABLES * CHARGEPLAN_MODES_MOST], *set = words + CLOSING_TABLES * m->modes, duties = count_required(m), mode;
+    struct closing t = start_closing(m, groups, words);
+
+    if (!find_kept(&t, duties, set))
+        return m->modes;
+    for (mode = 0; mode < m->modes; mode++)
+        if (set[mode] > 0 && keeps(&t, duties, mode, set[mode])) {
+            *peak = (int32_t)set[mode] - 1;
+            break;
+        }
+    return mode;
+}
+
+static bool has_plan(const struct model *m, uint32_t *work)
+{
+    struct groups groups;
+    struct closing t = start_closing(m, &groups, work);
+
+    group(m, &groups);
+    return find_kept(&t, count_required(m), work + CLOSING_TABLES * m->modes);
 }
 
 uint64_t PASTE(REFERENCE, _decide)(uint32_t n, uint32_t start, uint32_t k, const uint8_t *sources, size_t sources_len,

@@ -3,7 +3,7 @@
  * grouped by source, so that answers, plans and verdicts are equal. The entries are REFERENCE_search, REFERENCE_judge, REFERENCE_join and
  * REFERENCE_ward, where the build names REFERENCE. The reach and the decision are in closing.c.
  */
-#include "model.h"
+#include "closing.h"
 #include "reference.h"
 
 enum { NODES_MOST = (CHARGEPLAN_COLOURS_MOST + 1) * CHARGEPLAN_MODES_MOST };
@@ -82,7 +82,7 @@ static bool expand(const struct model *m, struct pass *pass, size_t head)
 }
 
 /* Runs a pass from a node with a charge. Entries for whose node a greater charge is known are skipped. */
-static bool run_pass(const struct model *m, struct pass *pass, uint32_t node, int32_t charge)
+static void run_pass(const struct model *m, struct pass *pass, uint32_t node, int32_t charge)
 {
     memset(pass->best, 0, (pass->last + 1) * m->modes * sizeof pass->best[0]);
     pass->tail = 0;
@@ -90,9 +90,8 @@ static bool run_pass(const struct model *m, struct pass *pass, uint32_t node, in
     for (size_t head = 0; head < pass->tail; head++) {
         const uint16_t *entry = pass->queue + ENTRY_WORDS * head;
         if (pass->best[entry[NODE]] == entry[CHARGE] + 1 && expand(m, pass, head))
-            return true;
+            return;
     }
-    return false;
 }
 
 /* The pass for the peaks, the greatest charges of the modes: over one level, and no charge stops it. */
@@ -109,13 +108,13 @@ static void find_peaks(const struct model *m, struct pass *pass)
  * The pass from a mode with a charge, over a level for each required colour and one more, that stops where an arc comes back to the mode in
  * the last level with that charge or more.
  */
-static bool find_cycle(const struct model *m, struct pass *pass, uint32_t mode, int32_t charge)
+static void find_cycle(const struct model *m, struct pass *pass, uint32_t mode, int32_t charge)
 {
     pass->lasting = true;
     pass->last = pass->duties;
     pass->goal = pass->duties * m->modes + mode;
     pass->least = charge;
-    return run_pass(m, pass, mode, charge);
+    run_pass(m, pass, mode, charge);
 }
 
 /* Writes the arcs that lead to an entry, and returns their number. */
@@ -148,26 +147,21 @@ static size_t write_cycle(const struct model *m, struct pass *pass, uint32_t mod
     return length + 1;
 }
 
-/* A plan from the first mode whose peak a cycle keeps, or that there is none. */
+/* A plan from the first mode whose peak a cycle keeps, or that there is none: that is decided first, and the passes only write the plan. */
 static uint64_t find_plan(const struct model *m, uint16_t *work, uint8_t *plan)
 {
-    uint16_t peaks[CHARGEPLAN_MODES_MOST];
     struct pass pass;
+    int32_t peak = 0;
 
     group(m, &pass.groups);
     pass.duties = count_required(m);
     pass.queue = work;
-    find_peaks(m, &pass);
-    memcpy(peaks, pass.best, m->modes * sizeof peaks[0]);
-    for (uint32_t mode = 0; mode < m->modes; mode++) {
-        int32_t peak = peaks[mode] - 1;
-        if (peak < 0 || !find_cycle(m, &pass, mode, peak))
-            continue;
-        size_t p = write_prefix(m, &pass, mode, peak, plan);
-        size_t q = write_cycle(m, &pass, mode, peak, plan + p);
-        return (uint64_t)p << 32 | (uint64_t)q << 48;
-    }
-    return CHARGEPLAN_NO_PLAN;
+    uint32_t mode = PASTE(REFERENCE, _first_kept)(m, &pass.groups, &peak);
+    if (mode == m->modes)
+        return CHARGEPLAN_NO_PLAN;
+    size_t p = write_prefix(m, &pass, mode, peak, plan);
+    size_t q = write_cycle(m, &pass, mode, peak, plan + p);
+    return (uint64_t)p << 32 | (uint64_t)q << 48;
 }
 
 uint64_t PASTE(REFERENCE, _search)(uint32_t n, uint32_t start, uint32_t k, const uint8_t *sources, size_t sources_len,
