@@ -8,7 +8,8 @@ use lib.Dec.{ltb}
 use lib.ListN.{length, getD}
 use Rattle.limits.specs.Ceilings.{modesMost, arcsMost, coloursMost}
 use Rattle.nets.specs.Net.{Net, Fits, AcceptedLasso}
-use Rattle.groups.specs.Rows.{sourceAt, onAt}
+use Rattle.model.specs.Automaton.{bit}
+use Rattle.groups.specs.Rows.{sourceAt, coloursAt, barredAt, onAt}
 use Rattle.groups.specs.Grouped.{arcCount, Grouped}
 use Rattle.passes.specs.RowsNet.{rowsNet}
 use Rattle.passes.specs.Queue.{sum}
@@ -80,6 +81,16 @@ pub record SiftedOnce (g : Net) (b : ℕ) (set set′ : List ℕ) (changed some 
   pub last : List ℕ
   pub table : LastTable g b (word set) (word last)
   pub sifts : Sifted set last set′ changed some
+
+-- no arc of m that may stand in a cycle, being on and without a barred colour, meets duty j
+pub record Unmet (rows : List ℕ) (m j : ℕ) : Type 0 where
+  pub misses : (a : ℕ) → a < m → onAt rows a ≡ true → barredAt rows a ≡ false → bit (coloursAt rows a) j ≡ false
+
+-- of k duties, some
+pub record SomeUnmet (rows : List ℕ) (m k : ℕ) : Type 0 where
+  pub duty : ℕ
+  pub below : duty < k
+  pub unmet : Unmet rows m duty
 
 -- What the decision leaves: a set of peaks. Where it has members one of them is kept by a cycle; where it has none there is no lasso.
 pub record KeptFound (g : Net) (b c : ℕ) (set : List ℕ) (some : Bool) : Type 0 where

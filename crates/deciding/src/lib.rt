@@ -14,12 +14,16 @@ ghost use Rattle.closing.specs.Tables.{Closes, PeaksFound};
 ghost use Rattle.sets.specs.Sets.{LastTable, sifted};
 ghost use Rattle.deciding.specs.Deciding.{levelAt, word, askedNet, Decidable, Below, Enterable, ClosedTo, EntersNext, Sifted, SiftedOnce, KeptFound};
 use closing::Level;
+use closing::clear;
 use closing::close;
 use closing::find_peaks;
+use duties::some_unmet;
 use groups::PLACES;
 use groups::WORDS;
 use groups::reading::first_place;
 use limits::Limits;
+
+mod duties;
 
 // The most modes of a model.
 const MODES: usize = Limits::MODES as usize;
@@ -248,9 +252,8 @@ fn find_all_peaks<'a>(
     );
 }
 
-// Finds the set of peaks that keeps all its members, and whether it has some: then there is a plan, and one of them is kept by a cycle. Set has a word for
-// each mode; what stands in it before does not matter. Rows and places may be fields of one value, so they have one lifetime.
-pub fn find_kept<'a>(
+// The set of all peaks, sifted until it keeps all its members; whether it has some.
+fn sift_all<'a>(
     rows: &'a [u16; WORDS],
     places: &'a [u8; PLACES],
     question: Question,
@@ -269,6 +272,26 @@ pub fn find_kept<'a>(
             return true;
         }
     }
+}
+
+// Finds the set of peaks that keeps all its members, and whether it has some: then there is a plan, and one of them is kept by a cycle. Set has a word for
+// each mode; what stands in it before does not matter. Where some duty is on no arc that may stand in a cycle, the set is empty at once. Rows and places may be
+// fields of one value, so they have one lifetime.
+pub fn find_kept<'a>(
+    rows: &'a [u16; WORDS],
+    places: &'a [u8; PLACES],
+    question: Question,
+    set: &mut [u32],
+) -> bool
+    requires { ⌜ Decidable (now rows) (now places) question (length (now set)) ⌝ }
+    ensures { λ r. ⌜ KeptFound (askedNet (now (rows .entry)) (now (places .entry)) question (length (now (set .entry)))) (question .bound) (question .credit) (now (set .exit)) r ⌝ }
+{
+    let arcs = first_place(places, set.len() + 1);
+    if some_unmet(rows, arcs, question.duties) {
+        clear(set);
+        return false;
+    }
+    sift_all(rows, places, question, set)
 }
 
 // Whether a cycle keeps the charge of a mode's word, if it has one: a tour from that mode alone.
