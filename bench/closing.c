@@ -238,6 +238,18 @@ static struct sifting sift(const struct closing *t, uint32_t *set)
     return sifting;
 }
 
+/* Whether some required colour is on no arc that may stand in a cycle. */
+static bool some_unmet(const struct closing *t, uint32_t duties)
+{
+    uint32_t all = (1u << duties) - 1;
+    uint32_t met = 0;
+
+    for (size_t i = 0; i < t->groups->first[t->m->modes]; i++)
+        if (!t->groups->rows[i].barred)
+            met |= t->groups->rows[i].colours;
+    return (met & all) != all;
+}
+
 /*
  * Finds whether there is a plan. The set has all peaks at first; those that a tour from all of them does not come back to are taken out,
  * until it is empty or keeps all: then going back from peak to peak must come round, and that closed walk is a cycle.
@@ -246,6 +258,10 @@ static bool find_kept(struct closing *t, uint32_t duties, uint32_t *set)
 {
     size_t bytes = t->m->modes * sizeof set[0];
 
+    if (some_unmet(t, duties)) {
+        memset(set, 0, bytes);
+        return false;
+    }
     find_peaks(t);
     memcpy(set, t->best, bytes);
     for (;;) {
