@@ -5,7 +5,6 @@ ghost use lib.Dec.{leb};
 ghost use lib.ListN.{getD};
 ghost use Rattle.limits.specs.Ceilings.{modesMost, boundMost};
 ghost use Rattle.refusals.specs.Refusals.{refuse, andThen};
-ghost use Rattle.model.specs.Fitness.{levelsOf};
 ghost use Rattle.model.specs.Lists.{lists, held};
 ghost use Rattle.reach.specs.Table.{IsTable};
 ghost use Rattle.reach.specs.Reach.{FreshTable, StartOf, SwitchedTable, SwitchOf};
@@ -93,16 +92,6 @@ fn table(model: Model, c: u32, b: u32, on: [u64; switches::WORDS]) -> [u16; MODE
         &mut hints[..HINTS],
     );
     charges_of(&best)
-}
-
-// Refusal 6, after what was looked at before.
-fn then_levels(verdict: Verdict, c: u32, b: u32) -> Verdict
-    ensures { λ r. ⌜ r ≡ andThen verdict (levelsOf b c) ⌝ }
-{
-    match verdict {
-        Verdict::Yes => check_levels(c, b),
-        Verdict::Refused(refusal) => Verdict::Refused(refusal),
-    }
 }
 
 // A refusal, and the table that goes with it.
@@ -210,7 +199,8 @@ impl Reach {
         );
         let fitness = fitted.verdict;
         let model = fitted.model;
-        let verdict = then_levels(fitness, c, b);
+        let levels = check_levels(c, b);
+        let verdict = fitness.and_then(levels);
         fresh(verdict, model, c, b, on)
     }
 
@@ -247,7 +237,8 @@ impl Reach {
         );
         let fitness = fitted.verdict;
         let model = fitted.model;
-        let verdict = then_levels(fitness, c, b);
+        let levels = check_levels(c, b);
+        let verdict = fitness.and_then(levels);
         self.turn_known(verdict, model, c, b, arc, on)
     }
 }

@@ -1,4 +1,6 @@
 -- `Reach::start` meets its contract. Assumes nothing.
+use mathlib.Core.Path.{ap, _∙_}
+use Rattle.refusals.specs.Refusals.{andThen}
 use Rattle.model.specs.Lists.{Lists, lists}
 use Rattle.reach.proofs.Calls.{tabled, fresh-told}
 use borrow.Author.Needs.{needs}
@@ -17,21 +19,30 @@ lists-of s =
 check-model-requires : tie.Need-check-model-requires
 check-model-requires c κs = search needs
 
-then-levels-requires : tie.Need-then-levels-requires
-then-levels-requires c κs = search needs
+check-levels-requires : tie.Need-check-levels-requires
+check-levels-requires c κs = search needs
+
+and-then-requires : tie.Need-and-then-requires
+and-then-requires c κs = search needs
+
+-- from the verdict to the model's check
+abbrev checked : tie.After-and-then → tie.After-check-model
+checked v = v .before .before .before
 
 fresh-requires : tie.Need-fresh-requires
 fresh-requires c κs =
-    let m = c .before .before in
+    let m = checked c in
     let a = start m .args in
-    tabled (a .n) (a .start) (a .k) (lists-of (start m)) (a .b) (a .c) (m .check-model .ensures) (c .then-levels .ensures)
+    tabled (a .n) (a .start) (a .k) (lists-of (start m)) (a .b) (a .c) (m .check-model .ensures)
+    (c .and-then .ensures ∙ ap (andThen (m .check-model .result .verdict)) (c .before .check-levels .ensures))
 
 returns : tie.Need-returns
 returns c =
     let v = c .before in
-    let m = v .before .before in
+    let m = checked v in
     let a = start m .args in
-    fresh-told (a .n) (a .start) (a .k) (lists-of (start m)) (a .b) (a .c) (m .check-model .ensures) (v .then-levels .ensures) (c .fresh .ensures)
+    fresh-told (a .n) (a .start) (a .k) (lists-of (start m)) (a .b) (a .c) (m .check-model .ensures)
+    (v .and-then .ensures ∙ ap (andThen (m .check-model .result .verdict)) (v .before .check-levels .ensures)) (c .fresh .ensures)
 
 pub start-spec : {M : Type 1} → statement M
-start-spec = tie.close (tie.spec check-model-requires then-levels-requires fresh-requires returns)
+start-spec = tie.close (tie.spec check-model-requires check-levels-requires and-then-requires fresh-requires returns)
