@@ -1,5 +1,7 @@
 // Every ceiling of document 01 ("Ceilings") and of the requests of document 02, each under its name. Code cites the constants; definitions cite
 // the numerals of specs/Ceilings; `Limits::agree` ties each constant to its numeral.
+#![tactic(auto)]
+
 ghost use Rattle.std.specs.Prelude.{◌≡◌, true};
 ghost use Rattle.limits.specs.Ceilings.{
   modes_most,
@@ -79,23 +81,23 @@ impl Limits {
     // Every constant is the numeral of specs/Ceilings: changing one side alone is refused.
     pub fn agree() -> bool
         ensures yes { result ≡ true }
-        ensures* modes { do ⌜ (← (⟦Limits::MODES⟧).entry) ≡ modes_most ⌝ }
-        ensures* arcs { do ⌜ (← (⟦Limits::ARCS⟧).entry) ≡ arcs_most ⌝ }
-        ensures* colours { do ⌜ (← (⟦Limits::COLOURS⟧).entry) ≡ colours_most ⌝ }
-        ensures* bound { do ⌜ (← (⟦Limits::BOUND⟧).entry) ≡ bound_most ⌝ }
-        ensures* product { do ⌜ (← (⟦Limits::PRODUCT⟧).entry) ≡ product_most ⌝ }
-        ensures* plan { do ⌜ (← (⟦Limits::PLAN⟧).entry) ≡ plan_most ⌝ }
-        ensures* draw { do ⌜ (← (⟦Limits::DRAW⟧).entry) ≡ draw_most ⌝ }
-        ensures* gain { do ⌜ (← (⟦Limits::GAIN⟧).entry) ≡ gain_most ⌝ }
-        ensures* action { do ⌜ (← (⟦Limits::ACTION⟧).entry) ≡ action_most ⌝ }
-        ensures* digits { do ⌜ (← (⟦Limits::DIGITS⟧).entry) ≡ digits_most ⌝ }
-        ensures* spill { do ⌜ (← (⟦Limits::SPILL⟧).entry) ≡ spill_most ⌝ }
-        ensures* work_words { do ⌜ (← (⟦Limits::WORK_WORDS⟧).entry) ≡ work_words ⌝ }
-        ensures* work_levels { do ⌜ (← (⟦Limits::WORK_LEVELS⟧).entry) ≡ work_levels ⌝ }
-        ensures* plan_levels { do ⌜ (← (⟦Limits::PLAN_LEVELS⟧).entry) ≡ plan_levels ⌝ }
-        ensures* program { do ⌜ (← (⟦Limits::PROGRAM⟧).entry) ≡ program_most ⌝ }
-        ensures* decide_bound { do ⌜ (← (⟦Limits::DECIDE_BOUND⟧).entry) ≡ decide_bound_most ⌝ }
-        ensures* decide_words { do ⌜ (← (⟦Limits::DECIDE_WORDS⟧).entry) ≡ decide_words ⌝ }
+        ensures modes { Limits.MODES ≡ modes_most }
+        ensures arcs { Limits.ARCS ≡ arcs_most }
+        ensures colours { Limits.COLOURS ≡ colours_most }
+        ensures bound { Limits.BOUND ≡ bound_most }
+        ensures product { Limits.PRODUCT ≡ product_most }
+        ensures plan { Limits.PLAN ≡ plan_most }
+        ensures draw { Limits.DRAW ≡ draw_most }
+        ensures gain { Limits.GAIN ≡ gain_most }
+        ensures action { Limits.ACTION ≡ action_most }
+        ensures digits { Limits.DIGITS ≡ digits_most }
+        ensures spill { Limits.SPILL ≡ spill_most }
+        ensures work_words { Limits.WORK_WORDS ≡ work_words }
+        ensures work_levels { Limits.WORK_LEVELS ≡ work_levels }
+        ensures plan_levels { Limits.PLAN_LEVELS ≡ plan_levels }
+        ensures program { Limits.PROGRAM ≡ program_most }
+        ensures decide_bound { Limits.DECIDE_BOUND ≡ decide_bound_most }
+        ensures decide_words { Limits.DECIDE_WORDS ≡ decide_words }
     {
         true
     }

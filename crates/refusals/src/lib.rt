@@ -1,4 +1,6 @@
 // Where a call stops: the refusals of document 01's table, with those that document 02 adds, and the number and detail of each.
+#![tactic(auto)]
+
 ghost use Rattle.std.specs.Prelude.{◌≡◌};
 ghost use Rattle.refusals.specs.Refusals.{answer, numbered, answer_of, and_then};
 
