@@ -1,5 +1,7 @@
 // Words, plain numbers, pieces and lines of a list of bytes. What reads returns the rest of the list as a slice, and the empty one where it
 // fails, so that no place in the text is carried along.
+#![tactic(auto)]
+
 ghost use Rattle.std.specs.Prelude.{◌≡◌, true, ◌+◌, ◌-◌, ◌*◌, ◌≤◌, ◌<◌, length, drop};
 ghost use Rattle.fields.specs.Bytes.{feed, blank, ampersand, minus, digit_zero, digit_nine};
 ghost use Rattle.fields.specs.Fields.{
@@ -43,12 +45,12 @@ impl Bytes {
     // Every constant is the numeral of specs/Bytes: changing one side alone is refused.
     pub fn agree() -> bool
         ensures yes { result ≡ true }
-        ensures* feed { do ⌜ (← (⟦Bytes::FEED⟧).entry) ≡ feed ⌝ }
-        ensures* blank { do ⌜ (← (⟦Bytes::BLANK⟧).entry) ≡ blank ⌝ }
-        ensures* ampersand { do ⌜ (← (⟦Bytes::AMPERSAND⟧).entry) ≡ ampersand ⌝ }
-        ensures* minus { do ⌜ (← (⟦Bytes::MINUS⟧).entry) ≡ minus ⌝ }
-        ensures* digit_zero { do ⌜ (← (⟦Bytes::DIGIT_ZERO⟧).entry) ≡ digit_zero ⌝ }
-        ensures* digit_nine { do ⌜ (← (⟦Bytes::DIGIT_NINE⟧).entry) ≡ digit_nine ⌝ }
+        ensures feed { Bytes.FEED ≡ feed }
+        ensures blank { Bytes.BLANK ≡ blank }
+        ensures ampersand { Bytes.AMPERSAND ≡ ampersand }
+        ensures minus { Bytes.MINUS ≡ minus }
+        ensures digit_zero { Bytes.DIGIT_ZERO ≡ digit_zero }
+        ensures digit_nine { Bytes.DIGIT_NINE ≡ digit_nine }
     {
         true
     }

@@ -1,4 +1,6 @@
 // The bounded step: a draw taken from a charge, and a gain added under a bound. It takes plain numbers and answers an enum.
+#![tactic(auto)]
+
 ghost use Rattle.std.specs.Prelude.{◌≡◌, pos, ◌-ℤ◌};
 ghost use Rattle.walks.specs.BoundedStep.{stepped};
 ghost use Rattle.walks.specs.Cases.{step_case};
