@@ -1,4 +1,5 @@
 // Prints document 01's judged examples, one a line: letter, number (0 is yes), detail. Each answer is computed by judging.
+#![tactic(auto)]
 use judge::judge;
 use libc::STDOUT_FILENO;
 use refusals::Verdict;

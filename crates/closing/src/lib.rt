@@ -1,5 +1,6 @@
 // A level closed (document 02, Ask 9; document 001, section 4): the greatest charge with which each mode is reached. Loops that gain are raised to
 // their top in one step, so that the cost does not depend on the bound. A table has a word for each mode: 0 for none, and else the charge plus 1.
+#![tactic(auto)]
 ghost use Rattle.std.specs.Prelude.{◌≡◌, ◌<◌, length, set, replicate};
 ghost use Rattle.closing.specs.Stratum.{stratum};
 ghost use Rattle.closing.specs.Tables.{Closable, Closes, Findable, PeaksFound};
@@ -14,7 +15,7 @@ mod steps;
 
 // A level, of the levels 0 to last, over so many arcs, under a bound. An arc leaves the level where every arc does, or below the last level where it
 // meets the level's duty. lasting: no arc with a barred colour may be used.
-#[derive(Drop)]
+#[derive(Clone, Copy)]
 pub struct Level {
     pub arcs: usize,
     pub level: usize,

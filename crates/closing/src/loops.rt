@@ -20,7 +20,7 @@ fn index(x: u32) -> usize
 }
 
 // What walking a candidate loop gives: whether it is possible, comes back and gains, and the charge with which walking it again and again ends.
-#[derive(Drop)]
+#[derive(Clone, Copy)]
 pub struct Top {
     pub gains: bool,
     pub charge: u32,
@@ -201,7 +201,7 @@ fn with(set: u64, i: usize) -> u64
 
 // What following the arcs over which the modes rose gives: the modes passed so far, and a mode on the loop that the arcs lead to, or the number of
 // modes where they lead to none.
-#[derive(Drop)]
+#[derive(Clone, Copy)]
 pub struct Trail {
     pub passed: u64,
     pub mode: usize,

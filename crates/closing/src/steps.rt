@@ -72,7 +72,7 @@ pub fn is_left_out(rows: &[u16; WORDS], level: Level, a: usize) -> bool
 }
 
 // Where an arc leads from a charge: whether it may be used and is possible, and then whether it leaves the level, the mode and the charge.
-#[derive(Drop)]
+#[derive(Clone, Copy)]
 pub struct Stepped {
     pub possible: bool,
     pub leaves: bool,

@@ -1,6 +1,7 @@
 // Whether a net has a plan, at a cost that does not depend on the bound (document 02, Ask 12). All modes with a peak are tested together: a set of
 // peaks, from all of which at once the levels are closed one after the other; those that are reached again in the last level with their peak or more
 // stay. Where none is left there is no plan; where all stay there is one. A table has a word for each mode: 0 for none, and else the charge plus 1.
+#![tactic(auto)]
 ghost use Rattle.std.specs.Prelude.{◌≡◌, true, ◌||◌, ◌↔◌, ◌+◌, ◌≤◌, ◌<◌, length};
 ghost use Rattle.limits.specs.Ceilings.{colours_most};
 ghost use Rattle.model.specs.Required.{required};
@@ -26,7 +27,7 @@ const HINTS: usize = 2 * MODES;
 
 // What is asked: whether there is a plan from the start mode with the credit, under the bound, whose cycle meets so many duties. The modes are as many as the
 // tables have words.
-#[derive(Drop)]
+#[derive(Clone, Copy)]
 pub struct Question {
     pub start: usize,
     pub duties: usize,
@@ -164,7 +165,7 @@ fn either(p: bool, q: bool) -> bool
 }
 
 // Whether members went, and whether some are left.
-#[derive(Drop)]
+#[derive(Clone, Copy)]
 pub struct Sifting {
     pub changed: bool,
     pub some: bool,

@@ -1,6 +1,7 @@
 // The fitting desk's entries: judging, search, gauge, walk, reading, the join, wards and the table of greatest charges, to be called from C.
 // include/chargeplan.h declares and explains them.
 // C passes a slice as two arguments, a pointer and a length, and a `&mut` as a pointer.
+#![tactic(auto)]
 ghost use Rattle.std.specs.Prelude.{◌≡◌, not, eqb};
 ghost use Rattle.model.specs.Lists.{lists};
 ghost use Rattle.reading.specs.Reading.{lists_read};

@@ -1,4 +1,5 @@
 // DIMACS text: its lines, the first that is outside the forms, and the numbers of a text.
+#![tactic(auto)]
 ghost use Rattle.std.specs.Prelude.{◌≡◌, ◌≤◌, drop};
 ghost use Rattle.fields.specs.Fields.{lines_of, LineAt};
 ghost use Rattle.dimacs.specs.Lines.{
@@ -26,14 +27,14 @@ use fields::Bytes;
 const COMMENT_LETTER: u8 = 99;
 
 // The draw and the gain that a weight means.
-#[derive(Drop)]
+#[derive(Clone, Copy)]
 pub struct Parts {
     pub draw: u32,
     pub gain: u32,
 }
 
 // The numbers on the `p` line of a text, and the place where the lines of the arcs begin.
-#[derive(Drop)]
+#[derive(Clone, Copy)]
 pub struct Problem {
     pub modes: u32,
     pub count: u32,
@@ -41,7 +42,7 @@ pub struct Problem {
 }
 
 // A place in a text where a line begins, and the number of lines before it.
-#[derive(Drop)]
+#[derive(Clone, Copy)]
 struct Place {
     at: usize,
     line: usize,

@@ -26,7 +26,7 @@ ghost use Rattle.fields.specs.Fields.{
 use limits::Limits;
 
 // The bytes that texts are split at, or that stand alone between fields.
-#[derive(Drop)]
+#[derive(Clone, Copy)]
 pub struct Bytes;
 
 impl Bytes {

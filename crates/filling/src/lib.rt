@@ -1,5 +1,6 @@
 // Arc lists that are lent to be filled, by reading and by the join: how many arcs they take, an arc written at one place of each, and what such a
 // call answers.
+#![tactic(auto)]
 ghost use Rattle.std.specs.Prelude.{◌≡◌, min, set};
 ghost use Rattle.model.specs.Lists.{lists};
 ghost use Rattle.filling.specs.Filling.{room_of, put, refused_by};
@@ -8,7 +9,7 @@ use model::Arc;
 use refusals::{Refusal, Verdict};
 
 // What a call that fills lists answers: the verdict, and the numbers of the model that it wrote, each 0 where it is refused.
-#[derive(Drop)]
+#[derive(Clone, Copy)]
 pub struct Reading {
     pub verdict: Verdict,
     pub modes: u32,

@@ -1,4 +1,5 @@
 // The gauge by value: starting it, and stepping it on one arc.
+#![tactic(auto)]
 ghost use Rattle.std.specs.Prelude.{◌≡◌};
 ghost use Rattle.refusals.specs.Refusals.{answer_of};
 ghost use Rattle.model.specs.Lists.{lists, held};
@@ -13,7 +14,7 @@ use walks::{Step, bounded_step};
 // Where a walk stands: the mode, the charge, and the total of the charge that was lost at the bound since the start; and what the gauge was
 // started with: the numbers of modes and arcs, and the bound. C has the same struct.
 #[repr(C)]
-#[derive(Drop)]
+#[derive(Clone, Copy)]
 pub struct Gauge {
     pub mode: u8,
     pub charge: u16,
@@ -24,7 +25,7 @@ pub struct Gauge {
 }
 
 // What starting or stepping a gauge answers: the verdict, and the gauge afterwards.
-#[derive(Drop)]
+#[derive(Clone, Copy)]
 pub struct Gauged {
     pub verdict: Verdict,
     pub gauge: Gauge,

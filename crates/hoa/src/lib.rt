@@ -1,4 +1,5 @@
 // HOA text: its lines, and the first that is outside the forms.
+#![tactic(auto)]
 ghost use Rattle.std.specs.Prelude.{◌≡◌, true, cond, [], map, suc, ◌≤◌, max, length, take};
 ghost use Rattle.fields.specs.Bytes.{blank, ampersand};
 ghost use Rattle.fields.specs.Fields.{number_of, split, lines_of, is_word};
@@ -40,7 +41,7 @@ use fields::Bytes;
 use limits::Limits;
 
 // What is known of the modes that have a block in the lines so far: bit j of low for each mode j that a fit model may have; no mode from top on.
-#[derive(Drop)]
+#[derive(Clone, Copy)]
 pub struct Blocks {
     pub low: u64,
     pub top: u64,

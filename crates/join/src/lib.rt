@@ -1,5 +1,6 @@
 // A knee joined with a habit: the model of both at once, written into six lent lists. A first pass over the pairs of arcs counts and checks, a second
 // writes, so that nothing is written before 23 is known.
+#![tactic(auto)]
 ghost use Rattle.std.specs.Prelude.{◌≡◌, ◌||◌, ℕ, ◌+◌, ◌*◌, ◌^◌, ◌≤◌, ◌<◌, eqb};
 ghost use Rattle.refusals.specs.Refusals.{answer_of};
 ghost use Rattle.model.specs.Lists.{lists, held};
@@ -15,7 +16,7 @@ use model::{Arc, Fitted, Model, check_model};
 use refusals::{Refusal, Verdict};
 
 // How many joined arcs there are, and whether the sum of one is above 10,000.
-#[derive(Drop)]
+#[derive(Clone, Copy)]
 pub struct Tally {
     pub count: u32,
     pub above: bool,

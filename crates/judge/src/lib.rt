@@ -1,4 +1,5 @@
 // Judging: whether a plan of any origin is feasible and accepted for a model. Refusals 1 to 6, 11 to 16, 24 and 17, top to bottom.
+#![tactic(auto)]
 ghost use Rattle.std.specs.Prelude.{◌≡◌, ◌+◌, ◌*◌, ◌^◌, ◌≤◌, ◌<◌, length, drop};
 ghost use Rattle.limits.specs.Ceilings.{plan_most};
 ghost use Rattle.refusals.specs.Refusals.{and_then, answer_of};
@@ -15,14 +16,14 @@ use refusals::{Refusal, Verdict};
 use walks::{Step, bounded_step};
 
 // How a list of arcs is walked: through to its end, with the charge there, or stopped at a step that is not possible, with its number.
-#[derive(Drop)]
+#[derive(Clone, Copy)]
 enum Ran {
     Through(u16),
     Stops(u32),
 }
 
 // The verdict of judging, and the model of the lists where they have one; else a blank model.
-#[derive(Drop)]
+#[derive(Clone, Copy)]
 pub struct JudgedModel {
     pub verdict: Verdict,
     pub model: Model,

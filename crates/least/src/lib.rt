@@ -1,6 +1,7 @@
 // Smallest battery, least charge (document 02, Ask 8): the least credit with which there is a plan under a given bound, and the least bound with which there is
 // one from a given credit. By halving: each try is the decision without a plan (crate deciding), whose cost does not depend on the bound, over rows and groups
 // that are made once. Refusals 1 to 8 and 10.
+#![tactic(auto)]
 ghost use Rattle.std.specs.Prelude.{◌≡◌, true, ◌↔◌};
 ghost use Rattle.model.specs.Lists.{lists, held};
 ghost use Rattle.deciding.specs.Deciding.{Decidable};
@@ -18,21 +19,21 @@ use refusals::{Answer, Refusal, Verdict};
 const MODES: usize = Limits::MODES as usize;
 
 // Which of the two levels is sought, the charge at the start or the bound; the other one is given.
-#[derive(Drop)]
+#[derive(Clone, Copy)]
 pub enum Sought {
     Credit,
     Bound,
 }
 
 // What is answered: the least level that serves, or a refusal.
-#[derive(Drop)]
+#[derive(Clone, Copy)]
 pub enum LeastFound {
     Value(u32),
     Refused(Refusal),
 }
 
 // The number and the detail, and the value.
-#[derive(Drop)]
+#[derive(Clone, Copy)]
 pub struct LeastAnswer {
     pub answer: Answer,
     pub value: u32,
@@ -57,7 +58,7 @@ impl LeastFound {
 }
 
 // What is asked of rows and groups: the net's modes, start mode and duties, which level is sought, the other one, and the range in which it is sought.
-#[derive(Drop)]
+#[derive(Clone, Copy)]
 struct Problem {
     modes: usize,
     start: usize,

@@ -1,4 +1,5 @@
 // The gauge lent by &mut to one thin step, over the by-value step of `gauge`.
+#![tactic(auto)]
 ghost use Rattle.std.specs.Prelude.{◌≡◌};
 ghost use Rattle.model.specs.Lists.{lists};
 ghost use Rattle.gauge.specs.Gauge.{stepped_of};
@@ -8,7 +9,7 @@ use gauge::Gauge;
 use refusals::Answer;
 
 // A step's number and detail, and the gauge after it.
-#[derive(Drop)]
+#[derive(Clone, Copy)]
 struct Moved {
     pub answer: Answer,
     pub gauge: Gauge,

@@ -23,7 +23,7 @@ ghost use Rattle.limits.specs.Ceilings.{
   decide_words,
 };
 
-#[derive(Drop)]
+#[derive(Clone, Copy)]
 pub struct Limits;
 
 impl Limits {

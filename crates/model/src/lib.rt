@@ -1,4 +1,5 @@
 // The model as one value, and the checks that every call begins with: fitness (1 to 5) and levels (6).
+#![tactic(auto)]
 ghost use Rattle.std.specs.Prelude.{◌≡◌, ◌≤◌, ◌^◌};
 ghost use Rattle.limits.specs.Ceilings.{colours_most};
 ghost use Rattle.model.specs.Lists.{lists, blank_model};
@@ -8,7 +9,7 @@ use limits::Limits;
 use refusals::{Refusal, Verdict};
 
 // An arc: its two modes, its draw and its gain, its colour byte, whose bit j says that the arc meets colour j, and its action.
-#[derive(Drop)]
+#[derive(Clone, Copy)]
 pub struct Arc {
     pub source: u8,
     pub target: u8,
@@ -29,7 +30,7 @@ const NO_ARC: Arc = Arc {
 };
 
 // A model by value. The first `count` arcs are the model's; the others are blank.
-#[derive(Drop)]
+#[derive(Clone, Copy)]
 pub struct Model {
     pub modes: u8,
     pub start: u8,
@@ -39,7 +40,7 @@ pub struct Model {
 }
 
 // The verdict of fitness, and the model where it is yes; else a blank model.
-#[derive(Drop)]
+#[derive(Clone, Copy)]
 pub struct Fitted {
     pub verdict: Verdict,
     pub model: Model,

@@ -1,4 +1,5 @@
 // What the C entries answer: an answer in one word, and structs for what no word holds. The entries stand in crate desk.
+#![tactic(auto)]
 ghost use Rattle.std.specs.Prelude.{◌≡◌};
 ghost use Rattle.refusals.specs.Refusals.{answer_of};
 ghost use Rattle.least.specs.Least.{least_answer};
@@ -20,7 +21,7 @@ const SECOND: u64 = 281474976710656;
 
 // What starting a gauge answers: number and detail in one word, as in the other answers, and the new gauge.
 #[repr(C)]
-#[derive(Drop)]
+#[derive(Clone, Copy)]
 pub struct Started {
     pub answer: u64,
     pub gauge: Gauge,
@@ -28,7 +29,7 @@ pub struct Started {
 
 // What making a table of greatest charges and switching an arc answer: number and detail in one word, and the table.
 #[repr(C)]
-#[derive(Drop)]
+#[derive(Clone, Copy)]
 pub struct Reached {
     pub answer: u64,
     pub reach: Reach,
@@ -36,7 +37,7 @@ pub struct Reached {
 
 // What reading and the join answer: number and detail, which may be a line beyond 24 bits, and the numbers of the model written.
 #[repr(C)]
-#[derive(Drop)]
+#[derive(Clone, Copy)]
 pub struct Read {
     pub number: u8,
     pub detail: u64,

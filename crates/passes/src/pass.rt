@@ -15,7 +15,7 @@ use walks::{Step, bounded_step};
 
 // What a search is for: the model's modes, its start mode and the number of its required colours, which are the duties; whether an arc may have
 // a barred colour; the credit and the bound. The model's arcs are in the rows, and grouped in the places.
-#[derive(Drop)]
+#[derive(Clone, Copy)]
 pub struct Task {
     pub modes: usize,
     pub start: usize,
@@ -27,7 +27,7 @@ pub struct Task {
 
 // What a pass is for: whether its arcs have to last, as those of a cycle have to, so that none has a barred colour; it goes over the levels 0 to
 // last, and an arc that comes to the node goal with the charge least or more closes the cycle, and ends the pass.
-#[derive(Drop)]
+#[derive(Clone, Copy)]
 pub struct Aim {
     pub lasting: bool,
     pub last: usize,
@@ -36,7 +36,7 @@ pub struct Aim {
 }
 
 // An entry of the queue, with the level and the mode of its node.
-#[derive(Drop)]
+#[derive(Clone, Copy)]
 pub struct Entry {
     pub index: usize,
     pub level: usize,
@@ -46,7 +46,7 @@ pub struct Entry {
 
 // What trying an arc gives, or all arcs at an entry, or a whole pass: whether an arc closes the cycle, and then the entry that it was tried at
 // and the arc's number; and the number of entries of the queue.
-#[derive(Drop)]
+#[derive(Clone, Copy)]
 pub struct Outcome {
     pub found: bool,
     pub head: usize,

@@ -1,4 +1,5 @@
 // The walk: a plan is judged, and then stepped from its beginning until a colour is first met or the allowance is spent.
+#![tactic(auto)]
 ghost use Rattle.std.specs.Prelude.{◌≡◌, ◌<◌, length};
 ghost use Rattle.limits.specs.Ceilings.{colours_most};
 ghost use Rattle.model.specs.Automaton.{bit};
@@ -13,7 +14,7 @@ use refusals::{Answer, Refusal, Verdict};
 
 // What a walk answers: the colour was met, with the steps made, the meeting step counted; or the allowance was spent, with the steps made;
 // or a refusal.
-#[derive(Drop)]
+#[derive(Clone, Copy)]
 pub enum Walked {
     Met(u16),
     Spent(u16),
@@ -21,7 +22,7 @@ pub enum Walked {
 }
 
 // The number and the detail of a walk, whether the colour was met, and the steps made.
-#[derive(Drop)]
+#[derive(Clone, Copy)]
 pub struct WalkAnswer {
     pub answer: Answer,
     pub met: bool,

@@ -1,4 +1,5 @@
 // The table of greatest charges, by value (document 02, Ask 9): made afresh, and with an arc switched. It carries the switches that it was made for.
+#![tactic(auto)]
 ghost use Rattle.std.specs.Prelude.{◌≡◌, ℕ, ◌+◌, ◌≤◌, leb, get_or};
 ghost use Rattle.limits.specs.Ceilings.{modes_most, bound_most};
 ghost use Rattle.refusals.specs.Refusals.{refuse, and_then};
@@ -26,14 +27,14 @@ pub const UNREACHED: u16 = 65535;
 // The switches of the arcs, and for each mode the greatest charge with which it can be reached over arcs that are on, or UNREACHED, also for modes
 // that are none of the model's. C has the same struct.
 #[repr(C)]
-#[derive(Drop)]
+#[derive(Clone, Copy)]
 pub struct Reach {
     pub on: [u64; switches::WORDS],
     pub charges: [u16; MODES],
 }
 
 // What making a table afresh and switching an arc answer: the verdict, and the table afterwards.
-#[derive(Drop)]
+#[derive(Clone, Copy)]
 pub struct Reached {
     pub verdict: Verdict,
     pub reach: Reach,

@@ -1,5 +1,6 @@
 // A model read from HOA text and DIMACS text into lent lists. Both texts are walked side by side, and nothing is kept of them: there is no ceiling on
 // their length, and an edge past the 255th still has to agree.
+#![tactic(auto)]
 ghost use Rattle.std.specs.Prelude.{◌≡◌, ◌&&◌, map, ◌≤◌, eqb, length, drop};
 ghost use Rattle.limits.specs.Ceilings.{arcs_most};
 ghost use Rattle.refusals.specs.Refusals.{and_then, answer_of};
@@ -22,7 +23,7 @@ use model::Arc;
 use refusals::{Refusal, Verdict};
 
 // The next edge of a body: its source, and where its line begins and ends.
-#[derive(Drop)]
+#[derive(Clone, Copy)]
 pub struct Next {
     pub found: bool,
     pub source: u32,

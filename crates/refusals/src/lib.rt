@@ -5,7 +5,7 @@ ghost use Rattle.std.specs.Prelude.{◌≡◌};
 ghost use Rattle.refusals.specs.Refusals.{answer, numbered, answer_of, and_then};
 
 // Where a call stops: a case for each number of document 01's table, and of document 02, with its detail where one is named.
-#[derive(Drop)]
+#[derive(Clone, Copy)]
 pub enum Refusal {
     ModeCount,
     StartMode,
@@ -36,7 +36,7 @@ pub enum Refusal {
 // A number and its detail, 0 where none is named. A detail may be the line of a text, or a wearer's place in a ward, which no ceiling bounds. It
 // is laid out as C lays it out, since the call for a ward answers it.
 #[repr(C)]
-#[derive(Drop)]
+#[derive(Clone, Copy)]
 pub struct Answer {
     pub number: u8,
     pub detail: u64,
@@ -84,7 +84,7 @@ impl Refusal {
 }
 
 // What a check says.
-#[derive(Drop)]
+#[derive(Clone, Copy)]
 pub enum Verdict {
     Yes,
     Refused(Refusal),

@@ -5,6 +5,7 @@
 // Two passes (crate passes) write it, and each ends with an arc that comes to that mode with the peak or more: for the prefix one from the start mode
 // over a single level, none where the prefix is empty; for the cycle one from the mode with its peak, over the arcs without a barred colour and the
 // levels 0 to r, of r required colours, which comes back in the last level.
+#![tactic(auto)]
 ghost use Rattle.std.specs.Prelude.{◌≡◌, ◌≤◌, ◌↔◌, length};
 ghost use Rattle.limits.specs.Ceilings.{modes_most, colours_most, bound_most};
 ghost use Rattle.model.specs.Lists.{lists, held};
@@ -24,14 +25,14 @@ use plans::make_plan;
 use refusals::{Answer, Refusal, Verdict};
 
 // What search answers: the lengths of the prefix and of the cycle in the plan buffer, or a refusal.
-#[derive(Drop)]
+#[derive(Clone, Copy)]
 pub enum Searched {
     Plan(u32, u32),
     Refused(Refusal),
 }
 
 // The number and the detail of a search, and the lengths of prefix and cycle.
-#[derive(Drop)]
+#[derive(Clone, Copy)]
 pub struct SearchAnswer {
     pub answer: Answer,
     pub p: u32,

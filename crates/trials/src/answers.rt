@@ -17,7 +17,7 @@ pub const WORK: usize = Limits::WORK_WORDS * ROOM + 3;
 pub const BYTES: usize = 2 * ROOM + 3;
 
 // How a model is answered: by a plan that is right, rightly by none, or wrongly.
-#[derive(Drop)]
+#[derive(Clone, Copy)]
 pub enum Outcome {
     Plan,
     NoPlan,
@@ -25,7 +25,7 @@ pub enum Outcome {
 }
 
 // pairs: of a mode and a charge, n × (b + 1). room: k + 1 times as many, which search asks space for.
-#[derive(Drop)]
+#[derive(Clone, Copy)]
 struct Sizes {
     pairs: usize,
     room: usize,

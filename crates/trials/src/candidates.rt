@@ -20,7 +20,7 @@ const NEVER: u8 = 128;
 
 // What a walk is to come to, and by which arcs: an arc with a colour of the mask (where that is 0, any arc), by arcs with no colour of `barred`.
 // free, marked: the numbers of pairs that can be walked over, and of those from which the walk is known.
-#[derive(Drop)]
+#[derive(Clone, Copy)]
 struct Sought {
     mask: u8,
     barred: u8,

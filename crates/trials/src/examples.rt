@@ -6,7 +6,7 @@ use crate::models::{Model, without_arcs};
 use crate::print::{print_number, print_word};
 
 // A number that search answers, and whether it leaves the buffers as it should.
-#[derive(Drop)]
+#[derive(Clone, Copy)]
 struct Left {
     number: u8,
     right: bool,

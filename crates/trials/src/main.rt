@@ -4,6 +4,7 @@
 //
 // The random models and the plain search (models, pairs, candidates, rounds) share no code with search, judging, walk or switches: of the
 // planner they use the ceilings and the count of the switches' words alone.
+#![tactic(auto)]
 mod answers;
 mod buffers;
 mod calls;

@@ -11,7 +11,7 @@ const ACTIONS: u8 = (Limits::ACTION as u8) + 1;
 const ALL: u64 = 18446744073709551615;
 
 // An arc; mask: its colours.
-#[derive(Drop)]
+#[derive(Clone, Copy)]
 pub struct Arc {
     pub source: u8,
     pub target: u8,
@@ -23,7 +23,7 @@ pub struct Arc {
 
 // A model, with credit, bound, barred colours and switches. Its arcs stand in the first `arcs` places of the six lists. It goes by value through
 // the program: what has few parameters is checked faster.
-#[derive(Drop)]
+#[derive(Clone, Copy)]
 pub struct Model {
     pub arcs: u8,
     pub sources: [u8; Limits::ARCS],
@@ -42,7 +42,7 @@ pub struct Model {
 }
 
 // A model, and the next state of the generator.
-#[derive(Drop)]
+#[derive(Clone, Copy)]
 pub struct Made {
     pub model: Model,
     pub state: u32,
@@ -52,7 +52,7 @@ pub struct Made {
 // that it draws and gains a number below both_span, the same, so that with 1 no arc has both parts. Where `repeats`, an arc is as likely as not
 // equal in all fields but its action to the one before. Where `bars`, the barred byte is any byte, also with bits at or above k; else it is 0.
 // Where `switches`, the bits of the switches are random, also those at or above m; else all are set.
-#[derive(Drop)]
+#[derive(Clone, Copy)]
 pub struct Family {
     pub models: u16,
     pub modes_least: u16,

@@ -6,7 +6,7 @@ ghost use Rattle.walks.specs.BoundedStep.{stepped};
 ghost use Rattle.walks.specs.Cases.{step_case};
 
 // The charge that a step leads to, with what the bound cut off, or that it is not possible.
-#[derive(Drop)]
+#[derive(Clone, Copy)]
 pub enum Step {
     To(u16, u32),
     Impossible,
@@ -14,7 +14,7 @@ pub enum Step {
 
 // The cases of a step (document 02, Ask 10): the charge is less than the draw; or charge − draw + gain is below the bound, exactly the bound, or
 // above it.
-#[derive(Drop)]
+#[derive(Clone, Copy)]
 pub enum StepCase {
     TooLittle,
     Below,

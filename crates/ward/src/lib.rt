@@ -1,4 +1,5 @@
 // One plan for a ward: a lent list of wearers, each with its start mode, credit and bound, whose verdicts are filled by judging.
+#![tactic(auto)]
 ghost use Rattle.std.specs.Prelude.{◌≡◌};
 ghost use Rattle.model.specs.Lists.{lists};
 ghost use Rattle.ward.specs.Ward.{verdict_of, ward_fitness, WardOf};
@@ -10,7 +11,7 @@ use refusals::{Answer, Verdict};
 
 // A wearer: start mode, credit, bound, and the verdict, which is 0 for yes or the number of a refusal.
 #[repr(C)]
-#[derive(Drop)]
+#[derive(Clone, Copy)]
 pub struct Wearer {
     pub start: u32,
     pub c: u32,
@@ -19,14 +20,14 @@ pub struct Wearer {
 }
 
 // Before any wearer: the answer, and how many wearers are to be judged.
-#[derive(Drop)]
+#[derive(Clone, Copy)]
 struct Checked {
     pub answer: Answer,
     pub count: usize,
 }
 
 // After a wearer: the wearer with its verdict, and the answer so far.
-#[derive(Drop)]
+#[derive(Clone, Copy)]
 struct JudgedWearer {
     pub wearer: Wearer,
     pub answer: Answer,

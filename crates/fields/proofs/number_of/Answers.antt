@@ -1,5 +1,5 @@
 -- `fields::number_of` meets its contract. Assumes nothing.
-use mathlib.Core.Path.{◌≡◌, sym, ap, ◌∙◌}
+use mathlib.Core.Path.{sym, ap, ◌∙◌}
 use mathlib.Core.Bool.{Bool}
 use Prim.Native.Nat.{◌-◌}
 use native.Mathlib.Omega.{arith}
@@ -9,13 +9,8 @@ use Rattle.fields.specs.Fields.{digit_count, is_plain}
 use Rattle.fields.proofs.Numbers.{number-none, number-some, digit-bounds, plain-bounds, digits_le, digits_are, value-turn, value-done, below_power, below-most}
 use Rattle.fields.proofs.number_of.Goals as goal
 
--- PLACES After-loop-i After-shared_slice_known-in-loop-i-1 Then-not-is_plain
--- the test is of the digits of the list
-plain : (d : goal.After-is_plain) → d.is_plain.result ≡ is_plain (digit_count d.args.s.now)
-plain d = d.is_plain.ensures ∙ ap {B = Bool} is_plain d.digit_count-count.ensures
-
 pub returns-then-not-is_plain : goal.returns-then-not-is_plain
-returns-then-not-is_plain c = number-none _ (sym (plain c.before) ∙ not-true _ c.if-not-is_plain.true-raw)
+returns-then-not-is_plain c = number-none _ (sym (c.is_plain.ensures ∙ ap {B = Bool} is_plain c.digit_count-count.ensures) ∙ not-true _ c.if-not-is_plain.true-raw)
 
 pub bounds-s-i : goal.bounds-s-i
 bounds-s-i c =
@@ -26,7 +21,7 @@ pub with_digit-v-requires : goal.with_digit-v-requires
 with_digit-v-requires c =
     let e = c in
     let s = e.args.s.now in
-    let (l, m) = plain-bounds (digit_count s) (sym (plain e.before) ∙ not-false _ e.if-not-is_plain.false-raw) in
+    let (l, m) = plain-bounds (digit_count s) (sym (e.is_plain.ensures ∙ ap {B = Bool} is_plain e.digit_count-count.ensures) ∙ not-false _ e.if-not-is_plain.false-raw) in
     let d = c.loop-i in
     (below-most d.i d.v (omega arith) d.invariant.1, digits_are s d.i (omega arith))
 
@@ -47,5 +42,5 @@ pub returns : goal.returns
 returns c =
     let e = c in
     let s = e.args.s.now in
-    number-some s e.digit_count-count.result c.loop-i.v (sym (plain e.before) ∙ not-false _ e.if-not-is_plain.false-raw) e.digit_count-count.ensures
+    number-some s e.digit_count-count.result c.loop-i.v (sym (e.is_plain.ensures ∙ ap {B = Bool} is_plain e.digit_count-count.ensures) ∙ not-false _ e.if-not-is_plain.false-raw) e.digit_count-count.ensures
     (c.loop-i.invariant.2 ∙ value-done e.digit_count-count.result c.loop-i.i c.loop-i.v s (omega arith) (omega (arith, digits_le s)))
