@@ -23,6 +23,7 @@ module _ (test : ℕ → Bool) where
       here (suc i) below h more = inr (more (i, omega arith, h))
 
   pub some_left : (u v : List ℕ) → SomeArc test u → SomeArc test (u ++ v)
+  some_left [] v h = elim h [ ]
   some_left (a ∷ u) v (inl h) = inl h
   some_left (a ∷ u) v (inr h) = inr (some_left u v h)
 
@@ -37,9 +38,11 @@ module _ (test : ℕ → Bool) where
 
   -- a list repeated has no other arcs
   pub some-times : (r : ℕ) (w : List ℕ) → SomeArc test (times r w) → SomeArc test w
+  some-times zero w h = elim h [ ]
   some-times (suc r) w h = ⊎_elim (λ p. p) (some-times r w) (some-append w (times r w) h)
 
 -- what passes a test passes another that says the same
 pub some_same : (f h : ℕ → Bool) → ((a : ℕ) → f a ≡ h a) → (w : List ℕ) → SomeArc f w → SomeArc h w
+some_same f h e [] p = elim p [ ]
 some_same f h e (a ∷ w) (inl p) = inl (sym (e a) ∙ p)
 some_same f h e (a ∷ w) (inr p) = inr (some_same f h e w p)

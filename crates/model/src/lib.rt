@@ -1,5 +1,6 @@
 // The model as one value, and the checks that every call begins with: fitness (1 to 5) and levels (6).
 #![tactic(auto)]
+
 ghost use Rattle.std.specs.Prelude.{◌≡◌, ◌≤◌, ◌^◌};
 ghost use Rattle.limits.specs.Ceilings.{colours_most};
 ghost use Rattle.model.specs.Lists.{lists, blank_model};
