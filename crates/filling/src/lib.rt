@@ -1,6 +1,7 @@
 // Arc lists that are lent to be filled, by reading and by the join: how many arcs they take, an arc written at one place of each, and what such a
 // call answers.
 #![tactic(auto)]
+
 ghost use Rattle.std.specs.Prelude.{◌≡◌, min, set};
 ghost use Rattle.model.specs.Lists.{lists};
 ghost use Rattle.filling.specs.Filling.{room_of, put, refused_by};
