@@ -1,6 +1,7 @@
 // The switches of the arcs, four words of 64 bits (document 02, Ask 9): arc a has bit a mod 64 of word a / 64. A byte is the number of every
 // arc, so that each function is for all numbers and words.
 #![tactic(auto)]
+
 ghost use Rattle.std.specs.Prelude.{◌≡◌, true, false};
 ghost use Rattle.switches.specs.Switches.{is_on, switched};
 
