@@ -75,6 +75,7 @@ module _ (g : Net) (K : ℕ) where
 
   -- a list that meets the duty of the level raises the level
   pub met-rises : (w : List ℕ) (l : ℕ) → l < K → Meets g l w → l < level g K l w
+  met-rises [] l h m = elim m [ ]
   met-rises (a ∷ w) l h m = go (level-grows w (next g K l a)) (met-rises w l h) m (next-cases l a)
     where
       go : next g K l a ≤ level g K (next g K l a) w → (Meets g l w → l < level g K l w) → Meets g l (a ∷ w) → Rises g K l a ⊎ Stays g K l a

@@ -78,6 +78,7 @@ module _ (g : Automaton) (x : ℕ) (on : List ℕ) where
   Clean w = (j : ℕ) → j < g.colours → bit x j ≡ true → Plans.Meets g j w → ⊥
 
   lasts-clean : (w : List ℕ) (s t : ℕ) → Leads (graph_of g) (Lasts (whole g x on)) s w t → Clean w
+  lasts-clean [] s t d j h q m = elim m [ ]
   lasts-clean (a ∷ w) s t d j h q (inl m) = true≢false (sym m ∙ ((whole-lasting-arc a).0 d.0).1 j h q)
   lasts-clean (a ∷ w) s t d j h q (inr m) = lasts-clean w ((graph_of g).target a) t d.2 j h q m
 
