@@ -1,5 +1,6 @@
 // HOA text: its lines, and the first that is outside the forms.
 #![tactic(auto)]
+
 ghost use Rattle.std.specs.Prelude.{◌≡◌, true, cond, [], map, suc, ◌≤◌, max, length, take};
 ghost use Rattle.fields.specs.Bytes.{blank, ampersand};
 ghost use Rattle.fields.specs.Fields.{number_of, split, lines_of, is_word};

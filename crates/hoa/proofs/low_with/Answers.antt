@@ -7,25 +7,17 @@ use lib.Bits.{bit_or}
 use lib.Dec.{lit<}
 use lib.Pow.{shl_exact}
 use borrow.Author.Tests.{le-ltb, lt-ltb}
-use borrow.Author.Rules.{rules}
 use Rattle.limits.specs.Ceilings.{modes_most}
 use Rattle.hoa.specs.Blocks.{low_with}
-use Rattle.hoa.proofs.low_with.Statement.{statement}
-use Rattle.hoa.proofs.low_with.Tie as tie
+use Rattle.hoa.proofs.low_with.Goals as goal
 
-returns : tie.Need-returns
+pub returns-then-mode-ge-MODES : goal.returns-then-mode-ge-MODES
 unfolding low_with
-returns c = simp (le-ltb _ _ c.if1.true)
+returns-then-mode-ge-MODES c = simp (le-ltb _ _ c.if-mode-ge-MODES.true)
 
-shl-result : tie.Need-overflow-shl-result
-shl-result c = search rules
-
-returns-2 : tie.Need-returns-2
+pub returns : goal.returns
 unfolding low_with
-returns-2 c =
-    let a = c.before.args in
+returns c =
+    let a = c.args in
     let power = shl_exact {a = 1} 1 a.mode 64 (lit< tt) (omega arith) ∙ one-mul (2 ^ a.mode) in
-    rw (lt-ltb a.mode modes_most c.if1.false) (ap {B = ℕ} (λ (x : ℕ). bit_or a.low x) power)
-
-pub low-with-spec : {M : Type 1} → statement M
-low-with-spec = tie.close (tie.spec returns shl-result returns-2)
+    rw (lt-ltb a.mode modes_most c.if-mode-ge-MODES.false) (ap {B = ℕ} (λ (x : ℕ). bit_or a.low x) power)
