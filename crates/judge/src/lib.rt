@@ -1,5 +1,6 @@
 // Judging: whether a plan of any origin is feasible and accepted for a model. Refusals 1 to 6, 11 to 16, 24 and 17, top to bottom.
 #![tactic(auto)]
+
 ghost use Rattle.std.specs.Prelude.{◌≡◌, ◌+◌, ◌*◌, ◌^◌, ◌≤◌, ◌<◌, length, drop};
 ghost use Rattle.limits.specs.Ceilings.{plan_most};
 ghost use Rattle.refusals.specs.Refusals.{and_then, answer_of};

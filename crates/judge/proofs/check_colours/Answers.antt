@@ -3,9 +3,7 @@ use mathlib.Core.Path.{◌≡◌, refl, sym}
 use mathlib.Core.List.{List}
 use Prim.Native.Nat.{ℕ, ◌-◌, ◌*◌, ◌%◌, ◌^◌, ◌≤◌, ◌<◌}
 use native.Mathlib.Omega.{arith}
-use borrow.Author.Rules.{rules}
 use lib.Bits.{bit_and, and_mask, mask_lt}
-use lib.Pow.{pow_pos}
 use Rattle.limits.specs.Ceilings.{colours_most}
 use Rattle.model.specs.declared.Model.{Model}
 use Rattle.model.specs.Fitness.{Holds}
@@ -15,8 +13,7 @@ use Rattle.judge.specs.Colours.{met_by}
 use Rattle.judge.specs.Judged.{ArcNumbers}
 use Rattle.judge.proofs.Arcs.{arcs-coloured}
 use Rattle.judge.proofs.Masks.{met-below, none-missing, some-missing}
-use Rattle.judge.proofs.check_colours.Statement.{statement}
-use Rattle.judge.proofs.check_colours.Tie as tie
+use Rattle.judge.proofs.check_colours.Goals as goal
 
 -- the masks of a model, as the code computes them
 module _ (g : Model) (holds : Holds g) where
@@ -43,57 +40,26 @@ passed g holds x = rw (power g holds) (and_mask x g.colours)
 low : (g : Model) (holds : Holds g) (x : ℕ) → bit_and x (1 * 2 ^ g.colours % 4294967296 - 1) < 2 ^ g.colours
 low g holds x = rw (power g holds) (mask_lt x g.colours)
 
-cast-all : tie.Need-overflow-cast-all
-cast-all c = search rules
+pub overflow_sub-missing : goal.overflow_sub-missing
+overflow_sub-missing c =
+    let g = c.args.model in
+    let h = c.requires.0 in
+    omega (arith, power g h, below g h c.args.cycle.now c.requires.1 _ (low g h c.args.barred), c.met_colours.ensures)
 
-shl-all : tie.Need-overflow-shl-all
-shl-all c = omega (arith, few c.before.args.model c.before.requires.0)
+pub returns-then-missing-eq0 : goal.returns-then-missing-eq0
+returns-then-missing-eq0 c =
+    let g = c.args.model in
+    let w = c.args.cycle.now in
+    let x = c.args.barred in
+    let h = c.requires.0 in
+    sym (none-missing (held g) x _ w (omega (arith, few g h)) (passed g h x) (below g h w c.requires.1 _ (low g h x)) _
+    (lacks g h w c.requires.1 _ _ c.met_colours.ensures) c.if-missing-eq0.true)
 
-sub-all : tie.Need-overflow-sub-all
-sub-all c =
-    let d = c.before in
-    omega (arith, power d.args.model d.requires.0, pow_pos d.args.model.colours)
-
-met-colours-requires : tie.Need-met-colours-requires
-met-colours-requires c κs =
-    let d = c.before in
-    (d.requires.0, d.requires.1, omega (arith, power d.args.model d.requires.0, pow_pos d.args.model.colours))
-
-sub-missing : tie.Need-overflow-sub-missing
-sub-missing c =
-    let d = c.before.before in
-    let g = d.args.model in
-    let h = d.requires.0 in
-    omega (arith, power g h, below g h d.args.cycle.now d.requires.1 _ (low g h d.args.barred), c.met-colours.ensures)
-
-returns : tie.Need-returns
+pub returns : goal.returns
 returns c =
-    let d = c.before.before.before in
-    let g = d.args.model in
-    let w = d.args.cycle.now in
-    let x = d.args.barred in
-    let h = d.requires.0 in
-    sym (none-missing (held g) x _ w (omega (arith, few g h)) (passed g h x) (below g h w d.requires.1 _ (low g h x)) _
-    (lacks g h w d.requires.1 _ _ c.before.met-colours.ensures) c.if1.true)
-
-returns-2 : tie.Need-returns-2
-returns-2 c =
-    let d = c.before.before.before in
-    let g = d.args.model in
-    let w = d.args.cycle.now in
-    let x = d.args.barred in
-    let h = d.requires.0 in
-    sym (some-missing (held g) x _ w (omega (arith, few g h)) (passed g h x) (below g h w d.requires.1 _ (low g h x)) _
-    (lacks g h w d.requires.1 _ _ c.before.met-colours.ensures) c.if1.false)
-
-pub check-colours-spec : {M : Type 1} → statement M
-check-colours-spec =
-    tie.close
-    (tie.spec
-    cast-all
-    shl-all
-    sub-all
-    met-colours-requires
-    sub-missing
-    returns
-    returns-2)
+    let g = c.args.model in
+    let w = c.args.cycle.now in
+    let x = c.args.barred in
+    let h = c.requires.0 in
+    sym (some-missing (held g) x _ w (omega (arith, few g h)) (passed g h x) (below g h w c.requires.1 _ (low g h x)) _
+    (lacks g h w c.requires.1 _ _ c.met_colours.ensures) c.if-missing-eq0.false)
