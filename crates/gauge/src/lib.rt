@@ -1,5 +1,6 @@
 // The gauge by value: starting it, and stepping it on one arc.
 #![tactic(auto)]
+
 ghost use Rattle.std.specs.Prelude.{◌≡◌};
 ghost use Rattle.refusals.specs.Refusals.{answer_of};
 ghost use Rattle.model.specs.Lists.{lists, held};
