@@ -5,10 +5,10 @@ use Rattle.gauge.proofs.step_matched.Goals as goal
 
 pub returns-then-mixed_up : goal.returns-then-mixed_up
 returns-then-mixed_up c =
-    let a = d.args in
-    c.refused.ensures ∙ sym (held-matched a.model d.requires a.b a.arc a.gauge _ (sym c.mixed_up.ensures ∙ c.if-mixed_up.true))
+    let a = c.args in
+    c.refused.ensures ∙ sym (held-matched a.model c.requires a.b a.arc a.gauge _ (sym c.mixed_up.ensures ∙ c.if-mixed_up.true))
 
 pub returns : goal.returns
 returns c =
-    let a = d.args in
-    c.step_on.ensures ∙ sym (held-matched a.model d.requires a.b a.arc a.gauge _ (sym c.mixed_up.ensures ∙ c.if-mixed_up.false))
+    let a = c.args in
+    c.step_on.ensures ∙ sym (held-matched a.model c.requires a.b a.arc a.gauge _ (sym c.mixed_up.ensures ∙ c.if-mixed_up.false))

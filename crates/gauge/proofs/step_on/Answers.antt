@@ -10,19 +10,19 @@ returns-then-arc-count c =
 
 pub returns-then-taken-gauge : goal.returns-then-taken-gauge
 returns-then-taken-gauge c =
-    let a = d.args in
-    c.refused-then-taken-gauge.ensures ∙ sym (held-mode a.model d.requires a.b a.arc a.gauge c.if-arc-count.false c.if-taken-gauge.true)
+    let a = c.args in
+    c.refused-then-taken-gauge.ensures ∙ sym (held-mode a.model c.requires a.b a.arc a.gauge c.if-arc-count.false c.if-taken-gauge.true)
 
 pub returns-in-To : goal.returns-in-To
 returns-in-To c =
-    let a = d.args in
+    let a = c.args in
     c.land.ensures
-    ∙ sym (held-lands a.model d.requires a.b a.arc a.gauge e.if-arc-count.false c.if-taken-gauge.false _
+    ∙ sym (held-lands a.model c.requires a.b a.arc a.gauge c.if-arc-count.false c.if-taken-gauge.false _
     (sym c.bounded_step-next.ensures ∙ c.in-To.is))
 
 pub returns-in-Impossible : goal.returns-in-Impossible
 returns-in-Impossible c =
-    let a = d.args in
+    let a = c.args in
     c.refused-in-Impossible.ensures
-    ∙ sym (held-lands a.model d.requires a.b a.arc a.gauge e.if-arc-count.false c.if-taken-gauge.false _
+    ∙ sym (held-lands a.model c.requires a.b a.arc a.gauge c.if-arc-count.false c.if-taken-gauge.false _
     (sym c.bounded_step-next.ensures ∙ c.in-Impossible.is))
