@@ -1,5 +1,6 @@
 // The gauge lent by &mut to one thin step, over the by-value step of `gauge`.
 #![tactic(auto)]
+
 ghost use Rattle.std.specs.Prelude.{◌≡◌};
 ghost use Rattle.model.specs.Lists.{lists};
 ghost use Rattle.gauge.specs.Gauge.{stepped_of};
