@@ -1,5 +1,6 @@
 // The walk: a plan is judged, and then stepped from its beginning until a colour is first met or the allowance is spent.
 #![tactic(auto)]
+
 ghost use Rattle.std.specs.Prelude.{◌≡◌, ◌<◌, length};
 ghost use Rattle.limits.specs.Ceilings.{colours_most};
 ghost use Rattle.model.specs.Automaton.{bit};
