@@ -1,6 +1,5 @@
 -- `hoa::body_wrong` meets its contract: line by line, by `Walked`. Assumes nothing.
 use mathlib.Core.Path.{sym}
-use Prim.Native.Nat.{◌-◌}
 use native.Mathlib.Omega.{arith}
 use borrow.Author.Tests.{not-true, not-false}
 use Rattle.fields.specs.Bytes.{feed}

@@ -1,6 +1,5 @@
 -- `hoa::has_block` meets its contract: at every turn the block is in the lines that are left. Assumes nothing.
 use mathlib.Core.Path.{sym, ◌∙◌}
-use Prim.Native.Nat.{◌-◌}
 use native.Mathlib.Omega.{arith}
 use native.Mathlib.Numerals.{add-one}
 use Rattle.fields.proofs.Places.{line-here, line-next, lines-spent}

@@ -1,6 +1,5 @@
 -- `hoa::in_pieces` meets its contract: at every turn the colour is in the pieces that are left. Assumes nothing.
 use mathlib.Core.Path.{sym, ◌∙◌}
-use Prim.Native.Nat.{◌-◌}
 use native.Mathlib.Omega.{arith}
 use borrow.Author.Tests.{eq-eqb, ne_eqb}
 use Rattle.fields.proofs.Pieces.{end-bounds}
