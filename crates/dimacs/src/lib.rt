@@ -1,5 +1,6 @@
 // DIMACS text: its lines, the first that is outside the forms, and the numbers of a text.
 #![tactic(auto)]
+
 ghost use Rattle.std.specs.Prelude.{◌≡◌, ◌≤◌, drop};
 ghost use Rattle.fields.specs.Fields.{lines_of, LineAt};
 ghost use Rattle.dimacs.specs.Lines.{
