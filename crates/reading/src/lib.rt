@@ -1,6 +1,7 @@
 // A model read from HOA text and DIMACS text into lent lists. Both texts are walked side by side, and nothing is kept of them: there is no ceiling on
 // their length, and an edge past the 255th still has to agree.
 #![tactic(auto)]
+
 ghost use Rattle.std.specs.Prelude.{◌≡◌, ◌&&◌, map, ◌≤◌, eqb, length, drop};
 ghost use Rattle.limits.specs.Ceilings.{arcs_most};
 ghost use Rattle.refusals.specs.Refusals.{and_then, answer_of};
