@@ -4,17 +4,20 @@ use mathlib.Core.Bool.{Bool, true, false, cond}
 use mathlib.Core.List.{List, [], ◌∷◌, map}
 use Prim.Native.Nat.{ℕ, zero, suc, ◌+◌, ◌<◌, ◌≤◌}
 use native.Mathlib.Nat.{not-suc-le-zero, le_of_suc-le-suc}
+use native.Mathlib.Numerals.{add-one}
 use native.Mathlib.Omega.{arith}
 use lib.Dec.{eqb}
-use lib.ListN.{length, get_or}
+use lib.ListN.{length, get_or, set}
 use Rattle.refusals.specs.declared.Answer.{Answer}
 use Rattle.refusals.specs.declared.Verdict.{Verdict}
 use Rattle.refusals.specs.declared.Verdict.TheVariants.{Yes, Refused}
 use Rattle.refusals.specs.Refusals.{answer}
 use Rattle.ward.specs.declared.Wearer.{Wearer}
+use Rattle.ward.specs.declared.Checked.{Checked}
+use Rattle.ward.specs.declared.JudgedWearer.{JudgedWearer}
 use Rattle.ward.specs.Ward.{with_verdict, first_other, answered_if, filled_if}
-use Rattle.ward.specs.Turns.{checked_of, after_verdict}
-use Rattle.ward.proofs.Upto.{upto, upto_all}
+use Rattle.ward.specs.Turns.{checked_of, after_verdict, judged_wearer}
+use Rattle.ward.proofs.Upto.{upto, get_or-upto, set-upto, upto_all}
 
 -- what stands past the end of a list of wearers
 abbrev pub no_wearer : Wearer
@@ -60,6 +63,22 @@ module _ (f : Wearer → ℕ) where
       go true e ih = ih
       go false e ih = kept (answer (f y) j) (suc j) ys (length ys) e
 
+-- one turn of the loop, where the wearers at entry are ys: the wearer at i is put through f, and the answer is that of one wearer more
+module _ (f : Wearer → ℕ) (ys : List Wearer) where
+  abbrev filled : Wearer → Wearer
+  filled y = with_verdict y (f y)
+
+  grown : (zs : List Wearer) (i : ℕ) → zs ≡ upto filled i ys → i < length ys → set zs i (filled (get_or zs i no_wearer)) ≡ upto filled (i + 1) ys
+  grown zs i e l = rw (e, add-one) (set-upto filled i ys no_wearer l)
+
+  pub turn-filled : (zs : List Wearer) (r : Answer) (o : JudgedWearer) (i : ℕ) → zs ≡ upto filled i ys
+      → o ≡ judged_wearer f (get_or zs i no_wearer) r i → i < length ys → set zs i o.wearer ≡ upto filled (i + 1) ys
+  turn-filled zs r o i e j l = rw j (grown zs i e l)
+
+  pub turn-answered : (zs : List Wearer) (r a : Answer) (o : JudgedWearer) (i : ℕ) → zs ≡ upto filled i ys → r ≡ so_far f a 0 ys i
+      → o ≡ judged_wearer f (get_or zs i no_wearer) r i → i < length ys → o.answer ≡ so_far f a 0 ys (i + 1)
+  turn-answered zs r a o i e q j l = rw (j, e, q, get_or-upto filled i ys no_wearer, add-one) (so-far-next f a ys i l)
+
 -- the wearers to be judged are wearers of the list
 pub count-within : (v : Verdict) (n : ℕ) → (checked_of v n).count ≤ n
 count-within Yes n = omega arith
@@ -75,3 +94,11 @@ pub ward-filled : (v : Verdict) (f : Wearer → ℕ) (ys : List Wearer)
     → upto (λ y. with_verdict y (f y)) (checked_of v (length ys)).count ys ≡ filled_if v f ys
 ward-filled Yes f ys = upto_all (λ y. with_verdict y (f y)) (length ys) ys (omega arith)
 ward-filled (Refused r) f ys = refl
+
+-- the same of what is had where the loop ends
+module _ (v : Verdict) (f : Wearer → ℕ) (ys : List Wearer) (s : Checked) (e : s ≡ checked_of v (length ys)) (i : ℕ) (all : i ≡ s.count) where
+  pub answered-at : (r : Answer) → r ≡ so_far f s.answer 0 ys i → r ≡ answered_if v f ys
+  answered-at r q = rw (q, all, e) (ward-answered v f ys)
+
+  pub filled-at : (zs : List Wearer) → zs ≡ upto (λ y. with_verdict y (f y)) i ys → zs ≡ filled_if v f ys
+  filled-at zs q = rw (q, all, e) (ward-filled v f ys)

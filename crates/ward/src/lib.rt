@@ -1,5 +1,6 @@
 // One plan for a ward: a lent list of wearers, each with its start mode, credit and bound, whose verdicts are filled by judging.
 #![tactic(auto)]
+
 ghost use Rattle.std.specs.Prelude.{◌≡◌};
 ghost use Rattle.model.specs.Lists.{lists};
 ghost use Rattle.ward.specs.Ward.{verdict_of, ward_fitness, WardOf};

@@ -1,7 +1,6 @@
 -- `judge::check_barred` meets its contract: with nothing barred 24 does not apply; else at every turn the verdict is that on the rest of the
 -- plan. Assumes nothing.
 use mathlib.Core.Path.{◌∙◌, sym}
-use Prim.Native.Nat.{◌-◌}
 use native.Mathlib.Omega.{arith}
 use lib.ListN.{drop}
 use Rattle.model.specs.Lists.{held}

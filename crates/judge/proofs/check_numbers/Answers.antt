@@ -1,6 +1,5 @@
 -- `judge::check_numbers` meets its contract: at every turn the verdict is that on the rest of the plan. Assumes nothing.
 use mathlib.Core.Path.{◌∙◌, sym}
-use Prim.Native.Nat.{◌-◌}
 use native.Mathlib.Omega.{arith}
 use Rattle.judge.proofs.Scans.{numbers-end, numbers-stop, numbers_on}
 use Rattle.judge.proofs.check_numbers.Goals as goal

@@ -1,6 +1,5 @@
 -- `judge::check_path` meets its contract: the loop keeps `Following`, and each way out is one row. Assumes nothing.
 use mathlib.Core.Path.{◌∙◌}
-use Prim.Native.Nat.{◌-◌}
 use native.Mathlib.Omega.{arith}
 use borrow.Author.Tests.{eq-eqb, ne_eqb}
 use Rattle.judge.proofs.Arcs.{path-arcs}

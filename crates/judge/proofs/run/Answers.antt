@@ -1,6 +1,5 @@
 -- `judge::run` meets its contract: at every turn the walk of the list is the walk of its rest from the charge reached. Assumes nothing.
 use mathlib.Core.Path.{◌∙◌, sym}
-use Prim.Native.Nat.{◌-◌}
 use native.Mathlib.Omega.{arith}
 use Rattle.judge.proofs.Scans.{ran-end, ran_on_lem, ran-stop}
 use Rattle.judge.proofs.run.Goals as goal
