@@ -39,10 +39,12 @@ leads-arcs g (a ∷ w) s t h = (h.0, leads-arcs g w (arc_at g a).target t h.2)
 -- a test of arcs that is another one of what they are made of
 module _ (p q : ℕ → Bool) (f : ℕ → ℕ) (P : ℕ → Type 0) (same : (z : ℕ) → P z → p z ≡ q (f z)) where
   some_to : (w : List ℕ) → Every P w → SomeArc p w → SomeArc q (map f w)
+  some_to [] h x = elim x [ ]
   some_to (z ∷ w) h (inl m) = inl (sym (same z h.0) ∙ m)
   some_to (z ∷ w) h (inr m) = inr (some_to w h.1 m)
 
   some-from : (w : List ℕ) → Every P w → SomeArc q (map f w) → SomeArc p w
+  some-from [] h x = elim x [ ]
   some-from (z ∷ w) h (inl m) = inl (same z h.0 ∙ m)
   some-from (z ∷ w) h (inr m) = inr (some-from w h.1 m)
 
@@ -104,6 +106,8 @@ module _ (g h : Automaton) where
   arcs-joined : (u v : List ℕ) → SameActions g h u v → Every (IsArc g) u → Every (IsArc h) v
       → (w : List ℕ) × AllJoined w × (knees w ≡ u) × (habits w ≡ v)
   arcs-joined [] [] s k l = ([], tt, refl, refl)
+  arcs-joined [] (c ∷ v) s k l = elim s [ ]
+  arcs-joined (a ∷ u) [] s k l = elim s [ ]
   arcs-joined (a ∷ u) (c ∷ v) s k l =
       let (z, i, first, second) = pair-joined g h a c k.0 l.0 s.0 in
       let (w, j, eu, ev) = arcs-joined u v s.1 k.1 l.1 in

@@ -1,6 +1,7 @@
 // A knee joined with a habit: the model of both at once, written into six lent lists. A first pass over the pairs of arcs counts and checks, a second
 // writes, so that nothing is written before 23 is known.
 #![tactic(auto)]
+
 ghost use Rattle.std.specs.Prelude.{◌≡◌, ◌||◌, ℕ, ◌+◌, ◌*◌, ◌^◌, ◌≤◌, ◌<◌, eqb};
 ghost use Rattle.refusals.specs.Refusals.{answer_of};
 ghost use Rattle.model.specs.Lists.{lists, held};
