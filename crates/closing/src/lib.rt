@@ -1,6 +1,7 @@
 // A level closed (document 02, Ask 9; document 001, section 4): the greatest charge with which each mode is reached. Loops that gain are raised to
 // their top in one step, so that the cost does not depend on the bound. A table has a word for each mode: 0 for none, and else the charge plus 1.
 #![tactic(auto)]
+
 ghost use Rattle.std.specs.Prelude.{◌≡◌, ◌<◌, length, set, replicate};
 ghost use Rattle.closing.specs.Stratum.{stratum};
 ghost use Rattle.closing.specs.Tables.{Closable, Closes, Findable, PeaksFound};
