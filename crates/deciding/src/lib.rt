@@ -2,6 +2,7 @@
 // peaks, from all of which at once the levels are closed one after the other; those that are reached again in the last level with their peak or more
 // stay. Where none is left there is no plan; where all stay there is one. A table has a word for each mode: 0 for none, and else the charge plus 1.
 #![tactic(auto)]
+
 ghost use Rattle.std.specs.Prelude.{◌≡◌, true, ◌||◌, ◌↔◌, ◌+◌, ◌≤◌, ◌<◌, length};
 ghost use Rattle.limits.specs.Ceilings.{colours_most};
 ghost use Rattle.model.specs.Required.{required};

@@ -1,0 +1,14 @@
+-- `find_kept` meets its contract. Assumes nothing.
+use mathlib.Core.Path.{subst}
+use Prim.Native.Nat.{ℕ}
+use Rattle.deciding.specs.Deciding.{SomeUnmet}
+use Rattle.deciding.proofs.Missing.{unmet-none-kept}
+use Rattle.deciding.proofs.find_kept.Goals as goal
+
+pub returns-then-some_unmet : goal.returns-then-some_unmet
+returns-then-some_unmet c =
+    let a = c.args in
+    let arcs = c.first_place-arcs.ensures in
+    let some = c.some_unmet.ensures c.if-some_unmet.true in
+    unmet-none-kept a.rows.now a.places.now a.question _ (subst (λ (m : ℕ). SomeUnmet a.rows.now m a.question.duties) arcs some) _
+    c.clear.ensures
