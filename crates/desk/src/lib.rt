@@ -2,6 +2,7 @@
 // include/chargeplan.h declares and explains them.
 // C passes a slice as two arguments, a pointer and a length, and a `&mut` as a pointer.
 #![tactic(auto)]
+
 ghost use Rattle.std.specs.Prelude.{◌≡◌, not, eqb};
 ghost use Rattle.model.specs.Lists.{lists};
 ghost use Rattle.reading.specs.Reading.{lists_read};

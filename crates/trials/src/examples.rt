@@ -3,7 +3,7 @@ use crate::answers::{BYTES, WORK};
 use crate::buffers::{is_clear, is_junk, is_untouched, junk_plan, junk_work};
 use crate::calls::{searched, walked};
 use crate::models::{Model, without_arcs};
-use crate::print::{print_number, print_word};
+use std::io;
 
 // A number that search answers, and whether it leaves the buffers as it should.
 #[derive(Clone, Copy)]
@@ -26,19 +26,12 @@ fn model_g() -> Model {
 }
 
 // M: the number that the walk of I for colour 0 answers, with an allowance, met or spent, and the steps. I: G's model, run-in 0 0 0 0 0 1, round 2.
-fn print_walk(allowance: u16) {
+fn print_walk(rt: &HostRuntime, allowance: u16) -> io::Result<()> {
     let plan = [0u8, 0u8, 0u8, 0u8, 0u8, 1u8, 2u8];
     let result = walked(model_g(), 6, 1, &plan, 0, allowance);
     let answer = result.answer;
-    print_word(b"M");
-    print_number(answer.number as u32);
-    if result.met {
-        print_word(b" met");
-    } else {
-        print_word(b" spent");
-    }
-    print_number(result.steps as u32);
-    print_word(b"\n");
+    let end = if result.met { "met" } else { "spent" };
+    println!(rt; "M {} {end} {}", answer.number, result.steps)
 }
 
 // Whether search leaves buffers that held junk as it should: after 10 the working space is clear, after 1 to 9 untouched; the plan buffer is
@@ -69,29 +62,19 @@ fn search_junk(model: Model) -> Left {
 }
 
 // N: n, start mode, k and b of a model without arcs, the number that search answers, and whether it leaves the buffers as it should.
-fn print_search(n: u32, start: u8, k: u32, b: u32) {
+fn print_search(rt: &HostRuntime, n: u32, start: u8, k: u32, b: u32) -> io::Result<()> {
     let left = search_junk(without_arcs(n, start, k, 0, b));
-    print_word(b"N");
-    print_number(n);
-    print_number(start as u32);
-    print_number(k);
-    print_number(b);
-    print_number(left.number as u32);
-    if left.right {
-        print_word(b" right");
-    } else {
-        print_word(b" wrong");
-    }
-    print_word(b"\n");
+    let end = if left.right { "right" } else { "wrong" };
+    println!(rt; "N {n} {start} {k} {b} {} {end}", left.number)
 }
 
 // A line for each call.
-pub fn print_examples() {
-    print_walk(7);
-    print_walk(6);
-    print_search(64, 0, 0, 127);
-    print_search(64, 0, 0, 128);
-    print_search(1, 0, 0, 8191);
-    print_search(1, 0, 0, 8192);
-    print_search(64, 64, 5, 127);
+pub fn print_examples(rt: &HostRuntime) -> io::Result<()> {
+    print_walk(rt, 7)?;
+    print_walk(rt, 6)?;
+    print_search(rt, 64, 0, 0, 127)?;
+    print_search(rt, 64, 0, 0, 128)?;
+    print_search(rt, 1, 0, 0, 8191)?;
+    print_search(rt, 1, 0, 0, 8192)?;
+    print_search(rt, 64, 64, 5, 127)
 }

@@ -5,6 +5,7 @@
 // The random models and the plain search (models, pairs, candidates, rounds) share no code with search, judging, walk or switches: of the
 // planner they use the ceilings and the count of the switches' words alone.
 #![tactic(auto)]
+
 mod answers;
 mod buffers;
 mod calls;
@@ -14,13 +15,12 @@ mod decisions;
 mod examples;
 mod models;
 mod pairs;
-mod print;
 mod rounds;
 
 use answers::{Outcome, try_model};
 use limits::Limits;
 use models::{Family, model_of};
-use print::{print_number, print_word};
+use std::io;
 
 // Ceilings, as families have them.
 const MODES: u16 = Limits::MODES as u16;
@@ -94,21 +94,8 @@ fn all_colours(models: u16) -> Family {
     family
 }
 
-// Prints the line of a family.
-fn print_family(name: &[u8], models: u16, plans: u32, none: u32, differences: u32) {
-    print_word(name);
-    print_number(models as u32);
-    print_word(b" plans");
-    print_number(plans);
-    print_word(b" none");
-    print_number(none);
-    print_word(b" differences");
-    print_number(differences);
-    print_word(b"\n");
-}
-
 // Tries the models of a family, from a state of the generator, and prints the line of the family. Returns the next state.
-fn try_family(name: &[u8], family: Family, first: u32) -> u32 {
+fn try_family(rt: &HostRuntime, name: &str, family: Family, first: u32) -> io::Result<u32> {
     let mut state = first;
     let mut plans = 0u32;
     let mut none = 0u32;
@@ -126,12 +113,12 @@ fn try_family(name: &[u8], family: Family, first: u32) -> u32 {
         }
         i += 1;
     }
-    print_family(name, i, plans, none, differences);
-    state
+    println!(rt; "{name} {i} plans {plans} none {none} differences {differences}")?;
+    Ok(state)
 }
 
 // Families with small and with medium numbers, with bound 0, with arcs equal in all fields but the action, and with no arcs.
-fn try_small(first: u32) -> u32 {
+fn try_small(rt: &HostRuntime, first: u32) -> io::Result<u32> {
     let mut zero = small(1000);
     zero.bound_span = 1;
     zero.colours_span = COLOURS + 1;
@@ -146,15 +133,15 @@ fn try_small(first: u32) -> u32 {
     none.arcs_span = 1;
     none.colours_span = COLOURS + 1;
     none.bound_span = 24;
-    let second = try_family(b"small", small(6000), first);
-    let third = try_family(b"medium", medium(2000), second);
-    let fourth = try_family(b"bound-0", zero, third);
-    let fifth = try_family(b"equal-arcs", equal, fourth);
-    try_family(b"no-arcs", none, fifth)
+    let second = try_family(rt, "small", small(6000), first)?;
+    let third = try_family(rt, "medium", medium(2000), second)?;
+    let fourth = try_family(rt, "bound-0", zero, third)?;
+    let fifth = try_family(rt, "equal-arcs", equal, fourth)?;
+    try_family(rt, "no-arcs", none, fifth)
 }
 
 // Families at the ceilings: 64 modes with bound 127, one mode with bound 8,191, and all four colours over as many pairs as there is space for.
-fn try_large(first: u32) -> u32 {
+fn try_large(rt: &HostRuntime, first: u32) -> io::Result<u32> {
     let mut bound = small(64);
     bound.modes_span = 1;
     bound.colours_span = 1;
@@ -164,13 +151,13 @@ fn try_large(first: u32) -> u32 {
     bound.bound_span = 1;
     bound.net_span = 8001;
     bound.net_low = 6000;
-    let second = try_family(b"64-modes", all_modes(64), first);
-    let third = try_family(b"bound-8191", bound, second);
-    try_family(b"4-colours", all_colours(64), third)
+    let second = try_family(rt, "64-modes", all_modes(64), first)?;
+    let third = try_family(rt, "bound-8191", bound, second)?;
+    try_family(rt, "4-colours", all_colours(64), third)
 }
 
 // Families whose arcs draw and gain: with small and with medium numbers, with every arc's gain equal to its draw, and with 64 modes.
-fn try_two_parts(first: u32) -> u32 {
+fn try_two_parts(rt: &HostRuntime, first: u32) -> io::Result<u32> {
     let mut few = small(4000);
     few.both_span = 6;
     let mut more = medium(1000);
@@ -182,14 +169,14 @@ fn try_two_parts(first: u32) -> u32 {
     level.both_span = 12;
     let mut modes = all_modes(32);
     modes.both_span = 64;
-    let second = try_family(b"two-parts", few, first);
-    let third = try_family(b"medium-two-parts", more, second);
-    let fourth = try_family(b"level-two-parts", level, third);
-    try_family(b"64-modes-two-parts", modes, fourth)
+    let second = try_family(rt, "two-parts", few, first)?;
+    let third = try_family(rt, "medium-two-parts", more, second)?;
+    let fourth = try_family(rt, "level-two-parts", level, third)?;
+    try_family(rt, "64-modes-two-parts", modes, fourth)
 }
 
 // Families with barred colours: with small numbers, with medium numbers whose arcs draw and gain, and with all four colours.
-fn try_barred(first: u32) -> u32 {
+fn try_barred(rt: &HostRuntime, first: u32) -> io::Result<u32> {
     let mut few = small(2000);
     few.modes_least = 2;
     few.modes_span = 5;
@@ -205,14 +192,14 @@ fn try_barred(first: u32) -> u32 {
     let mut colours = all_colours(32);
     colours.net_low = 125;
     colours.bars = true;
-    let second = try_family(b"barred", few, first);
-    let third = try_family(b"medium-barred", more, second);
-    try_family(b"4-colours-barred", colours, third)
+    let second = try_family(rt, "barred", few, first)?;
+    let third = try_family(rt, "medium-barred", more, second)?;
+    try_family(rt, "4-colours-barred", colours, third)
 }
 
 // Families with arcs that are off: with small numbers, with medium numbers whose arcs draw and gain and with barred colours, and with 64 modes, whose
 // arcs have switches in all four words.
-fn try_switched(first: u32) {
+fn try_switched(rt: &HostRuntime, first: u32) -> io::Result<()> {
     let mut few = small(4000);
     few.arcs_span = 16;
     few.net_low = 3;
@@ -226,13 +213,17 @@ fn try_switched(first: u32) {
     modes.net_low = 70;
     modes.both_span = 64;
     modes.switches = true;
-    let second = try_family(b"switched", few, first);
-    let third = try_family(b"medium-switched", more, second);
-    try_family(b"64-modes-switched", modes, third);
+    let second = try_family(rt, "switched", few, first)?;
+    let third = try_family(rt, "medium-switched", more, second)?;
+    try_family(rt, "64-modes-switched", modes, third)?;
+    Ok(())
 }
 
-fn main() {
-    examples::print_examples();
-    let state = try_two_parts(try_large(try_small(20261115)));
-    try_switched(try_barred(state));
+fn main(rt: HostRuntime) -> io::Result<()> {
+    examples::print_examples(&rt)?;
+    let mut state = try_small(&rt, 20261115)?;
+    state = try_large(&rt, state)?;
+    state = try_two_parts(&rt, state)?;
+    state = try_barred(&rt, state)?;
+    try_switched(&rt, state)
 }
