@@ -1,11 +1,7 @@
 -- `reading::check_fitness` meets its contract: the verdict on 1 to 4 decides who answers. Assumes nothing.
-use mathlib.Core.Path.{◌≡◌, sym, ◌∙◌}
+use mathlib.Core.Path.{sym, ◌∙◌}
 use native.Mathlib.Omega.{arith}
-use Rattle.model.specs.Fitness.{header}
 use Rattle.model.proofs.Fitness.{numbers-yes}
-use Rattle.fields.specs.Fields.{lines_of}
-use Rattle.hoa.specs.Text.{modes_of, start_of, colours_of}
-use Rattle.reading.specs.Reading.{no_room}
 use Rattle.reading.proofs.Verdicts.{room-no, header-same}
 use Rattle.reading.proofs.check_fitness.Goals as goal
 

@@ -1,10 +1,8 @@
 -- `reading::check_texts` meets its contract: each way out is one row, after the rows above it. Assumes nothing.
-use mathlib.Core.Path.{◌≡◌, sym, ap, ◌∙◌}
+use mathlib.Core.Path.{sym, ap, ◌∙◌}
 use Prim.Native.Nat.{ℕ}
 use lib.ListN.{length}
 use borrow.Author.Tests.{not-true, not-false}
-use Rattle.fields.specs.Fields.{lines_of}
-use Rattle.reading.specs.Agreement.{agree}
 use Rattle.reading.proofs.Verdicts.{readable-hoa, readable-dimacs, readable-other, readable-same, lines-count, fitness-by, arc-slice, agree-by}
 use Rattle.reading.proofs.check_texts.Goals as goal
 

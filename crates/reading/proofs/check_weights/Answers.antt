@@ -1,9 +1,7 @@
 -- `reading::check_weights` meets its contract: one line after the other. Assumes nothing.
 use mathlib.Core.Path.{sym, ◌∙◌}
-use Prim.Native.Nat.{◌-◌, ◌≤◌, ◌<◌}
 use native.Mathlib.Numerals.{add-one}
 use native.Mathlib.Omega.{arith}
-use lib.ListN.{length}
 use Rattle.fields.specs.Bytes.{feed}
 use Rattle.fields.proofs.Pieces.{end-bounds}
 use Rattle.reading.proofs.Weights.{weights-here, weights-later, lines-later, weights-over}

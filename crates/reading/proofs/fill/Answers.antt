@@ -1,5 +1,4 @@
 -- `reading::fill` meets its contract: the loop keeps `WritingTexts`. Assumes nothing.
-use Prim.Native.Nat.{◌-◌}
 use native.Mathlib.Numerals.{add-one}
 use borrow.Author.Rules.{rules}
 use Rattle.reading.proofs.Writing.{turn-ends, turn-less, found-narrow, write-next, write_done}

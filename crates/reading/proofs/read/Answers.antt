@@ -3,11 +3,9 @@ use mathlib.Core.Path.{sym, ap, ◌∙◌}
 use Rattle.refusals.specs.declared.Verdict.{Verdict}
 use Rattle.model.specs.Lists.{lists}
 use Rattle.fields.specs.Fields.{lines_of}
-use Rattle.filling.proofs.Filled.{answer-if}
-use Rattle.reading.specs.ModelRead.{model_read}
-use Rattle.reading.specs.Reading.{readable, read_verdict}
+use Rattle.reading.specs.Reading.{readable}
 use Rattle.reading.proofs.Verdicts.{arc-slice}
-use Rattle.reading.proofs.Through.{read-accepted, may-fill, lists-accepted}
+use Rattle.reading.proofs.Through.{read-accepted, may-fill}
 use Rattle.reading.proofs.read.Goals as goal
 
 pub fill-requires : goal.fill-requires
