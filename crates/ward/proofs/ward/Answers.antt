@@ -1,11 +1,10 @@
 -- `ward` meets its contract: each turn of the loop is one of `turn-filled` and `turn-answered`, and at its end all that are to be judged are judged.
 -- Assumes nothing.
-use mathlib.Core.Path.{◌≡◌, ◌∙◌, ap}
+use mathlib.Core.Path.{◌≡◌}
 use Prim.Native.Nat.{◌≤◌, ◌<◌}
 use native.Mathlib.Omega.{arith}
 use lib.ListN.{length}
 use Rattle.model.specs.Lists.{lists}
-use Rattle.ward.specs.declared.Checked.{Checked}
 use Rattle.ward.specs.Ward.{verdict_of, ward_fitness}
 use Rattle.ward.proofs.SoFar.{count-within, turn-filled, turn-answered, answered-at, filled-at}
 use Rattle.ward.proofs.ward.Goals as goal
