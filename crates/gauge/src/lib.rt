@@ -126,6 +126,7 @@ fn step_on(gauge: Gauge, model: Model, b: u16, arc: u32) -> Gauged
 }
 
 // Refusal 22: whether the gauge was started with another number of modes, another number of arcs or another bound.
+#[tactic(auto, unfolding(crate::specs::Gauge::mixed_up))]
 fn mixed_up(gauge: Gauge, modes: u8, arcs: u8, b: u16) -> bool
     ensures { result ≡ mixed_up modes arcs b gauge }
 {

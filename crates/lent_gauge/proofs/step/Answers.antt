@@ -1,5 +1,5 @@
 -- `lent_gauge::step` meets its contract: the answer and the gauge are those of the step by value. Assumes nothing.
-use mathlib.Core.Path.{◌≡◌, ap, ◌∙◌, sym}
+use mathlib.Core.Path.{◌≡◌, ap, ◌∙◌}
 use Prim.Native.Nat.{ℕ}
 use Rattle.refusals.specs.declared.Answer.{Answer}
 use Rattle.model.specs.Lists.{Lists, lists}

@@ -1,6 +1,5 @@
 -- `planwalk::step_until` meets its contract: the loop keeps `Stepping`, and its two ways out are the two answers. Assumes nothing.
 use mathlib.Core.Path.{sym, ◌∙◌}
-use Prim.Native.Nat.{◌-◌}
 use native.Mathlib.Omega.{arith}
 use Rattle.planwalk.proofs.Walking.{stepping-none, stepping-done, stepping-met, stepping-on}
 use Rattle.planwalk.proofs.step_until.Goals as goal
