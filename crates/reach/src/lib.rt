@@ -1,5 +1,6 @@
 // The table of greatest charges, by value (document 02, Ask 9): made afresh, and with an arc switched. It carries the switches that it was made for.
 #![tactic(auto)]
+
 ghost use Rattle.std.specs.Prelude.{◌≡◌, ℕ, ◌+◌, ◌≤◌, leb, get_or};
 ghost use Rattle.limits.specs.Ceilings.{modes_most, bound_most};
 ghost use Rattle.refusals.specs.Refusals.{refuse, and_then};

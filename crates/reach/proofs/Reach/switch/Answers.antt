@@ -1,0 +1,20 @@
+-- `Reach::switch` meets its contract. Assumes nothing.
+use mathlib.Core.Path.{ap, ◌∙◌}
+use Rattle.refusals.specs.Refusals.{and_then}
+use Rattle.model.specs.Lists.{lists}
+use Rattle.reach.proofs.Calls.{tabled, switch-told}
+use Rattle.reach.proofs.Reach.switch.Goals as goal
+
+pub turn_known-requires : goal.turn_known-requires
+turn_known-requires c =
+    let a = c.args in
+    let l = lists a.sources.now a.targets.now a.draws.now a.gains.now a.colours.now a.actions.now in
+    tabled a.n a.start a.k l a.b a.c c.check_model-fitted.ensures
+    (c.and_then-verdict.ensures ∙ ap (and_then c.check_model-fitted.result.verdict) c.check_levels-levels.ensures)
+
+pub returns : goal.returns
+returns c =
+    let a = c.args in
+    let l = lists a.sources.now a.targets.now a.draws.now a.gains.now a.colours.now a.actions.now in
+    switch-told a.n a.start a.k l a.b a.c c.check_model-fitted.ensures
+    (c.and_then-verdict.ensures ∙ ap (and_then c.check_model-fitted.result.verdict) c.check_levels-levels.ensures) c.turn_known.ensures
