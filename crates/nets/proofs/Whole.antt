@@ -1,7 +1,7 @@
 -- The net of a whole model stands for the model: its accepted feasible lassos are the feasible and accepted plans of arcs that are on, with the
 -- same prefix and cycle. So the criterion and the decision hold of plans, in the words of document 01. Assumes nothing.
 use mathlib.Core.Path.{◌≡◌, refl, sym, ap, subst, ◌∙◌}
-use mathlib.Core.Bool.{Bool, true, false, true≢false, not, ◌&&◌, and-eq-true_iff}
+use mathlib.Core.Bool.{Bool, true, false, true≢false, not, and-eq-true_iff}
 use mathlib.Core.List.{List, [], ◌∷◌, ◌++◌}
 use mathlib.Core.Logic.{◌↔◌, inl, inr}
 use Prim.Native.Nat.{ℕ, ◌≤◌, ◌<◌}
@@ -29,7 +29,7 @@ use Rattle.nets.specs.Whole.{graph_of, whole, lasso_plan}
 use Rattle.nets.proofs.Leads.{leads-weaken}
 use Rattle.nets.proofs.Criterion.{reached-lasso, criterion}
 use Rattle.nets.proofs.Decides.{decides}
-use Rattle.nets.proofs.GraphOf.{leads-graph, possible-graph}
+use Rattle.nets.proofs.GraphOf.{possible-graph}
 
 -- a model that is fit gives a net that fits
 pub whole-fits : (g : Automaton) (x : ℕ) (on : List ℕ) → Fit g → Fits (whole g x on)

@@ -1,6 +1,6 @@
 -- The rows and groups of a value stand for the model that it holds: the net read from the rows is the net of the model. Assumes nothing.
 use mathlib.Core.Path.{◌≡◌, sym, ap, subst, fun_ext, ◌∙◌}
-use mathlib.Core.Bool.{Bool, true, false, not, ◌&&◌}
+use mathlib.Core.Bool.{Bool, false, not, ◌&&◌}
 use mathlib.Core.List.{List, [], ◌∷◌}
 use Prim.Native.Nat.{ℕ, ◌+◌, ◌*◌, ◌/◌, ◌%◌, ◌^◌, ◌<◌}
 use native.Mathlib.Omega.{arith}
@@ -25,8 +25,7 @@ use Rattle.switches.specs.Switches.{is_on}
 use Rattle.nets.specs.Net.{Net, Fits}
 use Rattle.nets.specs.Whole.{whole}
 use Rattle.nets.proofs.Whole.{whole-fits}
-use Rattle.groups.specs.declared.Groups.{Groups}
-use Rattle.groups.specs.Groups.{places_of, groups_of}
+use Rattle.groups.specs.Groups.{places_of}
 use Rattle.groups.specs.Rows.{row_words, barred_in, colour_word, row_of, rows_of, arc_in, source_at, target_at, draw_at, gain_at, colours_at, barred_at, on_at}
 use Rattle.groups.specs.Grouped.{arc_count, Grouped}
 use Rattle.groups.proofs.Rows.{row_at, row-none}

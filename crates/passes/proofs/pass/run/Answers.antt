@@ -1,6 +1,5 @@
 -- `pass::run` meets its contract: at every turn the entries below head are treated. Assumes nothing.
 use mathlib.Core.Path.{refl, ap, ◌∙◌}
-use Prim.Native.Nat.{◌-◌}
 use native.Mathlib.Omega.{arith}
 use Rattle.passes.specs.Pass.{room}
 use Rattle.passes.specs.Tasks.{pass_of}

@@ -1,7 +1,7 @@
 -- `pass::visit` meets its contract: at every turn the places of the entry's mode below i are tried; an entry whose charge is not the greatest
 -- of its node asks nothing. Assumes nothing.
 use mathlib.Core.Path.{◌≡◌, refl, ap, ◌∙◌}
-use Prim.Native.Nat.{ℕ, ◌+◌, ◌-◌, ◌%◌}
+use Prim.Native.Nat.{ℕ, ◌+◌, ◌%◌}
 use native.Mathlib.Omega.{arith}
 use Rattle.groups.specs.Grouped.{first_place}
 use Rattle.passes.specs.Queue.{node_at}
