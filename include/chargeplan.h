@@ -3,7 +3,7 @@
  * the least bound with which there is one, reading its model from texts, joining it with the habit of its wearer, judging one plan for a
  * ward of wearers, and switching its moves off and on again, from C99 or C++ on Linux for 64-bit x86 (System V calls).
  *
- * Link with target/staticlib/libdesk.a, which `rt staticlib desk` writes once the code is proved. There is no set-up, no
+ * Link with crates/desk/out/libdesk.a, which `rt lib`, called in crates/desk, writes once the code is proved. There is no set-up, no
  * state between calls and no heap: calls on different buffers may run at the same time, and no input traps or hangs a call.
  *
  * THE MODEL. n modes, numbered from 0; a start mode; k colours (duties), numbered from 0; and arcs (moves), numbered from 0 in
