@@ -6,6 +6,7 @@
 // over a single level, none where the prefix is empty; for the cycle one from the mode with its peak, over the arcs without a barred colour and the
 // levels 0 to r, of r required colours, which comes back in the last level.
 #![tactic(auto)]
+
 ghost use Rattle.std.specs.Prelude.{◌≡◌, ◌≤◌, ◌↔◌, length};
 ghost use Rattle.limits.specs.Ceilings.{modes_most, colours_most, bound_most};
 ghost use Rattle.model.specs.Lists.{lists, held};

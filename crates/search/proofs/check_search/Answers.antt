@@ -1,7 +1,6 @@
 -- `search::check_search` meets its contract: the refusal of fitness, else what 6 to 9 say. Assumes nothing.
 use mathlib.Core.Path.{◌≡◌, ap, ◌∙◌}
 use Prim.Native.Nat.{ℕ, ◌≤◌}
-use borrow.Author.Rules.{rules}
 use Rattle.limits.specs.Ceilings.{modes_most, colours_most}
 use Rattle.refusals.specs.declared.Refusal.{Refusal}
 use Rattle.refusals.specs.declared.Verdict.{Verdict}
@@ -14,8 +13,7 @@ use Rattle.model.proofs.Fitness.{fitness-yes}
 use Rattle.model.proofs.Held.{told-verdict}
 use Rattle.search.specs.Search.{levels_and_spaces, searchable}
 use Rattle.search.specs.Tasks.{checked_of}
-use Rattle.search.proofs.check_search.Statement.{statement}
-use Rattle.search.proofs.check_search.Tie as tie
+use Rattle.search.proofs.check_search.Goals as goal
 
 -- y: what check_model answers
 module _ (n s k : ℕ) (l : Lists) (y : Fitted) (told : y ≡ fitted_of n s k l) where
@@ -46,52 +44,18 @@ module _ (n s k : ℕ) (l : Lists) (y : Fitted) (told : y ≡ fitted_of n s k l)
       told-checked b c words bytes (Refused x)
       (and-then-stop (fitness n s k l) (levels_and_spaces n k b c words bytes) x (told-verdict n s k l y told (Refused x) e))
 
--- from the model's check to the beginning, and the lists
-abbrev start : tie.After-check-model → tie.Start
-start r = r.before.before.before.before.before.before.before
+pub check_levels_and_spaces-verdict-requires : goal.check_levels_and_spaces-verdict-requires
+check_levels_and_spaces-verdict-requires c =
+    let a = c.args in
+    few a.n a.start a.k (lists c.args.sources.now c.args.targets.now c.args.draws.now c.args.gains.now c.args.colours.now c.args.actions.now) _ c.check_model-fitted.ensures c.in-Yes.is
 
-abbrev lists_of : tie.Start → Lists
-lists_of s =
-    lists s.args.sources.now s.args.targets.now s.args.draws.now s.args.gains.now s.args.colours.now
-    s.args.actions.now
+pub returns-in-Yes : goal.returns-in-Yes
+returns-in-Yes c =
+    let a = c.args in
+    fits a.n a.start a.k (lists c.args.sources.now c.args.targets.now c.args.draws.now c.args.gains.now c.args.colours.now c.args.actions.now) _ c.check_model-fitted.ensures c.in-Yes.is a.b a.c a.words a.bytes _
+    c.check_levels_and_spaces-verdict.ensures
 
-check-model-requires : tie.Need-check-model-requires
-check-model-requires c κs = search rules
-
-enum_told : tie.Need-enum-told
-enum_told c = search rules
-
-check-levels-and-spaces-requires : tie.Need-check-levels-and-spaces-requires
-check-levels-and-spaces-requires c κs =
-    let r = c.before.before.before in
-    let a = (start r).args in
-    few a.n a.start a.k (lists_of (start r)) _ r.check-model.ensures c.enum_told.given.1
-
-enum-known-verdict : tie.Need-enum-known-verdict
-enum-known-verdict c = search rules
-
-returns : tie.Need-returns
-returns c =
-    let r = c.before.before.before.before in
-    let a = (start r).args in
-    let l = lists_of (start r) in
-    fits a.n a.start a.k l _ r.check-model.ensures c.before.enum_told.given.1 a.b a.c a.words a.bytes _
-    c.check-levels-and-spaces.ensures
-
-returns-2 : tie.Need-returns-2
-returns-2 c =
-    let r = c.before.before.before.before in
-    let a = (start r).args in
-    let l = lists_of (start r) in
-    stopped a.n a.start a.k l _ r.check-model.ensures _ c.before.verdict.given.1 a.b a.c a.words a.bytes
-
-pub check-search-spec : {M : Type 1} → statement M
-check-search-spec =
-    tie.close
-    (tie.spec
-    check-model-requires
-    enum_told
-    check-levels-and-spaces-requires
-    enum-known-verdict
-    returns
-    returns-2)
+pub returns-in-Refused : goal.returns-in-Refused
+returns-in-Refused c =
+    let a = c.args in
+    stopped a.n a.start a.k (lists c.args.sources.now c.args.targets.now c.args.draws.now c.args.gains.now c.args.colours.now c.args.actions.now) _ c.check_model-fitted.ensures _ c.in-Refused.is a.b a.c a.words a.bytes

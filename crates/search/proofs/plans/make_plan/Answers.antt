@@ -1,0 +1,77 @@
+-- `plans::make_plan` meets its contract: where no peak is kept there is no plan, and else the prefix to the first peak that is kept, and the
+-- cycle behind it, are one. Assumes nothing.
+use mathlib.Core.Path.{refl}
+use native.Mathlib.Omega.{arith}
+use Rattle.passes.specs.Tasks.{task_net}
+use Rattle.search.specs.Tasks.{none}
+use Rattle.search.proofs.Spaces.{plan-held, buffer-short, prefix-held, cycle-held}
+use Rattle.search.proofs.Tasks.{searchable-kept}
+use Rattle.search.proofs.Written.{plan-found, lasso-answered}
+use Rattle.search.proofs.Peaks.{no_plan_iff, first-peak}
+use Rattle.search.proofs.plans.make_plan.Goals as goal
+
+pub returns-then-not-find_kept : goal.returns-then-not-find_kept
+returns-then-not-find_kept c =
+    let no = no_plan_iff c.requires.searchable c.question_of-question.ensures c.find_kept.auto.set c.find_kept.ensures c.if-not-find_kept.true in
+    record { no_plan = (λ e. no, λ e. refl); answered = none refl }
+
+pub write_prefix-p-requires : goal.write_prefix-p-requires
+write_prefix-p-requires c =
+    let t = c.args.task in
+    let kept = first-peak c.requires.searchable c.question_of-question.ensures c.find_kept.auto.set c.find_kept.ensures c.if-not-find_kept.false c.first_kept-mode.ensures in
+    record {
+      searchable = c.requires.searchable;
+      peak = kept.peak;
+      bound_in_bounds = prefix-held t.duties t.modes t.bound _ c.requires.bound_in_bounds;
+    }
+
+pub slice_bounds-write_cycle-count : goal.slice_bounds-write_cycle-count
+slice_bounds-write_cycle-count c =
+    let t = c.args.task in
+    let p = c.write_prefix-p in
+    omega (arith, p.ensures.few, p.auto.plan, prefix-held t.duties t.modes t.bound _ c.requires.bound_in_bounds)
+
+pub slice_bounds-write_cycle-start : goal.slice_bounds-write_cycle-start
+slice_bounds-write_cycle-start c =
+    let t = c.args.task in
+    let p = c.write_prefix-p in
+    omega (arith, p.ensures.few, p.auto.plan, prefix-held t.duties t.modes t.bound _ c.requires.bound_in_bounds)
+
+pub write_cycle-q-requires : goal.write_cycle-q-requires
+write_cycle-q-requires c =
+    let kept = first-peak c.requires.searchable c.question_of-question.ensures c.find_kept.auto.set c.find_kept.ensures c.if-not-find_kept.false c.first_kept-mode.ensures in
+    let t = c.args.task in
+    let p = c.write_prefix-p in
+    record {
+      searchable = searchable-kept c.requires.searchable p.auto.work;
+      mode_lt_modes = (kept.peak.mode, kept.low, kept.cycle);
+      bound_in_bounds =
+          cycle-held t.duties t.modes t.bound p.result p.new.plan p.ensures.few
+          (omega (arith, p.auto.plan, c.requires.bound_in_bounds));
+    }
+
+pub overflow_cast-prefix : goal.overflow_cast-prefix
+overflow_cast-prefix c =
+    let t = c.args.task in
+    let able = c.requires.searchable in
+    let short = buffer-short t.duties t.modes t.bound able.few_duties able.product in
+    omega (arith, short, prefix-held t.duties t.modes t.bound _ short, c.write_prefix-p.ensures.few)
+
+pub overflow_cast-cycle : goal.overflow_cast-cycle
+overflow_cast-cycle c =
+    let t = c.args.task in
+    let able = c.requires.searchable in
+    let p = c.write_prefix-p in
+    let q = c.write_cycle-q in
+    let held = plan-held t.duties t.modes t.bound p.result q.result p.ensures.few q.ensures.few in
+    omega (arith, held, buffer-short t.duties t.modes t.bound able.few_duties able.product)
+
+pub returns : goal.returns
+returns c =
+    let able = c.requires.searchable in
+    let p = c.write_prefix-p in
+    let q = c.write_cycle-q in
+    let told = lasso-answered
+    (plan-found {g = task_net c.args.rows.now c.args.places.now c.args.task} able.few_duties able.product
+    c.requires.bound_in_bounds p.ensures p.auto.plan q.ensures q.auto.part) in
+    record { no_plan = told.0; answered = told.1 }
