@@ -1,9 +1,8 @@
 -- What the inner functions answer is what the calls promise, by the numbers and lists of the call. Assumes nothing.
 use mathlib.Core.Path.{◌≡◌, refl, sym, ap, subst, ◌∙◌}
-use mathlib.Core.Bool.{Bool, true, false, true≢false, false≢true}
+use mathlib.Core.Bool.{Bool}
 use mathlib.Core.List.{List}
 use Prim.Native.Nat.{ℕ, ◌≤◌, ◌<◌}
-use native.Mathlib.Omega.{arith}
 use lib.Dec.{leb}
 use lib.ListN.{length}
 use borrow.Author.Tests.{le-leb, lt-leb}
@@ -20,7 +19,7 @@ use Rattle.model.specs.Fitness.{fitness, levels_of, fitted_of}
 use Rattle.model.proofs.Arcs.{arcs-length}
 use Rattle.model.proofs.Fitness.{levels-yes, fitted-verdict}
 use Rattle.model.proofs.Held.{told-holds, told-held}
-use Rattle.switches.specs.Switches.{is_on, switched}
+use Rattle.switches.specs.Switches.{switched}
 use Rattle.reach.specs.declared.Reach.{Reach}
 use Rattle.reach.specs.declared.Reached.{Reached}
 use Rattle.reach.specs.Table.{IsTable}

@@ -9,7 +9,7 @@ use lib.ListN.{length, get_or, get_or-replicate}
 use borrow.Author.Tests.{le-leb, lt-leb, leb-false}
 use Rattle.limits.specs.Ceilings.{modes_most, bound_most}
 use Rattle.refusals.specs.declared.Refusal.{Refusal}
-use Rattle.refusals.specs.declared.Refusal.TheVariants.{Levels, ArcNumber}
+use Rattle.refusals.specs.declared.Refusal.TheVariants.{ArcNumber}
 use Rattle.refusals.specs.declared.Verdict.{Verdict}
 use Rattle.refusals.specs.declared.Verdict.TheVariants.{Yes, Refused}
 use Rattle.refusals.specs.Refusals.{refuse, and_then}

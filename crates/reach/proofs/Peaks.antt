@@ -4,7 +4,7 @@ use mathlib.Core.List.{List, ◌++◌}
 use Prim.Native.Nat.{ℕ, ◌+◌, ◌-◌, ◌≤◌, ◌<◌}
 use native.Mathlib.Decide.{dec_lt}
 use native.Mathlib.Omega.{arith}
-use lib.ListN.{length, get_or, take, drop, replicate, length-append, length-drop, get_or-append, get_or-eq_default}
+use lib.ListN.{length, get_or, take, drop, replicate, get_or-append}
 use lib.Seq.{length-take-le, get_or-append-add, get_or-drop}
 use Rattle.limits.specs.Ceilings.{modes_most, bound_most}
 use Rattle.model.specs.declared.Model.{Model}

@@ -5,10 +5,8 @@ use mathlib.Core.Bool.{Bool, true, false, not, true≢false, false≢true}
 use mathlib.Core.List.{List}
 use Prim.Native.Nat.{ℕ, ◌/◌, ◌<◌}
 use lib.ListN.{length}
-use Rattle.refusals.specs.declared.Refusal.{Refusal}
 use Rattle.refusals.specs.declared.Verdict.{Verdict}
 use Rattle.refusals.specs.declared.Verdict.TheVariants.{Yes, Refused}
-use Rattle.refusals.specs.Refusals.{and_then}
 use Rattle.refusals.proofs.Verdicts.{clash, and-then-yes}
 use Rattle.model.specs.Automaton.{Automaton}
 use Rattle.model.specs.Lists.{Lists, automaton_of}
@@ -17,7 +15,7 @@ use Rattle.switches.proofs.Switched.{switched-same, switched-back}
 use Rattle.reach.specs.declared.Reach.{Reach}
 use Rattle.reach.specs.declared.Reached.{Reached}
 use Rattle.reach.specs.Table.{IsTable}
-use Rattle.reach.specs.Reach.{levelled, switchable, all_unreached, FreshTable, StartOf, SwitchedTable, SwitchOf, Switchings, none, more}
+use Rattle.reach.specs.Reach.{levelled, switchable, FreshTable, StartOf, SwitchOf, Switchings, none, more}
 use Rattle.reach.proofs.Unique.{table-one}
 
 -- tables with the same switches and charges

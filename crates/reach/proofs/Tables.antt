@@ -1,17 +1,16 @@
 -- The peaks of the net of a model, in words, are the table of greatest charges. Assumes nothing.
-use mathlib.Core.Path.{◌≡◌, refl, sym, ap, subst, ◌∙◌}
+use mathlib.Core.Path.{◌≡◌, sym, ap, subst, ◌∙◌}
 use mathlib.Core.List.{List}
 use mathlib.Core.Logic.{◌↔◌}
 use Prim.Native.Nat.{ℕ, zero, suc, ◌≤◌, ◌<◌}
 use native.Mathlib.Decide.{dec_lt}
 use native.Mathlib.Omega.{arith}
-use lib.ListN.{length, get_or}
+use lib.ListN.{get_or}
 use Rattle.limits.specs.Ceilings.{modes_most}
 use Rattle.walks.specs.Walk.{Ends}
 use Rattle.walks.proofs.Walks.{walked-moves, walked_to}
 use Rattle.model.specs.Automaton.{Automaton, moves_of}
 use Rattle.model.specs.Fitness.{Fit}
-use Rattle.switches.specs.PlansOn.{AllOn}
 use Rattle.nets.specs.Net.{Usable}
 use Rattle.nets.specs.Table as nets
 use Rattle.nets.specs.Table.{Peaks}
@@ -20,7 +19,7 @@ use Rattle.nets.proofs.Leads.{leads-bound}
 use Rattle.nets.proofs.Levels.{level-bound}
 use Rattle.nets.proofs.Tables.{reached-below}
 use Rattle.nets.proofs.Whole.{whole-fits, whole-usable}
-use Rattle.reach.specs.Table.{Reachable, unreached, Greatest, charge, none, IsTable}
+use Rattle.reach.specs.Table.{Reachable, Greatest, charge, none, IsTable}
 use Rattle.reach.specs.Words.{charge_of, Charged}
 
 module _ (g : Automaton) (x : ℕ) (on : List ℕ) (b c : ℕ) where

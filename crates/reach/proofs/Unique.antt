@@ -1,6 +1,5 @@
 -- There is one table of greatest charges, what its words say, and which switches matter for it. Assumes nothing.
 use mathlib.Core.Path.{◌≡◌, refl, sym, ◌∙◌}
-use mathlib.Core.Bool.{true}
 use mathlib.Core.List.{List, []}
 use mathlib.Core.Logic.{◌↔◌}
 use Prim.Native.Nat.{ℕ, ◌≤◌, ◌<◌}
@@ -8,12 +7,11 @@ use native.Mathlib.Omega.{arith}
 use lib.ListN.{length, get_or}
 use lib.Seq.{ext_get_or}
 use Rattle.limits.specs.Ceilings.{modes_most, bound_most}
-use Rattle.walks.specs.Walk.{Ends, walked}
-use Rattle.walks.specs.Moves.{charge}
+use Rattle.walks.specs.Walk.{walked}
 use Rattle.walks.proofs.Charges.{charge-bound}
 use Rattle.walks.proofs.Walks.{walked_to}
 use Rattle.model.specs.Automaton.{Automaton, moves_of}
-use Rattle.switches.specs.Switches.{is_on, SameBelow}
+use Rattle.switches.specs.Switches.{SameBelow}
 use Rattle.switches.proofs.PlansOn.{MoreOn, leads-more}
 use Rattle.reach.specs.Table as table
 use Rattle.reach.specs.Table.{Reachable, unreached, Greatest, none, IsTable}
