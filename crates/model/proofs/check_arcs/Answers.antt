@@ -1,6 +1,5 @@
 -- `model::check_arcs` meets its contract: the loop keeps `Copying`, and its two ways out are its two ends. Assumes nothing.
 use mathlib.Core.Path.{refl, sym, ◌∙◌}
-use Prim.Native.Nat.{◌-◌}
 use native.Mathlib.Omega.{arith}
 use Rattle.model.specs.Lists.{lists}
 use Rattle.model.proofs.Arcs.{copying-none, copying-more, copying-unfit, copying-done, fitted-refused, fitted-yes}
