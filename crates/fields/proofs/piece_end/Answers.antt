@@ -1,5 +1,4 @@
 -- `fields::piece_end` meets its contract: the piece is as long as from each place on the way. Assumes nothing.
-use Prim.Native.Nat.{◌-◌}
 use native.Mathlib.Omega.{arith}
 use Rattle.fields.proofs.Heads.{piece-end, piece-here, piece-later}
 use Rattle.fields.proofs.piece_end.Goals as goal
