@@ -1,6 +1,7 @@
 // Whether a plan exists, without the plan (document 02, Ask 12): for bounds up to 1,000,000, at a cost that does not depend on the bound. Refusals 1 to
 // 6, 8 and 10.
 #![tactic(auto)]
+
 ghost use Rattle.std.specs.Prelude.{◌≡◌, true, ◌↔◌, length};
 ghost use Rattle.model.specs.Lists.{lists, held};
 ghost use Rattle.switches.specs.PlansOn.{SomePlanOn};

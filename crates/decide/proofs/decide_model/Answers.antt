@@ -1,0 +1,15 @@
+-- `decide_model` meets its contract: the rows and groups stand for the model. Assumes nothing.
+use Rattle.decide.proofs.Standing.{part-lent, answerable-decidable, answered}
+use Rattle.decide.proofs.decide_model.Goals as goal
+
+pub find_kept-requires : goal.find_kept-requires
+find_kept-requires c =
+    let a = c.args in
+    answerable-decidable a.barred a.on c.requires c.group-groups.ensures c.count_required-required.ensures _
+    (part-lent a.work.now c.requires)
+
+pub returns : goal.returns
+returns c =
+    let a = c.args in
+    answered a.barred a.on c.requires c.group-groups.ensures c.count_required-required.ensures _
+    (part-lent a.work.now c.requires) c.find_kept.ensures
