@@ -119,7 +119,7 @@
  * where the model is fit. The join looks at each pair of arcs twice, 65,025 pairs at most, in some 80 us. The ward takes as long as judging
  * for each wearer does: with 255 arcs and a plan of 64 some 1 us each, 0.7 of them for the lists. The time of a fresh reach, and of a
  * switching that changes a switch, does not grow with b: 4 to 11 us with 64 modes and 255 arcs, on 21,300 bytes of stack. docs/C-API.md
- * says how this was counted and measured.
+ * says how this was counted and measured, of the library as an older toolchain built it.
  */
 #ifndef CHARGEPLAN_H
 #define CHARGEPLAN_H
