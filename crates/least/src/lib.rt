@@ -2,6 +2,7 @@
 // one from a given credit. By halving: each try is the decision without a plan (crate deciding), whose cost does not depend on the bound, over rows and groups
 // that are made once. Refusals 1 to 8 and 10.
 #![tactic(auto)]
+
 ghost use Rattle.std.specs.Prelude.{◌≡◌, true, ◌↔◌};
 ghost use Rattle.model.specs.Lists.{lists, held};
 ghost use Rattle.deciding.specs.Deciding.{Decidable};
