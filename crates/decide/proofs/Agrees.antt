@@ -10,7 +10,7 @@ use Rattle.refusals.specs.declared.Refusal.TheVariants.{NoPlan}
 use Rattle.refusals.specs.declared.Answer.{Answer}
 use Rattle.refusals.specs.declared.Verdict.{Verdict}
 use Rattle.refusals.specs.declared.Verdict.TheVariants.{Yes, Refused}
-use Rattle.refusals.specs.Refusals.{answer, answer_of}
+use Rattle.refusals.specs.Refusals.{answer_of}
 use Rattle.model.specs.Lists.{Lists}
 use Rattle.search.specs.declared.Searched.{Searched}
 use Rattle.search.specs.Search.{no_plan, search_answer, searchable, SearchOf}

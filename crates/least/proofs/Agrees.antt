@@ -21,7 +21,7 @@ use Rattle.least.specs.declared.Sought.{Sought}
 use Rattle.least.specs.declared.Sought.TheVariants.{Credit, Bound}
 use Rattle.least.specs.declared.LeastFound.{LeastFound}
 use Rattle.least.specs.declared.LeastFound.TheVariants as least
-use Rattle.least.specs.Least.{bound_at, credit_at, Allowed, HasPlan, largest_tried, seekable, LeastOf}
+use Rattle.least.specs.Least.{bound_at, credit_at, Allowed, HasPlan, seekable, LeastOf}
 use Rattle.least.proofs.Levels.{factor-low, largest-bound}
 use Rattle.least.proofs.Seekable.{seekable-yes}
 use Rattle.least.proofs.Claims.{least-serves}

@@ -2,7 +2,7 @@
 -- Assumes nothing.
 use mathlib.Core.Path.{◌≡◌, refl, sym, ap, subst, ◌∙◌}
 use mathlib.Core.List.{List}
-use mathlib.Core.Logic.{◌↔◌, ◌⊎◌, inl, inr, ⊎_elim}
+use mathlib.Core.Logic.{◌↔◌, inl, inr, ⊎_elim}
 use Prim.Native.Nat.{ℕ, ◌+◌, ◌*◌, ◌≤◌, ◌<◌}
 use native.Mathlib.Omega.{arith}
 use native.Mathlib.Decide.{dec_lt}
@@ -10,23 +10,21 @@ use lib.ListN.{length, replicate}
 use Rattle.limits.specs.Ceilings.{bound_most, product_most}
 use Rattle.refusals.specs.declared.Answer.{Answer}
 use Rattle.refusals.specs.declared.Refusal.{Refusal}
-use Rattle.refusals.specs.declared.Refusal.TheVariants.{NoPlan}
 use Rattle.refusals.specs.declared.Verdict.{Verdict}
 use Rattle.refusals.specs.declared.Verdict.TheVariants.{Yes, Refused}
 use Rattle.refusals.specs.Refusals.{answer, numbered}
 use Rattle.refusals.proofs.Verdicts.{clash}
-use Rattle.model.specs.Automaton.{Automaton, bit}
+use Rattle.model.specs.Automaton.{bit}
 use Rattle.model.specs.Lists.{Lists, automaton_of}
 use Rattle.model.specs.Plans.{SomePlan}
 use Rattle.switches.specs.Switches.{SameBelow, AllBelow}
-use Rattle.switches.specs.PlansOn.{SomePlanOn}
 use Rattle.switches.proofs.PlansOn.{some-plan-all-on, some-plan-ignored, some-plan-barred}
 use Rattle.least.specs.declared.Sought.{Sought}
 use Rattle.least.specs.declared.Sought.TheVariants.{Credit, Bound}
 use Rattle.least.specs.declared.LeastFound.{LeastFound}
 use Rattle.least.specs.declared.LeastFound.TheVariants as found
 use Rattle.least.specs.declared.LeastAnswer.{LeastAnswer}
-use Rattle.least.specs.Least.{bound_at, credit_at, Allowed, HasPlan, Least, NoneServes, least_answer, LeastClaim, LeastOf, seekable}
+use Rattle.least.specs.Least.{bound_at, credit_at, Allowed, Least, NoneServes, least_answer, LeastClaim, LeastOf, seekable}
 use Rattle.least.specs.Within.{Answered, value, none}
 use Rattle.least.proofs.Halving.{least-alike, none_alike}
 use Rattle.least.proofs.Levels.{factor-low}

@@ -1,8 +1,8 @@
 -- The rows and groups of a value stand for the model that it holds: what halving asks and answers, in the words of the model. Assumes nothing.
-use mathlib.Core.Path.{◌≡◌, refl, sym, subst}
+use mathlib.Core.Path.{◌≡◌, refl}
 use mathlib.Core.List.{List}
 use mathlib.Core.Logic.{◌↔◌}
-use Prim.Native.Nat.{ℕ, ◌≤◌, ◌<◌}
+use Prim.Native.Nat.{ℕ, ◌≤◌}
 use native.Mathlib.Omega.{arith}
 use Rattle.limits.specs.Ceilings.{decide_space}
 use Rattle.model.specs.declared.Model.{Model}

@@ -1,6 +1,6 @@
 -- What the inner functions are given and answer: the checks by what 1 to 5 say of a model, and, once none of 1 to 8 applies, halving over the rows and groups of
 -- the model. No public promise rests on these words.
-use Rattle.std.specs.Prelude.{ℕ, ◌+◌, ◌*◌, ◌≤◌, ◌<◌, ◌≡◌, List}
+use Rattle.std.specs.Prelude.{ℕ, ◌+◌, ◌*◌, ◌≤◌, ◌≡◌, List}
 use Rattle.limits.specs.Ceilings.{product_most}
 use Rattle.refusals.specs.declared.Refusal.TheVariants.{NoPlan}
 use Rattle.refusals.specs.declared.Verdict.{Verdict}

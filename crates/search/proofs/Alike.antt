@@ -1,5 +1,4 @@
 -- What search promises of a call it promises of every call for which the same plans serve, buffers counted. Assumes nothing.
-use mathlib.Core.Path.{◌≡◌}
 use mathlib.Core.List.{List}
 use mathlib.Core.Logic.{◌↔◌}
 use Prim.Native.Nat.{ℕ}

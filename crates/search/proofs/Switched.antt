@@ -1,16 +1,16 @@
 -- Document 02, Ask 9, from what search promises of every call: a plan has arcs that are on alone, with every arc on search answers what it answered
 -- without switches, and bits at or above m change nothing. Assumes nothing.
 use mathlib.Core.Path.{◌≡◌, subst}
-use mathlib.Core.List.{List, ◌++◌}
+use mathlib.Core.List.{List}
 use mathlib.Core.Logic.{◌↔◌}
-use Prim.Native.Nat.{ℕ, ◌+◌, ◌≤◌, ◌<◌}
-use lib.ListN.{length, get_or, take, drop, take-append-drop}
+use Prim.Native.Nat.{ℕ, ◌+◌}
+use lib.ListN.{length, take, drop, take-append-drop}
 use Rattle.refusals.specs.declared.Verdict.TheVariants.{Yes}
 use Rattle.model.specs.Automaton.{Automaton}
 use Rattle.model.specs.Lists.{Lists, automaton_of}
 use Rattle.model.specs.Plans.{Serves, SomePlan}
 use Rattle.switches.specs.Switches.{SameBelow, AllBelow}
-use Rattle.switches.specs.PlansOn.{AllOn, SomePlanOn}
+use Rattle.switches.specs.PlansOn.{AllOn}
 use Rattle.switches.proofs.PlansOn.{all-on-append, some-plan-all-on, serves-on-ignored}
 use Rattle.judge.specs.Shape.{plan_of}
 use Rattle.search.specs.declared.Searched.{Searched}
