@@ -1,0 +1,6 @@
+-- `chargeplan_judge` meets its contract: the verdict of judging, packed. Assumes nothing.
+use Rattle.packing.proofs.Sizes.{judge-fields}
+use Rattle.desk.proofs.chargeplan_judge.Goals as goal
+
+pub pack_alone-requires : goal.pack_alone-requires
+pack_alone-requires c = rw (c.answer.ensures, c.judge-verdict.ensures.verdict) (judge-fields _ _ _ _ _ _ _ _ _ _)

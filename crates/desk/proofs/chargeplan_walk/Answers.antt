@@ -1,0 +1,9 @@
+-- `chargeplan_walk` meets its contract: what the walk answers, packed. Assumes nothing.
+use Rattle.std.proofs.Common.{arith}
+use Rattle.packing.proofs.Sizes.{bit-met, walk-fields}
+use Rattle.desk.proofs.chargeplan_walk.Goals as goal
+
+pub pack-requires : goal.pack-requires
+pack-requires c =
+    rw (bit-met c.answer-told.result.met, c.answer-told.ensures, c.walk-walked.ensures.walked)
+    (walk-fields _ _ _ _ _ _ _ _ _ _ _ _ (omega (arith, c.ranges.allowance)))
