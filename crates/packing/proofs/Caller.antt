@@ -44,7 +44,7 @@ use Rattle.least.proofs.Agrees.{least-search-ten}
 use Rattle.reach.specs.declared.Reach.{Reach}
 use Rattle.reach.specs.Table.{IsTable}
 use Rattle.reach.specs.Reach.{levelled, switchable, all_unreached, StartOf, SwitchOf}
-use Rattle.packing.specs.Packing.{verdict_word, least_word, number_in, detail_in, first_in, second_in, value_in}
+use Rattle.packing.specs.Packing.{verdict_word, number_in, detail_in, first_in, second_in, value_in}
 use Rattle.reading.specs.ModelRead.{model_read}
 use Rattle.reading.specs.Reading.{read_verdict, lists_read}
 use Rattle.reading.proofs.ListsRead.{read-model, read-rest, read-fitness}

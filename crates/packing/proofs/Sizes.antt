@@ -26,7 +26,6 @@ use Rattle.search.specs.Search.{search_answer, searchable, Answered, none, found
 use Rattle.decide.specs.Decide.{decidable, DecideOf}
 use Rattle.least.specs.declared.Sought.{Sought}
 use Rattle.least.specs.declared.LeastFound.{LeastFound}
-use Rattle.least.specs.declared.LeastFound.TheVariants as least
 use Rattle.least.specs.Least.{least_answer, seekable, LeastOf}
 use Rattle.least.proofs.Claims.{value_low}
 use Rattle.reach.specs.declared.Reached as reach

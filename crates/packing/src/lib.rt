@@ -1,5 +1,6 @@
 // What the C entries answer: an answer in one word, and structs for what no word holds. The entries stand in crate desk.
 #![tactic(auto)]
+
 ghost use Rattle.std.specs.Prelude.{◌≡◌};
 ghost use Rattle.refusals.specs.Refusals.{answer_of};
 ghost use Rattle.least.specs.Least.{least_answer};
