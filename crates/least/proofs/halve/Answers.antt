@@ -1,10 +1,10 @@
 -- `halve` meets its contract: at every turn the levels below the ones that are left fail, and the highest of these serves. Assumes nothing.
-use mathlib.Core.Path.{sym, ◌∙◌}
+use mathlib.Core.Path.{sym, subst, ◌∙◌}
 use mathlib.Core.Bool.{false≢true}
 use Prim.Native.Nat.{ℕ, ◌+◌, ◌-◌, ◌/◌, ◌≤◌, ◌<◌}
-use native.Mathlib.Numerals.{add-one}
 use native.Mathlib.Omega.{arith}
-use Rattle.least.proofs.Halving.{narrowed-above, narrowed-last}
+use Rattle.least.specs.Within.{LassoAt}
+use Rattle.least.proofs.Halving.{Narrowed, narrowed-above, narrowed-last}
 use Rattle.least.proofs.Standing.{lasso-grows}
 use Rattle.least.proofs.halve.Goals as goal
 
@@ -17,7 +17,7 @@ loop-low-preserved c =
     let l = c.loop-low in
     let a = c.args in
     let (above, below) = middle-within l.low l.high c.loop-low-test.true in
-    rw (add-one (l.low + (l.high - l.low) / 2))
+    subst (λ (n : ℕ). Narrowed (LassoAt a.rows.now a.places.now a.problem) a.problem.lowest a.problem.highest n l.high) (omega arith)
     (narrowed-above _ (lasso-grows a.rows.now a.places.now a.problem) l.invariant above below
     (λ lasso. false≢true (sym c.if-has_plan.false ∙ c.has_plan.ensures.1 lasso)))
 
