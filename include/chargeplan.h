@@ -1,7 +1,8 @@
 /*
  * chargeplan.h: judging, searching and walking charge plans for a knee joint, deciding whether there is one, telling the least credit and
  * the least bound with which there is one, reading its model from texts, joining it with the habit of its wearer, judging one plan for a
- * ward of wearers, and switching its moves off and on again, from C99 or C++ on Linux for 64-bit x86 (System V calls).
+ * ward of wearers, and switching its moves off and on again, from C99 or C++ on Linux for 64-bit x86 with the instructions of x86-64-v2
+ * (System V calls).
  *
  * Link with crates/desk/out/libdesk.a, which `rt lib`, called in crates/desk, writes once the code is proved. There is no set-up, no
  * state between calls and no heap: calls on different buffers may run at the same time, and no input traps or hangs a call.

@@ -32,7 +32,7 @@ fn relax(
     hints: &mut [u32],
 )
     requires workable { Workable (stratum rows.now level) best.old hints.old × (length later.old ≡ length best.old) }
-    requires a_lt_arcs { (a < level.arcs) × (on_at rows.now a ≡ true) × (source_at rows.now a ≡ v) × (v < length best.old) }
+    requires leaves_mode { (a < level.arcs) × (on_at rows.now a ≡ true) × (source_at rows.now a ≡ v) × (v < length best.old) }
     ensures { Tried (stratum rows.now level) a best.old later.old best.new later.new }
 {
     let word = best[v];

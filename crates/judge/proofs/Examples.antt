@@ -21,7 +21,7 @@ use Rattle.judge.specs.Colours.{barred_from, colours_of, accepted_of, missing_fr
 use Rattle.judge.specs.Judged.{judged, judged_levels, judged_plan, serves_of, judged_answer}
 use Rattle.judge.specs.Examples.{Claim, Found, None, Judged, Example, model_in, Admitted, Says, Stands, All, of_a, of_b, of_g, of_j, examples}
 use Rattle.judge.proofs.Judged.{judged-yes}
-use Rattle.judge.proofs.NoPlan.{no_plan_iff}
+use Rattle.judge.proofs.NoPlan.{no-plan}
 
 -- a plan to which judging says yes is one
 judged-found : (x : Example) (p q : ℕ) (w : List ℕ)
@@ -39,13 +39,13 @@ pub examples-hold : All Stands examples
 unfolding judged judged_levels judged_plan serves_of fitness header unfit_lists arcs_verdict unfit_arc levels_of shape length_of numbers chain closing charges rounds second_round ran stepped accepted_of barred_from colours_of missing_from
 examples-hold =
     (refl, judged-found (of_a 0 0 Found) 0 1 (0 ∷ []) refl)
-    and (refl, no_plan_iff (model_in (of_b 0 0 None)) 0 0 (eqb 0) 0 refl)
+    and (refl, no-plan (model_in (of_b 0 0 None)) 0 0 (eqb 0) 0 refl)
     and refl
     and refl
     and refl
     and refl
     and (refl, judged-found (of_g 5 0 Found) 6 1 (0 ∷ 0 ∷ 0 ∷ 0 ∷ 0 ∷ 1 ∷ 2 ∷ []) refl)
-    and (refl, no_plan_iff (model_in (of_g 4 0 None)) 4 0 (eqb 0) 0 refl)
+    and (refl, no-plan (model_in (of_g 4 0 None)) 4 0 (eqb 0) 0 refl)
     and refl
     and refl
     and refl

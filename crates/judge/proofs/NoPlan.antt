@@ -82,8 +82,8 @@ module _ (g : Automaton) (b : ℕ) (inside : ℕ → Bool) (j : ℕ) (all : (a :
 
 -- No plan of any length is feasible and accepted, where the certificate passes its test. inside: modes that are not left; j: a colour that
 -- is not met there, or any number from k on where no arc can be used at all.
-pub no_plan_iff : (g : Automaton) (b c : ℕ) (inside : ℕ → Bool) (j : ℕ) → refutes g b c inside j ≡ true → SomePlan g 0 b c → ⊥
-no_plan_iff g b c inside j r (p, s) =
+pub no-plan : (g : Automaton) (b c : ℕ) (inside : ℕ → Bool) (j : ℕ) → refutes g b c inside j ≡ true → SomePlan g 0 b c → ⊥
+no-plan g b c inside j r (p, s) =
     let (r₁, r₂) = (and-eq-true_iff (leb c b && inside g.start) (each (harmless g b inside j) (length g.arcs))).0 r in
     let (low, start) = (and-eq-true_iff (leb c b) (inside g.start)).0 r₁ in
     let h : c ≤ b = leb-true c b low in

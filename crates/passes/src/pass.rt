@@ -284,7 +284,7 @@ pub fn run(
     work: &mut [u16],
 ) -> Outcome
     requires ready { Ready (pass_of rows.now places.now task aim) (length best.old) (length work.old) }
-    requires node_in_bounds { (node < length best.old) × (charge ≤ task.bound) × (best.old ≡ replicate (length best.old) 0) }
+    requires begins { (node < length best.old) × (charge ≤ task.bound) × (best.old ≡ replicate (length best.old) 0) }
     ensures { Passed (pass_of rows.now places.now task aim) node charge best.new work.new result.found result.head result.arc result.tail }
 {
     begin(best, work, node, charge);

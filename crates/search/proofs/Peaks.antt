@@ -75,8 +75,8 @@ module _ {rows places : List ℕ} {t : Task} {words : ℕ} (able : Searchable ro
       kept-front = take_at kept (drop t.modes blank_table) t.modes kept-size
 
       -- if it is empty, there is no lasso
-      pub no_plan_iff : some ≡ false → AcceptedLasso (task_net rows places t) t.bound t.credit → ⊥
-      no_plan_iff e = found.none e
+      pub no-plan : some ≡ false → AcceptedLasso (task_net rows places t) t.bound t.credit → ⊥
+      no-plan e = found.none e
 
       -- the array has a word for each mode,
       pub filled-long : t.modes ≤ length (filled t.modes kept)

@@ -68,7 +68,7 @@ fn find_cycle(
     work: &mut [u16],
 ) -> Outcome
     requires searchable { Searchable rows.now places.now task (length work.old) }
-    requires mode_lt_modes { (mode < task.modes) × (charge ≤ task.bound) }
+    requires within { (mode < task.modes) × (charge ≤ task.bound) }
     ensures { CyclePassed (task_net rows.now places.now task) task.bound mode charge work.new result.found result.head result.arc }
 {
     let nodes = (task.duties + 1) * task.modes;
@@ -114,7 +114,7 @@ fn write_prefix(
 ) -> usize
     requires searchable { Searchable rows.now places.now task (length work.old) }
     requires peak { Peak (task_net rows.now places.now task) task.bound task.credit mode peak }
-    requires bound_in_bounds { room task.modes task.bound ≤ length plan.old }
+    requires fits { room task.modes task.bound ≤ length plan.old }
     ensures { PrefixWritten (task_net rows.now places.now task) task.bound task.credit mode peak plan.old plan.new result }
 {
     if is_beginning(task, mode, peak) {
@@ -137,8 +137,8 @@ fn write_cycle(
     part: &mut [u8],
 ) -> usize
     requires searchable { Searchable rows.now places.now task (length work.old) }
-    requires mode_lt_modes { (mode < task.modes) × (charge ≤ task.bound) × KeptCycle (task_net rows.now places.now task) task.bound mode charge }
-    requires bound_in_bounds { room (nodes task.modes task.duties) task.bound ≤ length part.old }
+    requires kept { (mode < task.modes) × (charge ≤ task.bound) × KeptCycle (task_net rows.now places.now task) task.bound mode charge }
+    requires fits { room (nodes task.modes task.duties) task.bound ≤ length part.old }
     ensures { CycleWritten (task_net rows.now places.now task) task.bound mode charge part.old part.new result }
 {
     let outcome = find_cycle(rows, places, task, mode, charge, work);
@@ -170,7 +170,7 @@ pub fn make_plan<'a>(
     plan: &mut [u8],
 ) -> Searched
     requires searchable { Searchable rows.now places.now task (length work.old) }
-    requires bound_in_bounds { plan_buffer task.duties task.modes task.bound ≤ length plan.old }
+    requires fits { plan_buffer task.duties task.modes task.bound ≤ length plan.old }
     ensures no_plan { (result ≡ no_plan) ↔ (AcceptedLasso (task_net rows.now places.now task) task.bound task.credit → ⊥) }
     ensures answered { Written (task_net rows.now places.now task) task.bound task.credit plan.old plan.new result }
 {

@@ -1,3 +1,4 @@
+-- `copy` meets its contract: a word more is copied at each turn. Assumes nothing.
 use mathlib.Core.Path.{◌≡◌}
 use Prim.Native.Nat.{ℕ, ◌-◌, ◌≤◌, ◌<◌}
 use lib.ListN.{length, get_or}

@@ -1,3 +1,4 @@
+-- `first_kept` meets its contract: at every turn no mode below has a peak that a cycle keeps. Assumes nothing.
 use Prim.Native.Nat.{◌-◌}
 use lib.ListN.{length}
 use Rattle.deciding.specs.Deciding.{asked_net}

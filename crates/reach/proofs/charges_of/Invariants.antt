@@ -1,3 +1,4 @@
+-- `reach::charges_of` meets its contract: at every turn the charges below s are those of the words. Assumes nothing.
 use Prim.Native.Nat.{◌-◌, ◌≤◌}
 use Rattle.limits.specs.Ceilings.{modes_most}
 use Rattle.reach.specs.Words.{Charged}

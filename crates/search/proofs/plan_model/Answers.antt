@@ -6,7 +6,7 @@ use Rattle.search.proofs.plan_model.Goals as goal
 pub make_plan-requires : goal.make_plan-requires
 make_plan-requires c =
     let asked = solvable-searchable c.args.barred c.args.on c.requires c.group-groups.ensures c.count_required-required.ensures (differ-no c.args.barred 0).0 in
-    record { searchable = asked.0; bound_in_bounds = asked.1 }
+    record { searchable = asked.0; fits = asked.1 }
 
 pub returns : goal.returns
 returns c =

@@ -1,3 +1,4 @@
+-- `loops::follow` meets its contract: it ends, since each turn is counted. Assumes nothing.
 use Prim.Native.Nat.{◌+◌, ◌-◌, ◌≤◌}
 use Rattle.closing.proofs.loops.follow.Given as goal
 

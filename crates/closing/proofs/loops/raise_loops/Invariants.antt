@@ -1,3 +1,4 @@
+-- `loops::raise_loops` meets its contract: at every turn the table is a later one. Assumes nothing.
 use mathlib.Core.Path.{◌≡◌}
 use Prim.Native.Nat.{◌-◌, ◌≤◌}
 use lib.ListN.{length}

@@ -13,9 +13,9 @@ returns c =
     -- the arc, as it is tried
     let k : Tries (stratum c.args.rows.now c.args.level) c.args.best.now c.args.a c.args.v (get_or c.args.best.now c.args.v 0 - 1) s.leaves s.mode s.charge =
     record {
-      known = c.requires.a_lt_arcs.0;
-      on = c.requires.a_lt_arcs.1;
-      source = c.requires.a_lt_arcs.2;
+      known = c.requires.leaves_mode.0;
+      on = c.requires.leaves_mode.1;
+      source = c.requires.leaves_mode.2;
       word = omega (arith, c.if-word-eq0.false);
       moved = c.step-stepped.ensures.moved (not-false _ c.if-not-stepped.false);
     } in

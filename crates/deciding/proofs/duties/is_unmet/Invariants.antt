@@ -1,3 +1,4 @@
+-- `duties::is_unmet` meets its contract: at every turn no arc before meets the duty. Assumes nothing.
 use Prim.Native.Nat.{◌-◌, ◌≤◌}
 use Rattle.deciding.specs.Deciding.{Unmet}
 use Rattle.deciding.proofs.duties.is_unmet.Given as goal

@@ -1,3 +1,4 @@
+-- `duties::some_unmet` meets its contract. Assumes nothing.
 use Prim.Native.Nat.{◌-◌}
 use Rattle.deciding.proofs.duties.some_unmet.Given as goal
 

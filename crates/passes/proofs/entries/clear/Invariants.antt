@@ -1,3 +1,4 @@
+-- `entries::clear` meets its contract: a word more is 0 after each turn. Assumes nothing.
 use mathlib.Core.Path.{◌≡◌}
 use mathlib.Core.List.{◌++◌}
 use Prim.Native.Nat.{◌-◌, ◌≤◌}

@@ -10,14 +10,14 @@ use Rattle.passes.proofs.pass.run.Goals as goal
 pub begin-requires : goal.begin-requires
 begin-requires c =
     let ready = c.requires.ready in
-    let h = c.requires.node_in_bounds in
+    let h = c.requires.begins in
     let some = ready-some ready in
     (h.0, some.1, omega (arith, h.1, ready.low), some.2)
 
 pub loop-head-init : goal.loop-head-init
 loop-head-init c =
     let s = c.args in
-    let h = c.requires.node_in_bounds in (
+    let h = c.requires.begins in (
       refl,
       refl,
       treated-first (pass_of s.rows.now s.places.now s.task s.aim) s.node s.charge h.2 h.0 h.1 c.begin.ensures.0 c.begin.ensures.1,

@@ -8,12 +8,12 @@ use Rattle.search.proofs.plans.find_cycle.Goals as goal
 pub run-requires : goal.run-requires
 run-requires c =
     let able = c.requires.searchable in
-    let low = c.requires.mode_lt_modes in
+    let low = c.requires.within in
     let asked = pass-asked able (omega arith) refl (table-blank able) c.args.task.barred low.0 low.1 in
-    record { ready = asked.0; node_in_bounds = asked.1 }
+    record { ready = asked.0; begins = asked.1 }
 
 pub returns : goal.returns
 unfolding node
 returns c =
     let able = c.requires.searchable in
-    cycle-left able c.requires.mode_lt_modes.0 (table-blank able) c.run.auto.best c.run.auto.work c.run.ensures
+    cycle-left able c.requires.within.0 (table-blank able) c.run.auto.best c.run.auto.work c.run.ensures

@@ -11,7 +11,7 @@ pub run-requires : goal.run-requires
 run-requires c =
     let able = c.requires.searchable in
     let asked = pass-asked able (omega arith) (sym (one-mul _)) (lent-zeros able) false able.fits.starts able.credit in
-    record { ready = asked.0; node_in_bounds = asked.1 }
+    record { ready = asked.0; begins = asked.1 }
 
 pub returns : goal.returns
 returns c =

@@ -7,12 +7,12 @@ use Rattle.search.specs.Tasks.{none}
 use Rattle.search.proofs.Spaces.{plan-held, buffer-short, prefix-held, cycle-held}
 use Rattle.search.proofs.Tasks.{searchable-kept}
 use Rattle.search.proofs.Written.{plan-found, lasso-answered}
-use Rattle.search.proofs.Peaks.{no_plan_iff, first-peak}
+use Rattle.search.proofs.Peaks.{no-plan, first-peak}
 use Rattle.search.proofs.plans.make_plan.Goals as goal
 
 pub returns-then-not-find_kept : goal.returns-then-not-find_kept
 returns-then-not-find_kept c =
-    let no = no_plan_iff c.requires.searchable c.question_of-question.ensures c.find_kept.auto.set c.find_kept.ensures c.if-not-find_kept.true in
+    let no = no-plan c.requires.searchable c.question_of-question.ensures c.find_kept.auto.set c.find_kept.ensures c.if-not-find_kept.true in
     record { no_plan = (λ e. no, λ e. refl); answered = none refl }
 
 pub write_prefix-p-requires : goal.write_prefix-p-requires
@@ -22,20 +22,20 @@ write_prefix-p-requires c =
     record {
       searchable = c.requires.searchable;
       peak = kept.peak;
-      bound_in_bounds = prefix-held t.duties t.modes t.bound _ c.requires.bound_in_bounds;
+      fits = prefix-held t.duties t.modes t.bound _ c.requires.fits;
     }
 
 pub slice_bounds-write_cycle-count : goal.slice_bounds-write_cycle-count
 slice_bounds-write_cycle-count c =
     let t = c.args.task in
     let p = c.write_prefix-p in
-    omega (arith, p.ensures.few, p.auto.plan, prefix-held t.duties t.modes t.bound _ c.requires.bound_in_bounds)
+    omega (arith, p.ensures.few, p.auto.plan, prefix-held t.duties t.modes t.bound _ c.requires.fits)
 
 pub slice_bounds-write_cycle-start : goal.slice_bounds-write_cycle-start
 slice_bounds-write_cycle-start c =
     let t = c.args.task in
     let p = c.write_prefix-p in
-    omega (arith, p.ensures.few, p.auto.plan, prefix-held t.duties t.modes t.bound _ c.requires.bound_in_bounds)
+    omega (arith, p.ensures.few, p.auto.plan, prefix-held t.duties t.modes t.bound _ c.requires.fits)
 
 pub write_cycle-q-requires : goal.write_cycle-q-requires
 write_cycle-q-requires c =
@@ -44,10 +44,10 @@ write_cycle-q-requires c =
     let p = c.write_prefix-p in
     record {
       searchable = searchable-kept c.requires.searchable p.auto.work;
-      mode_lt_modes = (kept.peak.mode, kept.low, kept.cycle);
-      bound_in_bounds =
+      kept = (kept.peak.mode, kept.low, kept.cycle);
+      fits =
           cycle-held t.duties t.modes t.bound p.result p.new.plan p.ensures.few
-          (omega (arith, p.auto.plan, c.requires.bound_in_bounds));
+          (omega (arith, p.auto.plan, c.requires.fits));
     }
 
 pub overflow_cast-prefix : goal.overflow_cast-prefix
@@ -73,5 +73,5 @@ returns c =
     let q = c.write_cycle-q in
     let told = lasso-answered
     (plan-found {g = task_net c.args.rows.now c.args.places.now c.args.task} able.few_duties able.product
-    c.requires.bound_in_bounds p.ensures p.auto.plan q.ensures q.auto.part) in
+    c.requires.fits p.ensures p.auto.plan q.ensures q.auto.part) in
     record { no_plan = told.0; answered = told.1 }

@@ -7,7 +7,7 @@ use Rattle.search.proofs.plans.write_cycle.Goals as goal
 pub bounds-part-last : goal.bounds-part-last
 bounds-part-last c =
     let passed = c.find_cycle-outcome.ensures in
-    omega (arith, passed.few (cycle-found passed c.requires.mode_lt_modes.2), c.trace-last.ensures.few, c.trace-last.auto.plan, c.requires.bound_in_bounds)
+    omega (arith, passed.few (cycle-found passed c.requires.kept.2), c.trace-last.ensures.few, c.trace-last.auto.plan, c.requires.fits)
 
 pub returns : goal.returns
-returns c = cycle-written c.find_cycle-outcome.ensures c.requires.mode_lt_modes.2 c.trace-last.ensures (bounds-part-last c)
+returns c = cycle-written c.find_cycle-outcome.ensures c.requires.kept.2 c.trace-last.ensures (bounds-part-last c)

@@ -11,7 +11,7 @@ returns-then-is_beginning c =
 
 pub bounds-plan-last : goal.bounds-plan-last
 bounds-plan-last c =
-    omega (arith, c.find_prefix-outcome.ensures.few, c.trace-last.ensures.few, c.trace-last.auto.plan, c.requires.bound_in_bounds)
+    omega (arith, c.find_prefix-outcome.ensures.few, c.trace-last.ensures.few, c.trace-last.auto.plan, c.requires.fits)
 
 pub returns : goal.returns
 returns c = prefix-written c.find_prefix-outcome.ensures c.trace-last.ensures (bounds-plan-last c)
