@@ -4,6 +4,19 @@
 
 #include <stdio.h>
 
+/* Set once, from the arguments. */
+static int is_asked_for;
+
+void ask_for_advice(void)
+{
+    is_asked_for = 1;
+}
+
+size_t advice_words(const struct task *task)
+{
+    return is_asked_for ? chargeplan_least_bound_words(task->model.n, task->model.k) : 0;
+}
+
 /* Prints the least bound, or the largest that was tried. Neither call is refused: search has answered for this model. */
 static void print_least_bound(const struct task *task, struct space *s)
 {
@@ -76,6 +89,8 @@ static void print_duties(const struct task *task, struct space *s)
 
 void print_advice(const struct task *task, struct space *s)
 {
+    if (!is_asked_for)
+        return;
     printf("what would do, all else as it is:\n");
     print_least_bound(task, s);
     print_least_credit(task, s);

@@ -3,7 +3,7 @@
  * runs it on the bench: a gauge is stepped through the prefix and two rounds of the cycle, and shows what each step loses at the bound;
  * a walk tells at which step each colour is first met. Where the habit of a wearer is given, the knee is joined with it first. Where a ward
  * is given, the plan is not run: it is judged for each wearer of the ward. Where a recall is given, it is not run either: arcs are switched
- * off and on, and the mission is planned again after each visit. Where there is no plan, the desk says what would do.
+ * off and on, and the mission is planned again after each visit. Where there is no plan and advice is asked for, the desk says what would do.
  *
  *     desk MISSION
  *     desk MISSION HABIT
@@ -23,10 +23,10 @@
  * The answer then tells what is barred, and what becomes of the plan with nothing barred, where there is one: judging refuses it by 24.
  * A colour that the model has not is ignored, and told.
  *
- * Where there is no plan, three lines more let the fitter choose what to change, all else as it is: the least bound with which there is
- * one, up to the largest that the planner takes for this number of modes; the least credit with which there is one; and each required
- * colour without which there is one, the duty left out of the model. A line says "none" where nothing of its kind would do. Barred colours
- * stay barred, and arcs that are off stay off.
+ * With -a before all other arguments the fitter asks for advice. Where there is no plan, three lines more then let the fitter choose what
+ * to change, all else as it is: the least bound with which there is one, up to the largest that the planner takes for this number of modes;
+ * the least credit with which there is one; and each required colour without which there is one, the duty left out of the model. A line says
+ * "none" where nothing of its kind would do. Barred colours stay barred, and arcs that are off stay off.
  *
  * A habit is written as a mission is, without "bound" and "credit"; "barred" has its own colours there. The planner joins the mission's
  * knee with it, and the joined model is planned with the mission's bound and credit: each step is an arc of the knee and an arc of the
@@ -51,6 +51,7 @@
  * last visit; 2 refused, with -w also where a wearer cannot have the plan; 3 the mission, the habit, the ward or the recall cannot be read,
  * the answer cannot be written, or there is no memory.
  */
+#include "advice.h"
 #include "answers.h"
 #include "join.h"
 #include "lines.h"
@@ -90,6 +91,7 @@ static void print_help(void)
            "       desk -w MISSION WARD\n"
            "       desk -r MISSION RECALL\n"
            "       desk NAME.hoa BOUND CREDIT [barred COLOUR..]\n"
+           "       desk -a .., any of these with advice\n"
            "\n");
     print_mission_help();
     printf("HABIT is a text of the same lines without bound and credit: what the wearer of the knee does; colours are its own. The knee\n"
@@ -109,8 +111,8 @@ static void print_help(void)
            "\n"
            "The mission is planned with every arc on, and again after each visit, with arcs that are on alone; the plans are not run.\n"
            "\n"
-           "Where there is no plan, what would do is told, all else as it is: the least battery size, the least charge on arrival, and\n"
-           "each colour without which there is one.\n"
+           "With -a before all other arguments, where there is no plan, what would do is told, all else as it is: the least battery size,\n"
+           "the least charge on arrival, and each colour without which there is one.\n"
            "\n"
            "In place of a mission the model may stand in two texts: NAME.hoa, in HOA version 1, and beside it NAME.dimacs, in the DIMACS\n"
            "shortest-path form. include/chargeplan.h says which lines they have.\n"
@@ -211,6 +213,11 @@ int main(int argc, char **argv)
 {
     int status;
 
+    if (argc > 1 && strcmp(argv[1], "-a") == 0) {
+        ask_for_advice();
+        argc--;
+        argv++;
+    }
     if (argc == 2 && (strcmp(argv[1], "-h") == 0 || strcmp(argv[1], "--help") == 0)) {
         print_help();
         return close_output(EXIT_SUCCESS);

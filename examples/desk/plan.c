@@ -198,7 +198,7 @@ int lend_space(const struct task *task, struct space *s)
     /* Where the numbers are refused in any case, no buffer is needed: all sizes are 0. */
     s->words = chargeplan_work_words(task->model.n, task->model.k, task->b);
     s->bytes = chargeplan_plan_bytes(task->model.n, task->model.k, task->b);
-    s->room = s->words == 0 ? 0 : chargeplan_least_bound_words(task->model.n, task->model.k);
+    s->room = s->words == 0 || s->words > advice_words(task) ? s->words : advice_words(task);
     s->work = malloc(s->room * sizeof *s->work);
     s->plan = malloc(s->bytes);
     s->p = s->q = 0;

@@ -35,20 +35,20 @@ int print_barred(const struct task *task);
 struct space {
     uint16_t *work;
     size_t words; /* that the search needs */
-    size_t room;  /* that there are: the advice needs them for bounds up to the largest */
+    size_t room;  /* that there are: advice needs them for bounds up to the largest */
     uint8_t *plan;
     size_t bytes;
     uint32_t p, q;
 };
 
-/* Buffers as long as the task's search and the advice need; the answer is 0 where there is no memory, with the reason printed. */
+/* Buffers as long as the task's search, and advice that is asked for, need; the answer is 0 where there is no memory, with the reason printed. */
 int lend_space(const struct task *task, struct space *space);
 
 void free_space(struct space *space);
 
 /*
- * Searches, and prints the plan's lengths and where it begins, that there is none and what would do, or the refusal. The answer is an
- * exit status.
+ * Searches, and prints the plan's lengths and where it begins, that there is none, with advice where it is asked for, or the refusal. The
+ * answer is an exit status.
  */
 int search_plan(const struct task *task, struct space *space);
 
