@@ -41,7 +41,10 @@ struct space {
     uint32_t p, q;
 };
 
-/* Buffers as long as the task's search, and advice that is asked for, need; the answer is 0 where there is no memory, with the reason printed. */
+/*
+ * Buffers as long as the task's search, and advice that is asked for, need; the answer is 0 where there is no memory, with the reason
+ * printed.
+ */
 int lend_space(const struct task *task, struct space *space);
 
 void free_space(struct space *space);
