@@ -12,9 +12,8 @@ returns-then-field-eq0 c = sym (unsigned-none _ c.if-field-eq0.true)
 
 pub returns-then-field-eq-MINUS : goal.returns-then-field-eq-MINUS
 returns-then-field-eq-MINUS c =
-    let some = c in
-    let s = some.args.field.now in
-    take_all (length s - 1) (drop 1 s) (simp length-drop (omega arith)) ∙ sym (unsigned-minus s some.if-field-eq0.false c.if-field-eq-MINUS.true)
+    let s = c.args.field.now in
+    take_all (length s - 1) (drop 1 s) (simp length-drop (omega arith)) ∙ sym (unsigned-minus s c.if-field-eq0.false c.if-field-eq-MINUS.true)
 
 pub returns : goal.returns
 returns c = sym (unsigned-other _ c.if-field-eq0.false c.if-field-eq-MINUS.false)

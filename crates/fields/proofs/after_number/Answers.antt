@@ -22,7 +22,6 @@ slice_bounds-result-start c = omega (arith, digits_le c.args.s.now)
 pub returns : goal.returns
 returns c =
     let s = c.args.s.now in
-    let d = c in
-    let n = d.digit_count-count.result in
+    let n = c.digit_count-count.result in
     take_all (length s - n) (drop n s) (simp length-drop (omega arith))
-    ∙ after-some s n (sym (c.is_plain.ensures ∙ ap {B = Bool} is_plain c.digit_count-count.ensures) ∙ not-false _ c.if-not-is_plain.false-raw) d.digit_count-count.ensures
+    ∙ after-some s n (sym (c.is_plain.ensures ∙ ap {B = Bool} is_plain c.digit_count-count.ensures) ∙ not-false _ c.if-not-is_plain.false-raw) c.digit_count-count.ensures

@@ -9,25 +9,21 @@ use Rattle.fields.proofs.after_word.Goals as goal
 
 pub returns-then-i-s : goal.returns-then-i-s
 returns-then-i-s c =
-    let d = c.before.before.before in
-    let a = d.args in
-    sym (d.loop-i.invariant.2 ∙ after-short a.word.now a.s.now d.loop-i.i (omega arith) (omega arith))
+    let a = c.args in
+    sym (c.loop-i.invariant.2 ∙ after-short a.word.now a.s.now c.loop-i.i (omega arith) (omega arith))
 
 pub returns-then-s-i : goal.returns-then-s-i
 returns-then-s-i c =
-    let d = c.before.before.before.before.before.before in
-    let a = d.args in
-    sym (d.loop-i.invariant.2 ∙ after-other a.word.now a.s.now d.loop-i.i (omega arith) (omega arith) c.if-s-i.true)
+    let a = c.args in
+    sym (c.loop-i.invariant.2 ∙ after-other a.word.now a.s.now c.loop-i.i (omega arith) (omega arith) c.if-s-i.true)
 
 pub loop-i-preserved : goal.loop-i-preserved
 loop-i-preserved c =
-    let d = c.before.before.before.before.before in
-    let a = d.args in
-    (omega arith, omega arith, d.loop-i.invariant.2 ∙ after_same a.word.now a.s.now d.loop-i.i (omega arith) (omega arith) c.if-s-i.false)
+    let a = c.args in
+    (omega arith, omega arith, c.loop-i.invariant.2 ∙ after_same a.word.now a.s.now c.loop-i.i (omega arith) (omega arith) c.if-s-i.false)
 
 pub returns : goal.returns
 returns c =
-    let d = c.before.before in
-    let a = d.args in
-    take_all (length a.s.now - d.loop-i.i) (drop d.loop-i.i a.s.now) (simp length-drop (omega arith))
-    ∙ sym (d.loop-i.invariant.2 ∙ after-done a.word.now a.s.now d.loop-i.i (omega arith))
+    let a = c.args in
+    take_all (length a.s.now - c.loop-i.i) (drop c.loop-i.i a.s.now) (simp length-drop (omega arith))
+    ∙ sym (c.loop-i.invariant.2 ∙ after-done a.word.now a.s.now c.loop-i.i (omega arith))

@@ -6,6 +6,5 @@ use Rattle.fields.proofs.line_at.Goals as goal
 
 pub loop-t-preserved : goal.loop-t-preserved
 loop-t-preserved c =
-    let d = c.before.before in
-    let s = d.args.text.now in
-    (omega arith, rw (add-one d.loop-t.t) (line_step s d.loop-t.at d.loop-t.t c.piece_end-at.result d.loop-t.invariant.1 c.piece_end-at.ensures))
+    let s = c.args.text.now in
+    (omega arith, rw (add-one c.loop-t.t) (line_step s c.loop-t.at c.loop-t.t c.piece_end-at.result c.loop-t.invariant.1 c.piece_end-at.ensures))

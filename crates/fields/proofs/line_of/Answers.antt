@@ -12,6 +12,5 @@ slice_bounds-result-end c =
 
 pub returns : goal.returns
 returns c =
-    let d = c in
-    let a = d.args in
-    line-is a.text.now d.line_at-at.result a.j d.piece_end-e.result d.line_at-at.ensures d.piece_end-e.ensures
+    let a = c.args in
+    line-is a.text.now c.line_at-at.result a.j c.piece_end-e.result c.line_at-at.ensures c.piece_end-e.ensures

@@ -14,33 +14,29 @@ returns-then-not-is_plain c = number-none _ (sym (c.is_plain.ensures ∙ ap {B =
 
 pub bounds-s-i : goal.bounds-s-i
 bounds-s-i c =
-    let e = c in
-    omega (arith, digits_le e.args.s.now)
+    omega (arith, digits_le c.args.s.now)
 
 pub with_digit-v-requires : goal.with_digit-v-requires
 with_digit-v-requires c =
-    let e = c in
-    let s = e.args.s.now in
-    let (l, m) = plain-bounds (digit_count s) (sym (e.is_plain.ensures ∙ ap {B = Bool} is_plain e.digit_count-count.ensures) ∙ not-false _ e.if-not-is_plain.false-raw) in
+    let s = c.args.s.now in
+    let (l, m) = plain-bounds (digit_count s) (sym (c.is_plain.ensures ∙ ap {B = Bool} is_plain c.digit_count-count.ensures) ∙ not-false _ c.if-not-is_plain.false-raw) in
     let d = c.loop-i in
     (below-most d.i d.v (omega arith) d.invariant.1, digits_are s d.i (omega arith))
 
 pub loop-i-preserved : goal.loop-i-preserved
 loop-i-preserved c =
     let d = c.loop-i in
-    let e = c in
-    let s = e.args.s.now in
+    let s = c.args.s.now in
     let x = get_or s d.i 0 in
     let (l, m) = digit-bounds x (digits_are s d.i (omega arith)) in
     let told = c.with_digit-v.ensures in (
       omega arith,
       omega (arith, below_power d.i d.v (x - 48) d.invariant.1 (omega arith)),
-      d.invariant.2 ∙ value-turn e.digit_count-count.result d.i d.v s (omega arith) (omega (arith, digits_le s)) ∙ rw told,
+      d.invariant.2 ∙ value-turn c.digit_count-count.result d.i d.v s (omega arith) (omega (arith, digits_le s)) ∙ rw told,
     )
 
 pub returns : goal.returns
 returns c =
-    let e = c in
-    let s = e.args.s.now in
-    number-some s e.digit_count-count.result c.loop-i.v (sym (e.is_plain.ensures ∙ ap {B = Bool} is_plain e.digit_count-count.ensures) ∙ not-false _ e.if-not-is_plain.false-raw) e.digit_count-count.ensures
-    (c.loop-i.invariant.2 ∙ value-done e.digit_count-count.result c.loop-i.i c.loop-i.v s (omega arith) (omega (arith, digits_le s)))
+    let s = c.args.s.now in
+    number-some s c.digit_count-count.result c.loop-i.v (sym (c.is_plain.ensures ∙ ap {B = Bool} is_plain c.digit_count-count.ensures) ∙ not-false _ c.if-not-is_plain.false-raw) c.digit_count-count.ensures
+    (c.loop-i.invariant.2 ∙ value-done c.digit_count-count.result c.loop-i.i c.loop-i.v s (omega arith) (omega (arith, digits_le s)))

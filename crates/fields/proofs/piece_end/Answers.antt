@@ -5,18 +5,15 @@ use Rattle.fields.proofs.piece_end.Goals as goal
 
 pub returns-then-s-i : goal.returns-then-s-i
 returns-then-s-i c =
-    let d = c.before.before.before in
-    let a = d.args in
-    omega (arith, piece-here a.b a.s.now d.loop-i.i (omega arith) c.if-s-i.true)
+    let a = c.args in
+    omega (arith, piece-here a.b a.s.now c.loop-i.i (omega arith) c.if-s-i.true)
 
 pub loop-i-preserved : goal.loop-i-preserved
 loop-i-preserved c =
-    let d = c.before.before.before in
-    let a = d.args in
-    omega (arith, piece-later a.b a.s.now d.loop-i.i (omega arith) c.if-s-i.false)
+    let a = c.args in
+    omega (arith, piece-later a.b a.s.now c.loop-i.i (omega arith) c.if-s-i.false)
 
 pub returns : goal.returns
 returns c =
-    let d = c.before in
-    let a = d.args in
-    omega (arith, piece-end a.b a.s.now d.loop-i.i (omega arith))
+    let a = c.args in
+    omega (arith, piece-end a.b a.s.now c.loop-i.i (omega arith))

@@ -11,27 +11,24 @@ loop-i-init c =
 
 pub returns-then-unfit_arc : goal.returns-then-unfit_arc
 returns-then-unfit_arc c =
-    let d = c in
-    let a = d.args in
-    let l = (lists d.args.sources.now d.args.targets.now d.args.draws.now d.args.gains.now d.args.colours.now d.args.actions.now) in
+    let a = c.args in
+    let l = (lists c.args.sources.now c.args.targets.now c.args.draws.now c.args.gains.now c.args.colours.now c.args.actions.now) in
     c.refused.ensures
-    ∙ fitted-refused a.n a.start a.k d.two_to-power.result l d.two_to-power.ensures _
-    (copying-unfit a.n d.two_to-power.result l d.loop-i.arcs d.loop-i.i d.loop-i.invariant _ (omega arith) refl
+    ∙ fitted-refused a.n a.start a.k c.two_to-power.result l c.two_to-power.ensures _
+    (copying-unfit a.n c.two_to-power.result l c.loop-i.arcs c.loop-i.i c.loop-i.invariant _ (omega arith) refl
     (sym c.unfit_arc.ensures ∙ c.if-unfit_arc.true))
 
 pub loop-i-preserved : goal.loop-i-preserved
 loop-i-preserved c =
-    let d = c in
-    let a = d.args in
-    let h = d.requires in
-    copying-more a.n d.two_to-power.result (lists d.args.sources.now d.args.targets.now d.args.draws.now d.args.gains.now d.args.colours.now d.args.actions.now)
-    d.loop-i.arcs d.loop-i.i d.loop-i.invariant _ (omega arith) h.few_arcs refl (sym c.unfit_arc.ensures ∙ c.if-unfit_arc.false)
+    let a = c.args in
+    let h = c.requires in
+    copying-more a.n c.two_to-power.result (lists c.args.sources.now c.args.targets.now c.args.draws.now c.args.gains.now c.args.colours.now c.args.actions.now)
+    c.loop-i.arcs c.loop-i.i c.loop-i.invariant _ (omega arith) h.few_arcs refl (sym c.unfit_arc.ensures ∙ c.if-unfit_arc.false)
 
 pub returns : goal.returns
 returns c =
-    let d = c in
-    let a = d.args in
-    let h = d.requires in
-    let l = (lists d.args.sources.now d.args.targets.now d.args.draws.now d.args.gains.now d.args.colours.now d.args.actions.now) in
-    let (e, f) = copying-done a.n d.two_to-power.result l d.loop-i.arcs d.loop-i.i d.loop-i.invariant c.loop-i-test.false h.equal in
-    fitted-yes a.n a.start a.k d.two_to-power.result l d.two_to-power.ensures d.loop-i.arcs e f
+    let a = c.args in
+    let h = c.requires in
+    let l = (lists c.args.sources.now c.args.targets.now c.args.draws.now c.args.gains.now c.args.colours.now c.args.actions.now) in
+    let (e, f) = copying-done a.n c.two_to-power.result l c.loop-i.arcs c.loop-i.i c.loop-i.invariant c.loop-i-test.false h.equal in
+    fitted-yes a.n a.start a.k c.two_to-power.result l c.two_to-power.ensures c.loop-i.arcs e f

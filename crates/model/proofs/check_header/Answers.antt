@@ -18,17 +18,15 @@ returns-then-start-n c = simp (ne_eqb _ _ c.if-n-eq0.false, le-ltb _ _ c.if-n-gt
 pub returns-then-unfit : goal.returns-then-unfit
 unfolding header
 returns-then-unfit c =
-    let d = c in
-    simp (ne_eqb _ _ d.if-n-eq0.false, le-ltb _ _ d.if-n-gt-MODES.false, lt-leb _ _ d.if-start-n.false, c.if-unfit.true)
+    simp (ne_eqb _ _ c.if-n-eq0.false, le-ltb _ _ c.if-n-gt-MODES.false, lt-leb _ _ c.if-start-n.false, c.if-unfit.true)
 
 pub returns-then-k-gt-COLOURS : goal.returns-then-k-gt-COLOURS
 unfolding header
 returns-then-k-gt-COLOURS c =
-    let d = c in
     simp (
-      ne_eqb _ _ d.if-n-eq0.false,
-      le-ltb _ _ d.if-n-gt-MODES.false,
-      lt-leb _ _ d.if-start-n.false,
+      ne_eqb _ _ c.if-n-eq0.false,
+      le-ltb _ _ c.if-n-gt-MODES.false,
+      lt-leb _ _ c.if-start-n.false,
       c.if-unfit.false,
       lt-ltb _ _ c.if-k-gt-COLOURS.true,
     )
@@ -36,11 +34,10 @@ returns-then-k-gt-COLOURS c =
 pub returns : goal.returns
 unfolding header
 returns c =
-    let d = c in
     simp (
-      ne_eqb _ _ d.if-n-eq0.false,
-      le-ltb _ _ d.if-n-gt-MODES.false,
-      lt-leb _ _ d.if-start-n.false,
+      ne_eqb _ _ c.if-n-eq0.false,
+      le-ltb _ _ c.if-n-gt-MODES.false,
+      lt-leb _ _ c.if-start-n.false,
       c.if-unfit.false,
       le-ltb _ _ c.if-k-gt-COLOURS.false,
     )

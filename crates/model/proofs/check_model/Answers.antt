@@ -8,23 +8,20 @@ use Rattle.model.proofs.check_model.Goals as goal
 
 pub check_arcs-requires : goal.check_arcs-requires
 check_arcs-requires c =
-    let d = c in
-    let a = d.args in
-    (header-yes a.n a.start a.k (lists d.args.sources.now d.args.targets.now d.args.draws.now d.args.gains.now d.args.colours.now d.args.actions.now)).0
-    (sym (d.check_header-header.ensures ∙ ap {B = Verdict} (header d.args.n d.args.start d.args.k) d.unfit_lists-unfit.ensures) ∙ c.in-Yes.is)
+    let a = c.args in
+    (header-yes a.n a.start a.k (lists c.args.sources.now c.args.targets.now c.args.draws.now c.args.gains.now c.args.colours.now c.args.actions.now)).0
+    (sym (c.check_header-header.ensures ∙ ap {B = Verdict} (header c.args.n c.args.start c.args.k) c.unfit_lists-unfit.ensures) ∙ c.in-Yes.is)
 
 pub returns-in-Yes : goal.returns-in-Yes
 returns-in-Yes c =
-    let d = c in
-    let a = d.args in
+    let a = c.args in
     c.check_arcs.ensures
-    ∙ fitted-through a.n a.start a.k (lists d.args.sources.now d.args.targets.now d.args.draws.now d.args.gains.now d.args.colours.now d.args.actions.now)
-    (sym (d.check_header-header.ensures ∙ ap {B = Verdict} (header d.args.n d.args.start d.args.k) d.unfit_lists-unfit.ensures) ∙ c.in-Yes.is)
+    ∙ fitted-through a.n a.start a.k (lists c.args.sources.now c.args.targets.now c.args.draws.now c.args.gains.now c.args.colours.now c.args.actions.now)
+    (sym (c.check_header-header.ensures ∙ ap {B = Verdict} (header c.args.n c.args.start c.args.k) c.unfit_lists-unfit.ensures) ∙ c.in-Yes.is)
 
 pub returns-in-Refused : goal.returns-in-Refused
 returns-in-Refused c =
-    let d = c in
-    let a = d.args in
+    let a = c.args in
     c.refused.ensures
-    ∙ fitted-stopped a.n a.start a.k (lists d.args.sources.now d.args.targets.now d.args.draws.now d.args.gains.now d.args.colours.now d.args.actions.now) _
-    (sym (d.check_header-header.ensures ∙ ap {B = Verdict} (header d.args.n d.args.start d.args.k) d.unfit_lists-unfit.ensures) ∙ c.in-Refused.is)
+    ∙ fitted-stopped a.n a.start a.k (lists c.args.sources.now c.args.targets.now c.args.draws.now c.args.gains.now c.args.colours.now c.args.actions.now) _
+    (sym (c.check_header-header.ensures ∙ ap {B = Verdict} (header c.args.n c.args.start c.args.k) c.unfit_lists-unfit.ensures) ∙ c.in-Refused.is)

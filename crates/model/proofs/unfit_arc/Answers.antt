@@ -18,36 +18,31 @@ returns-then-arc-gt-DRAW c = simp (lt-leb _ _ c.if-arc-n.false, lt-leb _ _ c.if-
 pub returns-then-arc-gt-GAIN : goal.returns-then-arc-gt-GAIN
 unfolding unfit_arc
 returns-then-arc-gt-GAIN c =
-    let d = c in
     simp (
-      lt-leb _ _ d.if-arc-n.false,
-      lt-leb _ _ d.if-arc-n-2.false,
-      le-ltb _ _ d.if-arc-gt-DRAW.false,
+      lt-leb _ _ c.if-arc-n.false,
+      lt-leb _ _ c.if-arc-n-2.false,
+      le-ltb _ _ c.if-arc-gt-DRAW.false,
       lt-ltb _ _ c.if-arc-gt-GAIN.true,
     )
 
 pub returns-then-arc-power : goal.returns-then-arc-power
 unfolding unfit_arc
 returns-then-arc-power c =
-    let e = c in
-    let d = e in
     simp (
-      lt-leb _ _ d.if-arc-n.false,
-      lt-leb _ _ d.if-arc-n-2.false,
-      le-ltb _ _ d.if-arc-gt-DRAW.false,
-      le-ltb _ _ e.if-arc-gt-GAIN.false,
+      lt-leb _ _ c.if-arc-n.false,
+      lt-leb _ _ c.if-arc-n-2.false,
+      le-ltb _ _ c.if-arc-gt-DRAW.false,
+      le-ltb _ _ c.if-arc-gt-GAIN.false,
       le-leb _ _ c.if-arc-power.true,
     )
 
 pub returns : goal.returns
 unfolding unfit_arc
 returns c =
-    let e = c in
-    let d = e in
     simp (
-      lt-leb _ _ d.if-arc-n.false,
-      lt-leb _ _ d.if-arc-n-2.false,
-      le-ltb _ _ d.if-arc-gt-DRAW.false,
-      le-ltb _ _ e.if-arc-gt-GAIN.false,
+      lt-leb _ _ c.if-arc-n.false,
+      lt-leb _ _ c.if-arc-n-2.false,
+      le-ltb _ _ c.if-arc-gt-DRAW.false,
+      le-ltb _ _ c.if-arc-gt-GAIN.false,
       lt-leb _ _ c.if-arc-power.false,
     )

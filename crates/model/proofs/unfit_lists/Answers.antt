@@ -18,17 +18,15 @@ returns-then-gains-sources c = simp (eq-eqb _ _ c.if-targets-sources.false, eq-e
 pub returns-then-colours-sources : goal.returns-then-colours-sources
 unfolding unfit_lists
 returns-then-colours-sources c =
-    let d = c in
-    simp (eq-eqb _ _ d.if-targets-sources.false, eq-eqb _ _ d.if-draws-sources.false, eq-eqb _ _ c.if-gains-sources.false, ne_eqb _ _ c.if-colours-sources.true)
+    simp (eq-eqb _ _ c.if-targets-sources.false, eq-eqb _ _ c.if-draws-sources.false, eq-eqb _ _ c.if-gains-sources.false, ne_eqb _ _ c.if-colours-sources.true)
 
 pub returns-then-actions-sources : goal.returns-then-actions-sources
 unfolding unfit_lists
 returns-then-actions-sources c =
-    let d = c in
     simp (
-      eq-eqb _ _ d.if-targets-sources.false,
-      eq-eqb _ _ d.if-draws-sources.false,
-      eq-eqb _ _ d.if-gains-sources.false,
+      eq-eqb _ _ c.if-targets-sources.false,
+      eq-eqb _ _ c.if-draws-sources.false,
+      eq-eqb _ _ c.if-gains-sources.false,
       eq-eqb _ _ c.if-colours-sources.false,
       ne_eqb _ _ c.if-actions-sources.true,
     )
@@ -36,11 +34,10 @@ returns-then-actions-sources c =
 pub returns : goal.returns
 unfolding unfit_lists
 returns c =
-    let d = c in
     simp (
-      eq-eqb _ _ d.if-targets-sources.false,
-      eq-eqb _ _ d.if-draws-sources.false,
-      eq-eqb _ _ d.if-gains-sources.false,
+      eq-eqb _ _ c.if-targets-sources.false,
+      eq-eqb _ _ c.if-draws-sources.false,
+      eq-eqb _ _ c.if-gains-sources.false,
       eq-eqb _ _ c.if-colours-sources.false,
       eq-eqb _ _ c.if-actions-sources.false,
     )

@@ -12,24 +12,21 @@ falls : (c : After-parent_of-j)
     → let l = c in
     parent_at l.args.work.now l.loop-j.j < l.loop-j.j
 falls c =
-    let l = c in
-    l.requires.back l.loop-j.j c.loop-j-test.true (omega (arith, l.loop-j.invariant.0))
+    c.requires.back c.loop-j.j c.loop-j-test.true (omega (arith, c.loop-j.invariant.0))
 
 pub loop-j-preserved : goal.loop-j-preserved
 loop-j-preserved c =
-    let s = c in
     let l = c.loop-j in
     let f = falls c in (
       omega (arith, c.parent_of-j.ensures),
-      λ k h. subst (λ n. Chain s.args.work.now s.args.i n) (omega arith)
+      λ k h. subst (λ n. Chain c.args.work.now c.args.i n) (omega arith)
           (l.invariant.1 (k + 1)
-          (chain_more c.loop-j-test.true (subst (λ n. Chain s.args.work.now n k) c.parent_of-j.ensures h))),
+          (chain_more c.loop-j-test.true (subst (λ n. Chain c.args.work.now n k) c.parent_of-j.ensures h))),
     )
 
 pub returns : goal.returns
 returns c =
-    let s = c in
     let l = c.loop-j in
     let z : 0 ≡ l.j = omega arith in
-    subst (λ n. Chain s.args.work.now s.args.i n) (omega arith)
-    (l.invariant.1 0 (subst (λ n. Chain s.args.work.now n 0) z root))
+    subst (λ n. Chain c.args.work.now c.args.i n) (omega arith)
+    (l.invariant.1 0 (subst (λ n. Chain c.args.work.now n 0) z root))

@@ -21,5 +21,4 @@ loop-entry-preserved c =
 
 pub returns : goal.returns
 returns c =
-    let l = c in
-    tracing-all l.requires.0 l.depth-steps.ensures l.loop-entry.invariant c.loop-entry-test.false
+    tracing-all c.requires.0 c.depth-steps.ensures c.loop-entry.invariant c.loop-entry-test.false
