@@ -5,16 +5,16 @@
 #include <stdio.h>
 
 /* Set once, from the arguments. */
-static int is_asked_for;
+static int asked_for;
 
 void ask_for_advice(void)
 {
-    is_asked_for = 1;
+    asked_for = 1;
 }
 
-size_t advice_words(const struct task *task)
+int is_advice_asked_for(void)
 {
-    return is_asked_for ? chargeplan_least_bound_words(task->model.n, task->model.k) : 0;
+    return asked_for;
 }
 
 /* Prints the least bound, or the largest that was tried. Neither call is refused: search has answered for this model. */
@@ -89,8 +89,6 @@ static void print_duties(const struct task *task, struct space *s)
 
 void print_advice(const struct task *task, struct space *s)
 {
-    if (!is_asked_for)
-        return;
     printf("what would do, all else as it is:\n");
     print_least_bound(task, s);
     print_least_credit(task, s);

@@ -7,13 +7,12 @@
 /* Asks for advice, wherever a task has no plan. */
 void ask_for_advice(void);
 
-/* The words of working space that the advice needs: those of a least bound; 0 where it is not asked for. */
-size_t advice_words(const struct task *task);
+/* Whether it is asked for. */
+int is_advice_asked_for(void);
 
 /*
- * Where advice is asked for, prints what would do for a task that has no plan, all else as it is: the least bound and the least credit with
- * which it has one, and each duty without which it has one. The task's search has answered that there is no plan, with this space, whose
- * plan is overwritten.
+ * Prints what would do for a task that has no plan, all else as it is: the least bound and the least credit with which it has one, and each
+ * duty without which it has one. The task's search has answered that there is no plan, with this space, whose plan is overwritten.
  */
 void print_advice(const struct task *task, struct space *space);
 

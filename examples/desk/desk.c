@@ -3,7 +3,7 @@
  * runs it on the bench: a gauge is stepped through the prefix and two rounds of the cycle, and shows what each step loses at the bound;
  * a walk tells at which step each colour is first met. Where the habit of a wearer is given, the knee is joined with it first. Where a ward
  * is given, the plan is not run: it is judged for each wearer of the ward. Where a recall is given, it is not run either: arcs are switched
- * off and on, and the mission is planned again after each visit. Where there is no plan and advice is asked for, the desk says what would do.
+ * off and on, and the mission is planned again after each visit. Where there is no plan, the desk says what would do, if it is asked.
  *
  *     desk MISSION
  *     desk MISSION HABIT

@@ -198,7 +198,7 @@ int lend_space(const struct task *task, struct space *s)
     /* Where the numbers are refused in any case, no buffer is needed: all sizes are 0. */
     s->words = chargeplan_work_words(task->model.n, task->model.k, task->b);
     s->bytes = chargeplan_plan_bytes(task->model.n, task->model.k, task->b);
-    s->room = s->words == 0 || s->words > advice_words(task) ? s->words : advice_words(task);
+    s->room = s->words > 0 && is_advice_asked_for() ? chargeplan_least_bound_words(task->model.n, task->model.k) : s->words;
     s->work = malloc(s->room * sizeof *s->work);
     s->plan = malloc(s->bytes);
     s->p = s->q = 0;
@@ -223,7 +223,8 @@ int search_plan(const struct task *task, struct space *s)
     if (chargeplan_number(answer) == CHARGEPLAN_NO_PLAN) {
         printf("no plan exists for this %s with bound %u and credit %u\n", task->knee == NULL ? "model" : "knee and habit",
             (unsigned)task->b, (unsigned)task->c);
-        print_advice(task, s);
+        if (is_advice_asked_for())
+            print_advice(task, s);
         return NO_PLAN;
     }
     if (!is_yes("search refuses", answer))
