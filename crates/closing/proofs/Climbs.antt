@@ -160,8 +160,7 @@ risen-more b0 b1 b2 k l =
     }
 
 -- what is asked of a table, of a later one
-pub workable-kept : {S : Stratum} {best : List ℕ} (hints best' hints' : List ℕ) → Workable S best hints → Risen S best best' → length hints' ≡ length hints
-    → Workable S best' hints'
-workable-kept {S} {best} hints best' hints' k r q =
+pub workable-kept : {S : Stratum} {best : List ℕ} (best' : List ℕ) → Workable S best → Risen S best best' → Workable S best'
+workable-kept {S} {best} best' k r =
     let z = r.size in
-    record { ready = rw z k.ready; low = r.low k.low; room = omega (arith, k.room) }
+    record { ready = rw z k.ready; low = r.low k.low }

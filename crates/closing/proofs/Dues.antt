@@ -188,14 +188,8 @@ room_falls {S} done done' n q low k h =
     omega (arith, rw q at s)
 
 -- what is asked of the tables, of later ones
-pub closable-kept : {S : Stratum} {places best : List ℕ} (later done hints best' later' done' hints' : List ℕ) → Closable S places best later done hints
-    → Risen S best best' → length later' ≡ length later → length done' ≡ length done → length hints' ≡ length hints
-    → Closable S places best' later' done' hints'
-closable-kept later done hints best' later' done' hints' k r l d h =
+pub closable-kept : {S : Stratum} {places best : List ℕ} (later best' later' : List ℕ) → Closable S places best later → Risen S best best'
+    → length later' ≡ length later → Closable S places best' later'
+closable-kept later best' later' k r l =
     let z = r.size in
-    record {
-      work = workable-kept hints best' hints' k.work r h;
-      placed = rw z k.placed;
-      size_later = l ∙ k.size_later ∙ sym z;
-      size_done = d ∙ k.size_done ∙ sym z;
-    }
+    record { work = workable-kept best' k.work r; placed = rw z k.placed; size_later = l ∙ k.size_later ∙ sym z }

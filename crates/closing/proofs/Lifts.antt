@@ -2,11 +2,11 @@
 use mathlib.Core.Path.{◌≡◌, refl, ap, ◌∙◌}
 use mathlib.Core.List.{List}
 use mathlib.Core.Logic.{◌⊎◌, inl, inr, ⊎_elim}
-use Prim.Native.Nat.{ℕ, zero, suc, ◌≤◌, ◌<◌}
+use Prim.Native.Nat.{ℕ, zero, suc, ◌≤◌, ◌<◌, max}
 use native.Mathlib.Omega.{arith}
-use native.Mathlib.Decide.{ℕ_discrete}
-use lib.ListN.{length, get_or, replicate, length-set}
-use lib.Seq.{get_or-set_same, get_or-set_other}
+use native.Mathlib.Decide.{dec_lt, ℕ_discrete}
+use lib.ListN.{length, get_or, set, replicate, length-set}
+use lib.Seq.{get_or-set_same, get_or-set_other, set-get_or}
 use Rattle.closing.specs.Tables.{Lifted, rises, stays}
 
 module _ (words : List ℕ) (i y : ℕ) (words' : List ℕ) (hi : i < length words) where
@@ -30,6 +30,14 @@ module _ (words : List ℕ) (i y : ℕ) (words' : List ℕ) (hi : i < length wor
   pub lifted-size : Lifted words i y words' → length words' ≡ length words
   lifted-size (rises h q) = ap length q ∙ simp length-set
   lifted-size (stays h q) = ap length q
+
+-- the greater of the word and y stands there
+pub lifted-max : (words : List ℕ) (i y z : ℕ) → z ≡ max (get_or words i 0) y → Lifted words i y (set words i z)
+lifted-max words i y z e =
+    elim (dec_lt (get_or words i 0) y) [
+      | yes h ↦ let q : z ≡ y = omega (arith, e) in rises h (rw q refl)
+      | no h ↦ let q : z ≡ get_or words i 0 = omega (arith, e) in stays (omega arith) (rw (q, set-get_or words i 0) refl)
+    ]
 
 -- words of 0
 pub zeros : (n t : ℕ) → ◌≡◌ {A = ℕ} (get_or (replicate n 0) t 0) 0

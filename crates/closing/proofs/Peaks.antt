@@ -10,6 +10,7 @@ use lib.ListN.{length, get_or, set, replicate, length-set, length-replicate}
 use lib.Seq.{get_or-set_same, get_or-set_other}
 use borrow.Author.Tests.{eq-eqb, ne_eqb}
 use Rattle.nets.specs.Net.{Net, Usable}
+use Rattle.groups.specs.declared.Row.{Row}
 use Rattle.groups.specs.Grouped.{arc_count}
 use Rattle.passes.specs.RowsNet.{rows_net}
 use Rattle.closing.specs.Closed.{word_if, only_at, ClosedLevel}
@@ -29,7 +30,7 @@ first_word n start c v h =
     ]
 
 -- the level closed from there
-closed-peaks : {rows places best best' later : List ℕ} {s c b : ℕ} (n : ℕ) → s < n → best ≡ set (replicate n 0) s (c + 1) → length best ≡ n
+closed-peaks : {rows : List Row} {places best best' later : List ℕ} {s c b : ℕ} (n : ℕ) → s < n → best ≡ set (replicate n 0) s (c + 1) → length best ≡ n
     → Closes (stratum rows (level_alone (arc_count places n) b)) best best' later → PeaksFound rows places n s c b best'
 unfolding leaves_by
 closed-peaks {rows} {places} {best} {best'} {later} {s} {c} {b} n h q z k =
@@ -53,21 +54,19 @@ first-size : (n s y : ℕ) (best : List ℕ) → best ≡ set (replicate n 0) s 
 first-size n s y best q = ap length q ∙ length-set (replicate n 0) s y ∙ length-replicate {A = ℕ} n 0
 
 -- what is asked for the peaks, and the first table: what is asked to close the level, ..
-pub findable-closable : {rows places best later done hints first : List ℕ} {s c b m : ℕ} → Findable rows places s c b best later done hints
-    → m ≡ arc_count places (length best) → first ≡ set (replicate (length best) 0) s (c + 1)
-    → Closable (stratum rows (level_alone m b)) places first later done hints
-findable-closable {rows} {places} {best} {later} {done} {hints} {first} {s} {c} {b} {m} k p q =
+pub findable-closable : {rows : List Row} {places best later first : List ℕ} {s c b m : ℕ} → Findable rows places s c b best
+    → m ≡ arc_count places (length best) → first ≡ set (replicate (length best) 0) s (c + 1) → length later ≡ length best
+    → Closable (stratum rows (level_alone m b)) places first later
+findable-closable {rows} {places} {best} {later} {first} {s} {c} {b} {m} k p q l =
     let z : length first ≡ length best = first-size (length best) s (c + 1) first q in
     record {
       work =
           record {
             ready = rw (p, z) k.ready;
             low = record { low = λ v. low v (ap (λ (w : List ℕ). get_or w v 0) q ∙ first_word (length best) s c v k.starts) };
-            room = omega (arith, k.room);
           };
       placed = rw (p, z) k.placed;
-      size_later = k.size_later ∙ sym z;
-      size_done = k.size_done ∙ sym z;
+      size_later = l ∙ sym z;
     }
   where
     low : (v : ℕ) → get_or first v 0 ≡ only_at s (suc c) v → get_or first v 0 ≤ b + 1
@@ -78,7 +77,7 @@ findable-closable {rows} {places} {best} {later} {done} {hints} {first} {s} {c} 
         go false e = omega arith
 
 -- .. and what closing it gives
-pub findable-found : {rows places best later done hints first best' later' : List ℕ} {s c b m : ℕ} → Findable rows places s c b best later done hints
+pub findable-found : {rows : List Row} {places best first best' later' : List ℕ} {s c b m : ℕ} → Findable rows places s c b best
     → m ≡ arc_count places (length best) → first ≡ set (replicate (length best) 0) s (c + 1)
     → Closes (stratum rows (level_alone m b)) first best' later' → PeaksFound rows places (length best) s c b best'
 findable-found {rows} {places} {best} {s = s} {c = c} {b = b} k p q z =

@@ -1,6 +1,7 @@
 -- Walking a candidate loop, and climbing it from its top. Document 001, section 4: loops raised to their fixed point.
-use Rattle.std.specs.Prelude.{ℕ, ◌≤◌, ◌<◌, ◌≡◌, Bool, true, false, List, ◌⊎◌, length, get_or}
+use Rattle.std.specs.Prelude.{ℕ, ◌≤◌, ◌<◌, ◌≡◌, Bool, true, false, Option, Some, None, List, ◌⊎◌, length, get_or}
 use Rattle.walks.specs.BoundedStep.{after}
+use Rattle.closing.specs.declared.steps.Stepped.{Stepped}
 use Rattle.closing.specs.Closed.{Spread}
 use Rattle.closing.specs.Stratum.{Stratum, graph_of, left_out, leaving, Staying}
 use Rattle.closing.specs.Tables.{Low, Attained}
@@ -14,9 +15,9 @@ pub record Moved (S : Stratum) (a e : ℕ) (leaves : Bool) (t x : ℕ) : Type 0 
   pub enters : t ≡ (graph_of S).target a
 
 -- what trying arc a from charge e gives: it is left out or draws more, or else it moves
-pub record Moves (S : Stratum) (a e : ℕ) (possible leaves : Bool) (t x : ℕ) : Type 0 where
-  pub stuck : possible ≡ false → (left_out S a ≡ true) ⊎ (e < ((graph_of S).move a).draw)
-  pub moved : possible ≡ true → Moved S a e leaves t x
+abbrev pub Moves : Stratum → ℕ → ℕ → Option Stepped → Type 0
+Moves S a e None = (left_out S a ≡ true) ⊎ (e < ((graph_of S).move a).draw)
+Moves S a e (Some s) = Moved S a e s.leaves s.mode s.charge
 
 -- arc a, which stays in the level, takes mode u with charge e to mode t with charge x
 pub record Steps (S : Stratum) (a u e t x : ℕ) : Type 0 where

@@ -3,10 +3,12 @@ use Rattle.std.specs.Prelude.{ℕ, ◌≤◌, ◌<◌, ◌≡◌, Bool, true, fa
 use Rattle.limits.specs.Ceilings.{modes_most, arcs_most, colours_most}
 use Rattle.model.specs.Automaton.{bit}
 use Rattle.nets.specs.Graph.{Graph}
+use Rattle.groups.specs.declared.Row.{Row}
 use Rattle.groups.specs.Rows.{source_at, target_at, colours_at, barred_at, on_at}
 use Rattle.groups.specs.Grouped.{Grouped}
 use Rattle.passes.specs.RowsNet.{rows_graph}
 use Rattle.closing.specs.declared.Level.{Level}
+use Rattle.closing.specs.declared.Stage.{Stage}
 
 -- The highest bound. A charge up to it and a gain, a word of 16 bits, add up to a word of 32 bits.
 abbrev pub charge_most : ℕ
@@ -14,11 +16,14 @@ charge_most = 4000000000
 
 -- the level with its arcs
 pub record Stratum : Type 0 where
-  pub rows : List ℕ
+  pub rows : List Row
   pub numbers : Level
 
-abbrev pub stratum : List ℕ → Level → Stratum
+abbrev pub stratum : List Row → Level → Stratum
 stratum rows l = record { rows = rows; numbers = l }
+
+abbrev pub stratum_of : Stage → Stratum
+stratum_of s = stratum s.groups.now.rows s.level
 
 -- the level alone of m arcs, which no arc leaves
 abbrev pub level_alone : ℕ → ℕ → Level

@@ -2,6 +2,7 @@
 use Rattle.std.specs.Prelude.{ℕ, suc, ◌+◌, ◌≤◌, ◌<◌, ◌≡◌, Bool, true, false, List, length, get_or, set}
 use Rattle.walks.specs.BoundedStep.{after}
 use Rattle.nets.specs.Table.{Peaks}
+use Rattle.groups.specs.declared.Row.{Row}
 use Rattle.groups.specs.Grouped.{arc_count}
 use Rattle.passes.specs.RowsNet.{rows_net}
 use Rattle.passes.specs.Queue.{sum}
@@ -85,19 +86,16 @@ pub record Turned (S : Stratum) (best later done best' later' done' : List ℕ) 
   pub more : due ≡ true → sum done < sum done'
   pub settled : due ≡ false → (v : ℕ) → get_or best' v 0 ≤ get_or done' v 0
 
--- what is asked of a table best and of the words for hints, of which nothing else is known: the arc over which each mode rose, and then the arcs of
--- a candidate loop
-pub record Workable (S : Stratum) (best hints : List ℕ) : Type 0 where
+-- what is asked of a table best that is worked on
+pub record Workable (S : Stratum) (best : List ℕ) : Type 0 where
   pub ready : Ready S (length best)
   pub low : Low S best
-  pub room : length best + length best ≤ length hints
 
 -- what is asked of the tables of a level that is to be closed
-pub record Closable (S : Stratum) (places best later done hints : List ℕ) : Type 0 where
-  pub work : Workable S best hints
+pub record Closable (S : Stratum) (places best later : List ℕ) : Type 0 where
+  pub work : Workable S best
   pub placed : Placed S (length best) places
   pub size_later : length later ≡ length best
-  pub size_done : length done ≡ length best
 
 -- what closing a level leaves, from the table best
 pub record Closes (S : Stratum) (best best' later : List ℕ) : Type 0 where
@@ -106,18 +104,15 @@ pub record Closes (S : Stratum) (best best' later : List ℕ) : Type 0 where
   pub low : Low S best'
 
 -- what is asked for the peaks from mode s with credit c, under the bound b: rows and places of as many modes as best has words
-pub record Findable (rows places : List ℕ) (s c b : ℕ) (best later done hints : List ℕ) : Type 0 where
+pub record Findable (rows : List Row) (places : List ℕ) (s c b : ℕ) (best : List ℕ) : Type 0 where
   pub ready : Ready (stratum rows (level_alone (arc_count places (length best)) b)) (length best)
   pub placed : Placed (stratum rows (level_alone (arc_count places (length best)) b)) (length best) places
   pub starts : s < length best
   pub credit : c ≤ b
-  pub size_later : length later ≡ length best
-  pub size_done : length done ≡ length best
-  pub room : length best + length best ≤ length hints
 
 -- The table of the peaks of n modes. Document 02, Ask 9: "Keep for each mode the greatest charge with which it can be reached (the start mode by no
 -- arc with c), or unreached".
-pub record PeaksFound (rows places : List ℕ) (n s c b : ℕ) (best : List ℕ) : Type 0 where
+pub record PeaksFound (rows : List Row) (places : List ℕ) (n s c b : ℕ) (best : List ℕ) : Type 0 where
   pub peaks : (k : ℕ) → Peaks (rows_net rows n s k (arc_count places n)) b c (λ l t. get_or best t 0)
   pub size : length best ≡ n
   pub low : (v : ℕ) → get_or best v 0 ≤ b + 1

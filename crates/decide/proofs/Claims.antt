@@ -1,5 +1,6 @@
 -- What the decision claims: how a call comes to its claim, that the claim has one answer, and that calls for which the same plans serve have the same.
 -- Assumes nothing.
+use Rattle.std.specs.Prelude.{Ok, Err}
 use mathlib.Core.Path.{◌≡◌, refl, sym, ap, ◌∙◌}
 use mathlib.Core.Bool.{Bool, true, false}
 use mathlib.Core.List.{List}
@@ -9,9 +10,7 @@ use native.Mathlib.Omega.{arith}
 use lib.ListN.{length, replicate}
 use Rattle.refusals.specs.declared.Refusal.{Refusal}
 use Rattle.refusals.specs.declared.Answer.{Answer}
-use Rattle.refusals.specs.declared.Verdict.{Verdict}
-use Rattle.refusals.specs.declared.Verdict.TheVariants.{Yes, Refused}
-use Rattle.refusals.specs.Refusals.{answer_of}
+use Rattle.refusals.specs.Refusals.{Verdict, answer_of}
 use Rattle.refusals.proofs.Verdicts.{clash}
 use Rattle.model.specs.Automaton.{Automaton, bit}
 use Rattle.model.specs.Lists.{Lists, automaton_of}
@@ -23,7 +22,7 @@ use Rattle.decide.specs.Decide.{decidable, answer_if, Decision, DecideOf}
 
 module _ {v : Verdict} {g : Automaton} {x : ℕ} {on : List ℕ} {b c : ℕ} {work : List ℕ} where
   -- a refused call
-  pub decision-refused : {y : Refusal} → v ≡ Refused y → Decision v g x on b c work work (Refused y)
+  pub decision-refused : {y : Refusal} → v ≡ Err y → Decision v g x on b c work work (Err y)
   decision-refused {y} e =
       record {
         refused = λ z h. (sym e ∙ h, refl);
@@ -36,11 +35,11 @@ module _ {v : Verdict} {g : Automaton} {x : ℕ} {on : List ℕ} {b c : ℕ} {wo
         ten = λ h. not-both h;
       }
     where
-      not-both : {X : Type 0} → v ≡ Yes → X
+      not-both : {X : Type 0} → v ≡ Ok tt → X
       not-both h = clash (cc)
 
   -- a call that is decided
-  decision-decided : {work' : List ℕ} (some : Bool) → v ≡ Yes → (some ≡ true) ↔ SomePlanOn g x on b c → work' ≡ replicate (length work) 0
+  decision-decided : {work' : List ℕ} (some : Bool) → v ≡ Ok tt → (some ≡ true) ↔ SomePlanOn g x on b c → work' ≡ replicate (length work) 0
       → Decision v g x on b c work work' (answer_if some)
   decision-decided true e h z =
       let plan = h.0 refl in
@@ -68,13 +67,13 @@ module _ {v : Verdict} {g : Automaton} {x : ℕ} {on : List ℕ} {b c : ℕ} {wo
       }
 
   -- as the code answers it
-  pub decision-answered : {work' : List ℕ} {r : Verdict} (some : Bool) → r ≡ answer_if some → v ≡ Yes → (some ≡ true) ↔ SomePlanOn g x on b c
+  pub decision-answered : {work' : List ℕ} {r : Verdict} (some : Bool) → r ≡ answer_if some → v ≡ Ok tt → (some ≡ true) ↔ SomePlanOn g x on b c
       → work' ≡ replicate (length work) 0 → Decision v g x on b c work work' r
   decision-answered some q e h z = rw q (decision-decided some e h z)
 
 -- the decision in the words of plans: yes exactly where some plan is one of the model, feasible, accepted and of arcs that are on
 pub decide-plans : (n s k : ℕ) (l : Lists) (x : ℕ) (on : List ℕ) (b c : ℕ) {work work' : List ℕ} {r : Verdict}
-    → DecideOf n s k l x on b c work work' r → decidable n s k l b c (length work) ≡ Yes → let g = automaton_of n s k l in
+    → DecideOf n s k l x on b c work work' r → decidable n s k l b c (length work) ≡ Ok tt → let g = automaton_of n s k l in
     ((answer_of r).number ≡ 0)
     ↔ ((p : Plan) × IsPlan g p × Feasible g b c p × Accepted g x p × AllOn on p.prefix × AllOn on p.cycle)
 decide-plans n s k l x on b c {r = r} h e =
@@ -105,8 +104,8 @@ module _ {v : Verdict} {g : Automaton} {x : ℕ} {on : List ℕ} {b c : ℕ} {wo
   decide-one h h₂ = go v refl
     where
       go : (u : Verdict) → v ≡ u → r ≡ r₂
-      go (Refused y) e = (h.refused y e).0 ∙ sym (h₂.refused y e).0
-      go Yes e =
+      go (Err y) e = (h.refused y e).0 ∙ sym (h₂.refused y e).0
+      go (Ok _) e =
           ⊎_elim
           (λ yes. yes ∙ sym ((h₂.yes e).1 ((h.yes e).0 yes)))
           (λ no. no ∙ sym ((h₂.no_plan_iff e).1 ((h.no_plan_iff e).0 no)))
@@ -140,7 +139,7 @@ module _ (n s k : ℕ) (l : Lists) (b c : ℕ) {work work' : List ℕ} {r : Verd
 
   -- with every arc on it is about plans of any arcs
   pub decide-all-on : (x : ℕ) (on : List ℕ) → AllBelow (length (automaton_of n s k l).arcs) on → DecideOf n s k l x on b c work work' r
-      → decidable n s k l b c (length work) ≡ Yes → (r ≡ Yes) ↔ SomePlan (automaton_of n s k l) x b c
+      → decidable n s k l b c (length work) ≡ Ok tt → (r ≡ Ok tt) ↔ SomePlan (automaton_of n s k l) x b c
   decide-all-on x on all h e =
       let same = some-plan-all-on (automaton_of n s k l) x on all b c in
       (λ q. same.0 ((h.yes e).0 q), λ p. (h.yes e).1 (same.1 p))

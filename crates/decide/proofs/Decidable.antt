@@ -1,5 +1,6 @@
 -- Where none of 1 to 6 and 8 applies, and in which order they are looked at. Assumes nothing.
-use mathlib.Core.Path.{◌≡◌, refl, sym, ap, subst, subst₂, ◌∙◌}
+use Rattle.std.specs.Prelude.{Ok, Err}
+use mathlib.Core.Path.{◌≡◌, refl, ap, ◌∙◌}
 use mathlib.Core.Logic.{◌↔◌}
 use Prim.Native.Nat.{ℕ, ◌+◌, ◌*◌, ◌≤◌, ◌<◌}
 use native.Mathlib.Nat.{mul_assoc, add-mul, mul-le-mul}
@@ -8,25 +9,22 @@ use lib.Dec.{ltb}
 use Rattle.limits.specs.Ceilings.{work_levels, decide_bound_most, decide_words, decide_space}
 use Rattle.refusals.specs.declared.Refusal.{Refusal}
 use Rattle.refusals.specs.declared.Refusal.TheVariants.{WorkingSpace}
-use Rattle.refusals.specs.declared.Verdict.{Verdict}
-use Rattle.refusals.specs.declared.Verdict.TheVariants.{Yes, Refused}
-use Rattle.refusals.specs.Refusals.{and_then}
-use Rattle.refusals.proofs.Verdicts.{refuse-yes, and-then-yes}
+use Rattle.refusals.specs.Refusals.{Verdict, and_then}
+use Rattle.refusals.proofs.Verdicts.{clash, refuse-yes, and-then-yes}
 use Rattle.refusals.proofs.Tests.{lt_no}
 use Rattle.model.specs.Automaton.{Automaton}
-use Rattle.model.specs.declared.Fitted.{Fitted}
 use Rattle.model.specs.declared.Model.{Model}
 use Rattle.model.specs.Lists.{Lists, model_of, automaton_of, held}
-use Rattle.model.specs.Fitness.{fitness, levels_within, fitted_if, fitted_of, EqualLists, Fit, Holds}
+use Rattle.model.specs.Fitness.{fitness, levels_within, fitted_of, EqualLists, Fit}
 use Rattle.model.proofs.Fitness.{fitness-yes, levels-within-yes, fitted-held, fitted-holds}
 use Rattle.decide.specs.Decide.{space_of, levels_and_space, decidable}
-use Rattle.decide.specs.Within.{checked_of, Answerable}
+use Rattle.decide.specs.Within.{checked_with, checked_of, Answerable}
 
 -- 8 does not apply
-pub space-yes : (n k words : ℕ) → (space_of n k words ≡ Yes) ↔ (decide_space k n ≤ words)
+pub space-yes : (n k words : ℕ) → (space_of n k words ≡ Ok tt) ↔ (decide_space k n ≤ words)
 unfolding space_of
 space-yes n k words =
-    let row = refuse-yes (ltb words (decide_space k n)) WorkingSpace Yes in
+    let row = refuse-yes (ltb words (decide_space k n)) WorkingSpace (Ok tt) in
     let eight = lt_no words (decide_space k n) in
     (λ e. eight.0 (row.0 e).0, λ h. row.1 (eight.1 h, refl))
 
@@ -38,7 +36,7 @@ pub record Admitted (n s k : ℕ) (l : Lists) (b c words : ℕ) : Type 0 where
   pub credit : c ≤ b
   pub space : decide_space k n ≤ words
 
-pub decidable-yes : (n s k : ℕ) (l : Lists) (b c words : ℕ) → (decidable n s k l b c words ≡ Yes) ↔ Admitted n s k l b c words
+pub decidable-yes : (n s k : ℕ) (l : Lists) (b c words : ℕ) → (decidable n s k l b c words ≡ Ok tt) ↔ Admitted n s k l b c words
 unfolding decidable levels_and_space
 decidable-yes n s k l b c words =
     let outer = and-then-yes (fitness n s k l) (levels_and_space n k b c words) in
@@ -56,74 +54,66 @@ decidable-yes n s k l b c words =
 
 -- the order: 1 to 5, then 6, then 8
 module _ (n s k : ℕ) (l : Lists) (b c words : ℕ) where
-  pub decidable-unfit : (y : Refusal) → fitness n s k l ≡ Refused y → decidable n s k l b c words ≡ Refused y
+  pub decidable-unfit : (y : Refusal) → fitness n s k l ≡ Err y → decidable n s k l b c words ≡ Err y
   unfolding decidable
   decidable-unfit y e = rw e refl
 
-  pub decidable-levels : (y : Refusal) → fitness n s k l ≡ Yes → levels_within decide_bound_most b c ≡ Refused y → decidable n s k l b c words ≡ Refused y
+  pub decidable-levels : (y : Refusal) → fitness n s k l ≡ Ok tt → levels_within decide_bound_most b c ≡ Err y → decidable n s k l b c words ≡ Err y
   unfolding decidable levels_and_space
   decidable-levels y e h = ap {B = Verdict} (λ (v : Verdict). and_then v (levels_and_space n k b c words)) e ∙ ap {B = Verdict} (λ (v : Verdict). and_then v (space_of n k words)) h
 
-  pub decidable-space : fitness n s k l ≡ Yes → levels_within decide_bound_most b c ≡ Yes → decidable n s k l b c words ≡ space_of n k words
+  pub decidable-space : fitness n s k l ≡ Ok tt → levels_within decide_bound_most b c ≡ Ok tt → decidable n s k l b c words ≡ space_of n k words
   unfolding decidable levels_and_space
   decidable-space e h = ap {B = Verdict} (λ (v : Verdict). and_then v (levels_and_space n k b c words)) e ∙ ap {B = Verdict} (λ (v : Verdict). and_then v (space_of n k words)) h
 
--- as the code looks at them: y is what check_model answers
-pub told-checked : (n s k : ℕ) (l : Lists) (b c words : ℕ) (y : Fitted) → y ≡ fitted_of n s k l
-    → ◌≡◌ {A = Fitted} (record {
-      verdict = and_then y.verdict (and_then (levels_within decide_bound_most b c) (space_of y.model.modes y.model.colours words));
-      model = y.model;
-    })
-    (checked_of n s k l b c words)
-unfolding decidable levels_and_space fitted_of
-told-checked n s k l b c words y told =
-    ap {B = Fitted}
-    (λ (f : Fitted).
-    record {
-      verdict = and_then f.verdict (and_then (levels_within decide_bound_most b c) (space_of f.model.modes f.model.colours words));
-      model = f.model;
-    })
-    told
-    ∙ go (fitness n s k l)
+-- A model is handed back where a check says yes, ..
+pub handed-yes : (v : Verdict) (h : Model) {g : Model} → Ok g ≡ and_then v (Ok h) → (v ≡ Ok tt) × (g ≡ h)
+handed-yes (Ok _) h e = (refl, cc)
+handed-yes (Err r) h e = clash (cc)
+
+-- .. and else its refusal
+pub handed-refused : (v : Verdict) (h : Model) {r : Refusal} → Err r ≡ and_then v (Ok h) → v ≡ Err r
+handed-refused (Ok _) h e = clash (cc)
+handed-refused (Err q) h e = cc
+
+-- what 1 to 5 and a further check of the model hand back
+pub checked-handed : (n s k : ℕ) (l : Lists) (check : Model → Verdict)
+    → checked_with check (fitted_of n s k l) ≡ and_then (and_then (fitness n s k l) (check (model_of n s k l))) (Ok (model_of n s k l))
+unfolding fitted_of
+checked-handed n s k l check = go (fitness n s k l)
   where
-    go : (v : Verdict)
-        → ◌≡◌ {A = Fitted} (record {
-          verdict =
-              and_then (fitted_if v (model_of n s k l)).verdict
-              (and_then (levels_within decide_bound_most b c)
-              (space_of (fitted_if v (model_of n s k l)).model.modes (fitted_if v (model_of n s k l)).model.colours words));
-          model = (fitted_if v (model_of n s k l)).model;
-        })
-        (record { verdict = and_then v (levels_and_space n k b c words); model = (fitted_if v (model_of n s k l)).model })
-    go Yes = refl
-    go (Refused r) = refl
+    go : (v : Verdict) → checked_with check (and_then v (Ok (model_of n s k l))) ≡ and_then (and_then v (check (model_of n s k l))) (Ok (model_of n s k l))
+    go (Ok _) = refl
+    go (Err r) = refl
 
--- the model that the code is told is fit, and neither 6 nor 8 applies
-module _ (n s k : ℕ) (l : Lists) (b c words : ℕ) {y : Fitted} (told : y ≡ checked_of n s k l b c words) (yes : y.verdict ≡ Yes) where
-  pub told-yes : decidable n s k l b c words ≡ Yes
-  told-yes = sym (ap {B = Verdict} (λ (f : Fitted). f.verdict) told) ∙ yes
+module _ (n s k : ℕ) (l : Lists) (b c words : ℕ) where
+  told : checked_of n s k l b c words ≡ and_then (decidable n s k l b c words) (Ok (model_of n s k l))
+  unfolding decidable levels_and_space
+  told = checked-handed n s k l (λ g. and_then (levels_within decide_bound_most b c) (space_of g.modes g.colours words))
 
-  fitness-told : fitness n s k l ≡ Yes
-  unfolding decidable
-  fitness-told = ((and-then-yes (fitness n s k l) (levels_and_space n k b c words)).0 told-yes).0
+  -- as the code looks at them: one of 1 to 6 and 8 applies, ..
+  pub told-refused : {r : Refusal} → Err r ≡ checked_of n s k l b c words → decidable n s k l b c words ≡ Err r
+  told-refused e = handed-refused (decidable n s k l b c words) (model_of n s k l) (e ∙ told)
 
-  model-told : y.model ≡ (fitted_of n s k l).model
-  model-told = ap {B = Model} (λ (f : Fitted). f.model) told
+  -- .. or the model that the code is handed is fit, and neither 6 nor 8 applies
+  module _ {g : Model} (e : Ok g ≡ checked_of n s k l b c words) where
+    pub told-yes : decidable n s k l b c words ≡ Ok tt
+    told-yes = (handed-yes (decidable n s k l b c words) (model_of n s k l) (e ∙ told)).0
 
-  pub told-held : held y.model ≡ automaton_of n s k l
-  told-held = ap {B = Automaton} held model-told ∙ fitted-held n s k l fitness-told
+    fitness-told : fitness n s k l ≡ Ok tt
+    unfolding decidable
+    fitness-told = ((and-then-yes (fitness n s k l) (levels_and_space n k b c words)).0 told-yes).0
 
-  pub told-answerable : Answerable y.model b c words
-  told-answerable =
-      let a = (decidable-yes n s k l b c words).0 told-yes in
-      let modes : y.model.modes ≡ n = ap {B = ℕ} (λ (g : Automaton). g.modes) told-held in
-      let colours : y.model.colours ≡ k = ap {B = ℕ} (λ (g : Automaton). g.colours) told-held in
-      record {
-        holds = subst Holds (sym model-told) (fitted-holds n s k l fitness-told);
-        credit = a.credit;
-        low = a.low;
-        space = subst₂ (λ (x z : ℕ). decide_space x z ≤ words) (sym colours) (sym modes) a.space;
-      }
+    model-told : g ≡ model_of n s k l
+    model-told = (handed-yes (decidable n s k l b c words) (model_of n s k l) (e ∙ told)).1
+
+    pub told-held : held g ≡ automaton_of n s k l
+    told-held = ap {B = Automaton} held model-told ∙ (fitted-held n s k l fitness-told).1
+
+    pub told-answerable : Answerable g b c words
+    told-answerable =
+        let a = (decidable-yes n s k l b c words).0 told-yes in
+        rw model-told (record { holds = fitted-holds n s k l fitness-told; credit = a.credit; low = a.low; space = a.space })
 
 -- the product of the test fits its word
 pub space-low : (n k : ℕ) → n < 256 → k < 256 → decide_space k n ≤ decide_words * 256 * 256

@@ -13,6 +13,8 @@ use lib.Seq.{length-take-le, get_or-set_same, get_or-set_other, get_or-take, tak
 use borrow.Author.Tests.{eq-eqb, ne_eqb}
 use Rattle.limits.specs.Ceilings.{modes_most}
 use Rattle.nets.specs.Net.{Net, Fits, AcceptedLasso}
+use Rattle.std.specs.Prelude.{Some, None}
+use Rattle.groups.specs.declared.Row.{Row}
 use Rattle.passes.specs.Outcome.{Peak, KeptPeak, FirstKept}
 use Rattle.closing.specs.Closed.{word_if, only_at}
 use Rattle.closing.specs.Tables.{PeaksFound}
@@ -20,8 +22,11 @@ use Rattle.closing.proofs.Lifts.{zeros}
 use Rattle.sets.specs.Sets.{LastTable, PeakSet}
 use Rattle.sets.proofs.Sets.{set_first, set_next, set-kept, member-lasso, set-empty, one_kept}
 use Rattle.deciding.specs.declared.Question.{Question}
+use Rattle.deciding.specs.declared.Sifting.{Sifting}
+use Rattle.deciding.specs.declared.Sifting.TheVariants.{Empty, Same}
 use Rattle.deciding.specs.Deciding.{word, asked_net, Decidable, Below, Sifted, SiftedOnce, KeptFound}
 use Rattle.deciding.proofs.Words.{blank, word-inside}
+use Rattle.deciding.proofs.Sifts.{same-some}
 
 -- the set while it is sifted
 pub record Deciding (g : Net) (b c : ℕ) (kept : List ℕ) : Type 0 where
@@ -29,7 +34,7 @@ pub record Deciding (g : Net) (b c : ℕ) (kept : List ℕ) : Type 0 where
   pub below : Below b kept
 
 -- at first, the peaks of all modes
-pub deciding-first : {rows places best : List ℕ} {q : Question} {n : ℕ} → PeaksFound rows places n q.start q.credit q.bound best
+pub deciding-first : {rows : List Row} {places best : List ℕ} {q : Question} {n : ℕ} → PeaksFound rows places n q.start q.credit q.bound best
     → Deciding (asked_net rows places q (length best)) q.bound q.credit best
 deciding-first {rows} {places} {best} {q} {n} k =
     rw k.size (record {
@@ -40,13 +45,13 @@ deciding-first {rows} {places} {best} {q} {n} k =
     })
 
 -- the same of another name for the number of modes
-module _ (rows places : List ℕ) (q : Question) (n n' : ℕ) (e : n ≡ n') where
+module _ (rows : List Row) (places : List ℕ) (q : Question) (n n' : ℕ) (e : n ≡ n') where
   pub decidable-size : Decidable rows places q n → Decidable rows places q n'
   decidable-size k = subst (λ (u : ℕ). Decidable rows places q u) e k
 
-  pub sifted-size : {kept kept' : List ℕ} {changed some : Bool} → SiftedOnce (asked_net rows places q n) q.bound kept kept' changed some
-      → SiftedOnce (asked_net rows places q n') q.bound kept kept' changed some
-  sifted-size {kept} {kept'} {changed} {some} k = subst (λ (u : ℕ). SiftedOnce (asked_net rows places q u) q.bound kept kept' changed some) e k
+  pub sifted-size : {kept kept' : List ℕ} {s : Sifting} → SiftedOnce (asked_net rows places q n) q.bound kept kept' s
+      → SiftedOnce (asked_net rows places q n') q.bound kept kept' s
+  sifted-size {kept} {kept'} {s} k = subst (λ (u : ℕ). SiftedOnce (asked_net rows places q u) q.bound kept kept' s) e k
 
   pub kept-size : {kept : List ℕ} {some : Bool} → KeptFound (asked_net rows places q n) q.bound q.credit kept some
       → KeptFound (asked_net rows places q n') q.bound q.credit kept some
@@ -57,7 +62,7 @@ pub kept-lasso : {g : Net} {b c : ℕ} {kept : List ℕ} (some : Bool) → KeptF
 kept-lasso true k = (k.lasso, λ l. refl)
 kept-lasso false k = (λ e. absurd (false≢true e), λ l. absurd (k.none refl l))
 
-module _ {g : Net} {b c : ℕ} {kept kept' : List ℕ} {changed some : Bool} (k : Deciding g b c kept) (z : SiftedOnce g b kept kept' changed some) where
+module _ {g : Net} {b c : ℕ} {kept kept' : List ℕ} {s : Sifting} (k : Deciding g b c kept) (z : SiftedOnce g b kept kept' s) where
   -- sifted once more
   pub deciding-next : Deciding g b c kept'
   deciding-next =
@@ -80,7 +85,7 @@ module _ {g : Net} {b c : ℕ} {kept kept' : List ℕ} {changed some : Bool} (k 
 
   module _ (fits : Fits g) (hc : c ≤ b) where
     -- none is left
-    pub deciding-none : some ≡ false → KeptFound g b c kept' false
+    pub deciding-none : s ≡ Empty → KeptFound g b c kept' false
     deciding-none q =
         record {
           peaks = peaks-left;
@@ -91,10 +96,10 @@ module _ {g : Net} {b c : ℕ} {kept kept' : List ℕ} {changed some : Bool} (k 
         }
 
     -- all stay, and there are some
-    pub deciding-some : some ≡ true → changed ≡ false → KeptFound g b c kept' true
-    deciding-some q r =
-        let (same, up) = z.sifts.same r in
-        let (v, h) = z.sifts.left q in
+    pub deciding-same : s ≡ Same → KeptFound g b c kept' true
+    deciding-same q =
+        let (same, up) = z.sifts.same q in
+        let (v, h) = z.sifts.left (λ e. same-some (sym q ∙ e)) in
         let t = subst (λ (w : List ℕ). LastTable g b (word w) (word z.last)) (sym same) z.table in
         let m =
         set-kept g b c (word kept') (word z.last) deciding-next.members t
@@ -109,13 +114,13 @@ module _ {g : Net} {b c : ℕ} {kept kept' : List ℕ} {changed some : Bool} (k 
         }
 
 -- the set sifted by the table that a tour left in the words on the stack
-pub sifted-once : {g : Net} {b : ℕ} {kept kept' : List ℕ} {changed some : Bool} (part rest : List ℕ) → LastTable g b (word kept) (word part)
-    → length part ≡ length kept → Sifted kept (take (length kept) (part ++ rest)) kept' changed some → SiftedOnce g b kept kept' changed some
-sifted-once {kept = kept} {kept' = kept'} {changed = changed} {some = some} part rest t z k =
+pub sifted-once : {g : Net} {b : ℕ} {kept kept' : List ℕ} {s : Sifting} (part rest : List ℕ) → LastTable g b (word kept) (word part)
+    → length part ≡ length kept → Sifted kept (take (length kept) (part ++ rest)) kept' s → SiftedOnce g b kept kept' s
+sifted-once {kept = kept} {kept' = kept'} {s = s} part rest t z k =
     record {
       last = part;
       table = t;
-      sifts = subst (λ (w : List ℕ). Sifted kept w kept' changed some) (take_at part rest (length kept) z) k;
+      sifts = subst (λ (w : List ℕ). Sifted kept w kept' s) (take_at part rest (length kept) z) k;
     }
 
 -- one word alone is set in a table on the stack, of which a part is lent
@@ -148,7 +153,7 @@ module _ (n s y : ℕ) (few : n ≤ modes_most) (hs : s < n) where
       low v false q = omega arith
 
   -- the word is reached again exactly where a cycle keeps its charge
-  pub alone-kept : (rows places : List ℕ) (q : Question) (out rest : List ℕ) → 0 < y → length out ≡ length (take n alone)
+  pub alone-kept : (rows : List Row) (places : List ℕ) (q : Question) (out rest : List ℕ) → 0 < y → length out ≡ length (take n alone)
       → LastTable (asked_net rows places q (length (take n alone))) q.bound (word (take n alone)) (word out)
       → (y ≤ word (out ++ rest) s) ↔ KeptPeak (asked_net rows places q n) q.bound s y
   alone-kept rows places q out rest hy z t =
@@ -168,20 +173,18 @@ module _ (n s y : ℕ) (few : n ≤ modes_most) (hs : s < n) where
 
 -- of the modes below i none has a peak that a cycle keeps
 pub record NoneKept (g : Net) (b : ℕ) (kept : List ℕ) (i : ℕ) : Type 0 where
-  pub within : i ≤ g.modes
   pub none : (s : ℕ) → s < i → KeptPeak g b s (get_or kept s 0) → ⊥
 
 module _ {g : Net} {b : ℕ} {kept : List ℕ} where
   -- there is no mode below 0
   pub first-none : NoneKept g b kept 0
-  first-none = record { within = omega arith; none = λ s h. absurd (omega arith) }
+  first-none = record { none = λ s h. absurd (omega arith) }
 
   module _ {i : ℕ} (n : NoneKept g b kept i) where
     -- one mode more
-    pub first_more : i < g.modes → (KeptPeak g b i (get_or kept i 0) → ⊥) → NoneKept g b kept (i + 1)
-    first_more h q =
+    pub first_more : (KeptPeak g b i (get_or kept i 0) → ⊥) → NoneKept g b kept (i + 1)
+    first_more q =
         record {
-          within = omega arith;
           none = λ s hs k.
               elim (ℕ_discrete s i) [
                 | yes z ↦ q (rw z at k)
@@ -190,9 +193,9 @@ module _ {g : Net} {b : ℕ} {kept : List ℕ} where
         }
 
     -- the first mode whose peak is kept
-    pub first_found : KeptPeak g b i (get_or kept i 0) → FirstKept g b kept i
-    first_found k = record { within = n.within; kept = λ h. k; none = n.none }
+    pub first_found : i < g.modes → KeptPeak g b i (get_or kept i 0) → FirstKept g b kept (Some i)
+    first_found h k = record { mode = h; kept = k; none = n.none }
 
     -- every mode is tried
-    pub first-end : g.modes ≤ i → FirstKept g b kept i
-    first-end h = record { within = n.within; kept = λ q. absurd (omega arith); none = n.none }
+    pub first-end : g.modes ≤ i → FirstKept g b kept None
+    first-end h = λ s hs. n.none s (omega arith)

@@ -3,37 +3,22 @@ use mathlib.Core.Path.{◌≡◌, refl, sym, ap, ◌∙◌}
 use mathlib.Core.Bool.{Bool, true, false, false≢true, not}
 use mathlib.Core.List.{List, [], ◌∷◌}
 use mathlib.Core.Logic.{inl, inr}
-use Prim.Native.Nat.{ℕ, ◌+◌}
+use Prim.Native.Nat.{ℕ}
 use native.Mathlib.Omega.{arith}
-use native.Mathlib.Decide.{ℕ_discrete}
 use lib.ListN.{get_or, replicate}
 use Rattle.model.specs.Automaton.{bit}
 use Rattle.model.specs.Plans.{SomeArc}
 use Rattle.nets.specs.Graph.{Leads}
 use Rattle.nets.specs.Net.{Lasts}
-use Rattle.groups.specs.Rows.{colours_at, barred_at, on_at}
+use Rattle.groups.specs.declared.Row.{Row}
+use Rattle.groups.specs.Rows.{colours_at, barred_at}
 use Rattle.groups.specs.Grouped.{arc_count}
 use Rattle.closing.proofs.Lifts.{zeros}
 use Rattle.deciding.specs.declared.Question.{Question}
-use Rattle.deciding.specs.Deciding.{asked_net, Unmet, SomeUnmet, KeptFound}
-
--- before the first arc nothing is met, and one arc more
-pub unmet-none : (rows : List ℕ) (j : ℕ) → Unmet rows 0 j
-unmet-none rows j = record { misses = λ a h. absurd (omega arith) }
-
-pub unmet-more : {rows : List ℕ} {m j : ℕ} → Unmet rows m j
-    → (on_at rows m ≡ true → barred_at rows m ≡ false → bit (colours_at rows m) j ≡ false) → Unmet rows (m + 1) j
-unmet-more {m = m} k here =
-    record {
-      misses = λ a h o q.
-          elim (ℕ_discrete a m) [
-            | yes e ↦ rw e (here (rw e at o) (rw e at q))
-            | no e ↦ k.misses a (omega arith) o q
-          ];
-    }
+use Rattle.deciding.specs.Deciding.{asked_net, SomeUnmet, KeptFound}
 
 -- arcs that last meet it nowhere, so that no cycle has it
-module _ (rows places : List ℕ) (q : Question) (n : ℕ) (k : SomeUnmet rows (arc_count places n) q.duties) where
+module _ (rows : List Row) (places : List ℕ) (q : Question) (n : ℕ) (k : SomeUnmet rows (arc_count places n) q.duties) where
   lasting-no : (β : Bool) → not β ≡ true → β ≡ false
   lasting-no true h = absurd (false≢true h)
   lasting-no false h = refl
@@ -42,7 +27,7 @@ module _ (rows places : List ℕ) (q : Question) (n : ℕ) (k : SomeUnmet rows (
       → SomeArc (λ a. bit (colours_at rows a) k.duty) w → ⊥
   none-meets [] s t d h = h
   none-meets (a ∷ w) s t d (inl h) =
-      false≢true (sym (k.unmet.misses a d.0.0.0 d.0.0.1 (lasting-no (barred_at rows a) d.0.1)) ∙ h)
+      false≢true (sym (k.unmet a d.0.0.0 d.0.0.1 (lasting-no (barred_at rows a) d.0.1)) ∙ h)
   none-meets (a ∷ w) s t d (inr h) = none-meets w ((asked_net rows places q n).graph.target a) t d.2 h
 
   pub unmet-none-kept : (kept : List ℕ) → kept ≡ replicate n 0 → KeptFound (asked_net rows places q n) q.bound q.credit kept false

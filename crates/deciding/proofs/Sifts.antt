@@ -1,5 +1,5 @@
 -- A set sifted, one word after the other. Assumes nothing.
-use mathlib.Core.Path.{◌≡◌, refl, sym, ◌∙◌}
+use mathlib.Core.Path.{◌≡◌, refl, sym, ap, ◌∙◌}
 use mathlib.Core.Bool.{Bool, true, false, false≢true, true≢false, ◌||◌}
 use mathlib.Core.List.{List}
 use mathlib.Core.Logic.{◌⊎◌, inl, inr, ⊎_elim}
@@ -13,6 +13,8 @@ use borrow.Author.Tests.{leb-true, ltb-true, ltb-false}
 use Rattle.passes.specs.Queue.{sum}
 use Rattle.closing.specs.Closed.{word_if}
 use Rattle.sets.specs.Sets.{sifted}
+use Rattle.deciding.specs.declared.Sifting.{Sifting}
+use Rattle.deciding.specs.declared.Sifting.TheVariants.{Empty, Same, Fewer}
 use Rattle.deciding.specs.Deciding.{word, Sifted}
 use Rattle.deciding.proofs.Words.{word-inside, set_sum}
 
@@ -123,19 +125,23 @@ sifted-to-more {kept} {last} {v} {changed} {some} kept' y changed' some' hv k q 
           | no i ↦ omega (arith, h (omega arith))
         ]
 
-pub sifted-to-done : {kept last kept' : List ℕ} {v : ℕ} {changed some : Bool} → length last ≡ length kept → length kept ≤ v
-    → SiftedTo kept last kept' v changed some → Sifted kept last kept' changed some
-sifted-to-done {kept} {last} {kept'} {v} {changed} {some} z h k =
+-- all words are sifted
+sifted_all : {kept last kept' : List ℕ} {v : ℕ} {changed some : Bool} (s : Sifting) → length last ≡ length kept → length kept ≤ v
+    → (s ≡ Same → changed ≡ false) → (s ≡ Fewer → changed ≡ true) → ((s ≡ Empty → ⊥) → some ≡ true) → (s ≡ Empty → some ≡ false)
+    → SiftedTo kept last kept' v changed some → Sifted kept last kept' s
+sifted_all {kept} {last} {kept'} {v} {changed} {some} s z h same fewer left none k =
     record {
       words = λ i.
           elim (dec_le v i) [
             | yes q ↦ past i (k.rest i q) (omega (arith, sifted-low (word kept i) (word last i), out i q))
             | no q ↦ k.done i (omega arith)
           ];
-      same = λ q. ((k.same q).0, λ i. elim (dec_le v i) [ yes u ↦ omega (arith, out i u) | no u ↦ (k.same q).1 i (omega arith) ]);
-      fewer = k.fewer;
-      left = λ q. let (i, a, b) = k.left q in (i, a);
-      none = λ q i. elim (dec_le v i) [ yes u ↦ omega (arith, out i u, k.rest i u) | no u ↦ k.none q i (omega arith) ];
+      same = λ q.
+          let e = same q in
+          ((k.same e).0, λ i. elim (dec_le v i) [ yes u ↦ omega (arith, out i u) | no u ↦ (k.same e).1 i (omega arith) ]);
+      fewer = λ q. k.fewer (fewer q);
+      left = λ q. let (i, a, b) = k.left (left q) in (i, a);
+      none = λ q i. elim (dec_le v i) [ yes u ↦ omega (arith, out i u, k.rest i u) | no u ↦ k.none (none q) i (omega arith) ];
     }
   where
     out : (i : ℕ) → v ≤ i → word kept i ≤ 0
@@ -147,3 +153,30 @@ sifted-to-done {kept} {last} {kept'} {v} {changed} {some} z h k =
 
     past : (i : ℕ) → word kept' i ≡ word kept i → word kept i ≡ sifted (word kept i) (word last i) → word kept' i ≡ sifted (word kept i) (word last i)
     past i p q = p ∙ q
+
+-- what sifting makes of a set, as a number
+abbrev number : Sifting → ℕ
+number Empty = 0
+number Same = 1
+number Fewer = 2
+
+clash : (s t : Sifting) → (number s ≡ number t → ⊥) → s ≡ t → ⊥
+clash s t n e = n (ap {B = ℕ} number e)
+
+pub same-some : Same ≡ Empty → ⊥
+same-some = clash Same Empty (λ e. omega arith)
+
+module _ {kept last kept' : List ℕ} {v : ℕ} {changed some : Bool} (z : length last ≡ length kept) (h : length kept ≤ v) where
+  pub sifted-empty : some ≡ false → SiftedTo kept last kept' v changed some → Sifted kept last kept' Empty
+  sifted-empty q k =
+      sifted_all Empty z h (λ e. absurd (clash Empty Same (λ i. omega arith) e)) (λ e. absurd (clash Empty Fewer (λ i. omega arith) e))
+      (λ n. absurd (n refl)) (λ e. q) k
+
+  pub sifted-fewer : some ≡ true → changed ≡ true → SiftedTo kept last kept' v changed some → Sifted kept last kept' Fewer
+  sifted-fewer q r k =
+      sifted_all Fewer z h (λ e. absurd (clash Fewer Same (λ i. omega arith) e)) (λ e. r) (λ n. q)
+      (λ e. absurd (clash Fewer Empty (λ i. omega arith) e)) k
+
+  pub sifted-same : some ≡ true → changed ≡ false → SiftedTo kept last kept' v changed some → Sifted kept last kept' Same
+  sifted-same q r k =
+      sifted_all Same z h (λ e. r) (λ e. absurd (clash Same Fewer (λ i. omega arith) e)) (λ n. q) (λ e. absurd (same-some e)) k

@@ -3,7 +3,7 @@ use mathlib.Core.Path.{◌≡◌, refl, sym, ap, subst, ◌∙◌}
 use mathlib.Core.Bool.{Bool, true, false, false≢true, true≢false, not, ◌&&◌, ◌||◌}
 use mathlib.Core.List.{List, ◌++◌}
 use mathlib.Core.Logic.{◌↔◌}
-use Prim.Native.Nat.{ℕ, zero, suc, ◌+◌, ◌≤◌, ◌<◌}
+use Prim.Native.Nat.{ℕ, zero, suc, ◌+◌, ◌≤◌, ◌<◌, max}
 use native.Mathlib.Omega.{arith}
 use lib.Dec.{ltb}
 use lib.ListN.{length, take}
@@ -12,6 +12,7 @@ use Rattle.limits.specs.Ceilings.{modes_most, colours_most}
 use Rattle.model.specs.Automaton.{bit}
 use Rattle.nets.specs.Net.{Net, Lasts}
 use Rattle.nets.specs.Table.{raised_if}
+use Rattle.groups.specs.declared.Row.{Row}
 use Rattle.groups.specs.Rows.{colours_at, barred_at, on_at}
 use Rattle.groups.specs.Grouped.{arc_count}
 use Rattle.passes.specs.RowsNet.{rows_net}
@@ -52,6 +53,10 @@ pub last-low : (k : ℕ) → k ≤ colours_most → last_of k ≤ colours_most
 last-low zero h = omega arith
 last-low (suc k) h = h
 
+pub last-max : (k : ℕ) → last_of k ≡ max k 1
+last-max zero = refl
+last-max (suc k) = omega arith
+
 -- the arcs that stay and those that leave, in the words of levels
 stay-iff : (m a l : ℕ) (o β v : Bool) → (((a < m) × (o ≡ true) × (β ≡ false)) × (v ≡ false))
     ↔ ((((a < m) × (o ≡ true)) × (not β ≡ true)) × (raised_if v l ≡ l))
@@ -70,7 +75,7 @@ leaves-every : (p q : Bool) → p || (p && q) ≡ p && true
 leaves-every true q = refl
 leaves-every false q = refl
 
-module _ (rows : List ℕ) (n s m b : ℕ) where
+module _ (rows : List Row) (n s m b : ℕ) where
   abbrev net : ℕ → Net
   net k = rows_net rows n s k m
 
@@ -107,18 +112,18 @@ module _ (rows : List ℕ) (n s m b : ℕ) where
   counted-n (suc k) = refl
 
 -- the net counted of what is asked
-abbrev counted_net : List ℕ → List ℕ → Question → ℕ → Net
+abbrev counted_net : List Row → List ℕ → Question → ℕ → Net
 counted_net rows places q n = counted (asked_net rows places q n)
 
 -- The levels below l are closed: best has the greatest charges with which level l is entered from the members of the set from.
-pub record Touring (rows places : List ℕ) (q : Question) (n : ℕ) (from best : List ℕ) (l : ℕ) : Type 0 where
+pub record Touring (rows : List Row) (places : List ℕ) (q : Question) (n : ℕ) (from best : List ℕ) (l : ℕ) : Type 0 where
   pub within : l ≤ last_of q.duties
   pub size : length best ≡ n
   pub below : Below q.bound best
   pub entered : Entered (counted_net rows places q n) (Lasts (counted_net rows places q n)) (counted_net rows places q n).duties q.bound (word from) l
       (word best)
 
-module _ {rows places : List ℕ} {q : Question} {n : ℕ} (able : Decidable rows places q n) where
+module _ {rows : List Row} {places : List ℕ} {q : Question} {n : ℕ} (able : Decidable rows places q n) where
   abbrev G : Net
   G = counted_net rows places q n
 
@@ -153,9 +158,6 @@ module _ {rows places : List ℕ} {q : Question} {n : ℕ} (able : Decidable row
       }
 
   module _ {from best : List ℕ} {l : ℕ} {numbers : Level} (k : Touring rows places q n from best l) (e : numbers ≡ numbers_at l) where
-    pub touring-last : numbers.last ≡ last_of q.duties
-    touring-last = ap {B = ℕ} (λ (u : Level). u.last) e ∙ level-last (arc_count places n) q.duties q.bound l
-
     pub touring-enterable : Enterable (stratum rows numbers) places best
     touring-enterable =
         rw e (record {
@@ -206,21 +208,13 @@ enters-next {S} {best} {closed} {later} rest k z q =
     record { closed = closed; closes = subst (λ (w : List ℕ). Closes S best closed w) (sym same) k; size = ap length same ∙ z }
 
 -- what closing a level asks, with words on the stack
-pub enterable-closable : {S : Stratum} {places best later done hints : List ℕ} → Enterable S places best → length later ≡ length best
-    → length done ≡ length best → modes_most + modes_most ≤ length hints → Closable S places best later done hints
-enterable-closable k z y h =
-    record {
-      work = record { ready = k.ready; low = k.low; room = omega (arith, k.ready.few_modes) };
-      placed = k.placed;
-      size_later = z;
-      size_done = y;
-    }
+pub enterable-closable : {S : Stratum} {places best later : List ℕ} → Enterable S places best → length later ≡ length best → Closable S places best later
+enterable-closable k z = record { work = record { ready = k.ready; low = k.low }; placed = k.placed; size_later = z }
 
 -- what the peaks ask
-pub decidable-findable : {rows places : List ℕ} {q : Question} {best later done hints : List ℕ} → Decidable rows places q (length best)
-    → length later ≡ length best → length done ≡ length best → modes_most + modes_most ≤ length hints
-    → Findable rows places q.start q.credit q.bound best later done hints
-decidable-findable able z y h =
+pub decidable-findable : {rows : List Row} {places : List ℕ} {q : Question} {best : List ℕ} → Decidable rows places q (length best)
+    → Findable rows places q.start q.credit q.bound best
+decidable-findable able =
     record {
       ready =
           record {
@@ -233,13 +227,10 @@ decidable-findable able z y h =
       placed = able.grouped;
       starts = able.fits.starts;
       credit = able.credit;
-      size_later = z;
-      size_done = y;
-      room = omega (arith, able.few_modes);
     }
 
 -- a set that was copied is toured as the set
-module _ (rows places : List ℕ) (q : Question) {from copied : List ℕ} (same : copied ≡ from) where
+module _ (rows : List Row) (places : List ℕ) (q : Question) {from copied : List ℕ} (same : copied ≡ from) where
   pub copied-asked : Decidable rows places q (length from) → Below q.bound from → Decidable rows places q (length copied) × Below q.bound copied
   copied-asked able low =
       subst (λ (w : List ℕ). Decidable rows places q (length w) × Below q.bound w) (sym same) (able, low)

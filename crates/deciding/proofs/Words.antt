@@ -1,11 +1,11 @@
 -- Words that are lent: a part of a table on the stack, a word that is not 0, a word that is set. Assumes nothing.
-use mathlib.Core.Path.{◌≡◌, sym, ◌∙◌}
+use mathlib.Core.Path.{◌≡◌, sym}
 use mathlib.Core.List.{List, ◌++◌}
-use Prim.Native.Nat.{ℕ, ◌+◌, ◌≤◌, ◌<◌}
+use Prim.Native.Nat.{ℕ, ◌≤◌, ◌<◌}
 use native.Mathlib.Omega.{arith}
-use native.Mathlib.Decide.{dec_lt, ℕ_discrete}
+use native.Mathlib.Decide.{dec_lt}
 use lib.ListN.{length, get_or, set, take, drop, replicate, get_or-eq_default}
-use lib.Seq.{length-take-le, length_front, get_or-set_same, get_or-set_other}
+use lib.Seq.{length-take-le, length_front}
 use Rattle.limits.specs.Ceilings.{modes_most}
 use Rattle.passes.specs.Queue.{sum}
 use Rattle.passes.proofs.Queue.{sum-set}
@@ -26,15 +26,6 @@ module _ (part : List ℕ) (n : ℕ) (few : n ≤ modes_most) (size : length par
 
   pub lent_back : n ≡ length (take n (part ++ drop n blank))
   lent_back = sym (length-take-le n (part ++ drop n blank) back_fits)
-
--- a word more is copied
-pub copied_more : (from to : List ℕ) (i : ℕ) → i < length to → ((j : ℕ) → j < i → word to j ≡ word from j)
-    → (j : ℕ) → j < i + 1 → word (set to i (word from i)) j ≡ word from j
-copied_more from to i hi k j h =
-    elim (ℕ_discrete j i) [
-      | yes e ↦ rw e (get_or-set_same to i (word from i) 0 hi)
-      | no e ↦ get_or-set_other to i j (word from i) 0 e ∙ k j (omega arith)
-    ]
 
 -- a word that is not 0 stands in the list
 pub word-inside : (w : List ℕ) (v : ℕ) → 0 < word w v → v < length w

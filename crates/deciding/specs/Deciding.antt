@@ -4,6 +4,7 @@ use Rattle.std.specs.Prelude.{ℕ, zero, suc, ◌+◌, ◌≤◌, ◌<◌, ◌�
 use Rattle.limits.specs.Ceilings.{modes_most, arcs_most, colours_most}
 use Rattle.nets.specs.Net.{Net, Fits, AcceptedLasso}
 use Rattle.model.specs.Automaton.{bit}
+use Rattle.groups.specs.declared.Row.{Row}
 use Rattle.groups.specs.Rows.{source_at, colours_at, barred_at, on_at}
 use Rattle.groups.specs.Grouped.{arc_count, Grouped}
 use Rattle.passes.specs.RowsNet.{rows_net}
@@ -13,7 +14,10 @@ use Rattle.closing.specs.declared.Level.{Level}
 use Rattle.closing.specs.Stratum.{Stratum, charge_most, Ready, Placed}
 use Rattle.closing.specs.Tables.{Low, Closes}
 use Rattle.sets.specs.Sets.{sifted, LastTable, KeptMember}
+use Rattle.deciding.specs.declared.Asked.{Asked}
 use Rattle.deciding.specs.declared.Question.{Question}
+use Rattle.deciding.specs.declared.Sifting.{Sifting}
+use Rattle.deciding.specs.declared.Sifting.TheVariants.{Empty, Same, Fewer}
 
 -- a list of words as a table
 abbrev pub word : List ℕ → ℕ → ℕ
@@ -30,11 +34,11 @@ level_at m zero b l = record { arcs = m; level = l; last = 1; every = ltb l 1; l
 level_at m (suc k) b l = record { arcs = m; level = l; last = suc k; every = false; lasting = true; bound = b }
 
 -- the net that is asked about, of n modes
-abbrev pub asked_net : List ℕ → List ℕ → Question → ℕ → Net
+abbrev pub asked_net : List Row → List ℕ → Question → ℕ → Net
 asked_net rows places q n = rows_net rows n q.start q.duties (arc_count places n)
 
 -- what is asked of rows, groups and numbers, with tables of n modes
-pub record Decidable (rows places : List ℕ) (q : Question) (n : ℕ) : Type 0 where
+pub record Decidable (rows : List Row) (places : List ℕ) (q : Question) (n : ℕ) : Type 0 where
   pub few_modes : n ≤ modes_most
   pub few_arcs : arc_count places n ≤ arcs_most
   pub few_duties : q.duties ≤ colours_most
@@ -42,6 +46,13 @@ pub record Decidable (rows places : List ℕ) (q : Question) (n : ℕ) : Type 0 
   pub grouped : Grouped (λ a. source_at rows a) (λ a. on_at rows a) n (arc_count places n) places
   pub credit : q.credit ≤ q.bound
   pub low : q.bound ≤ charge_most
+
+-- the same of what is asked with its groups
+abbrev pub net_of : Asked → ℕ → Net
+net_of a n = asked_net a.groups.now.rows a.groups.now.places a.question n
+
+abbrev pub Askable : Asked → ℕ → Type 0
+Askable a n = Decidable a.groups.now.rows a.groups.now.places a.question n
 
 -- no word is above the bound's
 pub record Below (b : ℕ) (w : List ℕ) : Type 0 where
@@ -64,25 +75,25 @@ pub record EntersNext (S : Stratum) (best best' : List ℕ) : Type 0 where
   pub size : length best' ≡ length best
 
 -- what sifting leaves of the set, by the last level: the words of the members that are reached again with their peak or more
-pub record Sifted (set last set' : List ℕ) (changed some : Bool) : Type 0 where
+pub record Sifted (set last set' : List ℕ) (s : Sifting) : Type 0 where
   pub words : (v : ℕ) → word set' v ≡ sifted (word set v) (word last v)
-  pub same : changed ≡ false → (set' ≡ set) × ((v : ℕ) → word set v ≤ word last v)
-  pub fewer : changed ≡ true → sum set' < sum set
-  pub left : some ≡ true → (v : ℕ) × (0 < word set' v)
-  pub none : some ≡ false → (v : ℕ) → word set' v ≤ 0
+  pub same : s ≡ Same → (set' ≡ set) × ((v : ℕ) → word set v ≤ word last v)
+  pub fewer : s ≡ Fewer → sum set' < sum set
+  pub left : (s ≡ Empty → ⊥) → (v : ℕ) × (0 < word set' v)
+  pub none : s ≡ Empty → (v : ℕ) → word set' v ≤ 0
 
 -- the same by a tour from all members
-pub record SiftedOnce (g : Net) (b : ℕ) (set set' : List ℕ) (changed some : Bool) : Type 0 where
+pub record SiftedOnce (g : Net) (b : ℕ) (set set' : List ℕ) (s : Sifting) : Type 0 where
   pub last : List ℕ
   pub table : LastTable g b (word set) (word last)
-  pub sifts : Sifted set last set' changed some
+  pub sifts : Sifted set last set' s
 
 -- no arc of m that may stand in a cycle, being on and without a barred colour, meets duty j
-pub record Unmet (rows : List ℕ) (m j : ℕ) : Type 0 where
-  pub misses : (a : ℕ) → a < m → on_at rows a ≡ true → barred_at rows a ≡ false → bit (colours_at rows a) j ≡ false
+abbrev pub Unmet : List Row → ℕ → ℕ → Type 0
+Unmet rows m j = (a : ℕ) → a < m → on_at rows a ≡ true → barred_at rows a ≡ false → bit (colours_at rows a) j ≡ false
 
 -- of k duties, some
-pub record SomeUnmet (rows : List ℕ) (m k : ℕ) : Type 0 where
+pub record SomeUnmet (rows : List Row) (m k : ℕ) : Type 0 where
   pub duty : ℕ
   pub below : duty < k
   pub unmet : Unmet rows m duty

@@ -5,57 +5,29 @@ ghost use Rattle.model.specs.Automaton.{bit};
 ghost use Rattle.groups.specs.Rows.{colours_at, barred_at, on_at};
 ghost use Rattle.deciding.specs.Deciding.{Unmet, SomeUnmet};
 
-use groups::WORDS;
-use groups::reading::{colours_of, has_barred, is_on};
-
-// Whether the colours have a duty.
-fn has_duty(colours: u16, duty: usize) -> bool
-    requires { duty < colours_most }
-    ensures { result ≡ bit colours duty }
-{
-    ((colours as u32) >> (duty as u32)) % 2 == 1
-}
+use groups::Groups;
+use model::has_bit;
 
 // Whether an arc may stand in a cycle and meets a duty.
-fn is_meeting(rows: &[u16; WORDS], a: usize, duty: usize) -> bool
+fn is_meeting(groups: &Groups, a: usize, duty: usize) -> bool
     requires { (a < arcs_most) × (duty < colours_most) }
-    ensures { result ≡ false → on_at rows.now a ≡ true → barred_at rows.now a ≡ false → bit (colours_at rows.now a) duty ≡ false }
+    ensures { result ≡ false → on_at groups.now.rows a ≡ true → barred_at groups.now.rows a ≡ false → bit (colours_at groups.now.rows a) duty ≡ false }
 {
-    if !is_on(rows, a) {
-        return false;
-    }
-    if has_barred(rows, a) {
-        return false;
-    }
-    has_duty(colours_of(rows, a), duty)
+    groups.is_on(a) && !groups.has_barred(a) && has_bit(u64::from(groups.colours_of(a)), duty)
 }
 
 // Whether no arc that may stand in a cycle meets a duty.
-fn is_unmet(rows: &[u16; WORDS], arcs: usize, duty: usize) -> bool
+fn is_unmet(groups: &Groups, arcs: usize, duty: usize) -> bool
     requires { (arcs ≤ arcs_most) × (duty < colours_most) }
-    ensures { result ≡ true → Unmet rows.now arcs duty }
+    ensures { result ≡ true → Unmet groups.now.rows arcs duty }
 {
-    let mut a = 0;
-    while a < arcs {
-        if is_meeting(rows, a, duty) {
-            return false;
-        }
-        a += 1;
-    }
-    true
+    (0..arcs).all(|a| !is_meeting(groups, a, duty))
 }
 
 // Whether there is such a duty.
-pub fn some_unmet(rows: &[u16; WORDS], arcs: usize, duties: usize) -> bool
+pub fn some_unmet(groups: &Groups, arcs: usize, duties: usize) -> bool
     requires { (arcs ≤ arcs_most) × (duties ≤ colours_most) }
-    ensures { result ≡ true → SomeUnmet rows.now arcs duties }
+    ensures { result ≡ true → SomeUnmet groups.now.rows arcs duties }
 {
-    let mut duty = 0;
-    while duty < duties {
-        if is_unmet(rows, arcs, duty) {
-            return true;
-        }
-        duty += 1;
-    }
-    false
+    (0..duties).any(|duty| is_unmet(groups, arcs, duty))
 }

@@ -1,6 +1,9 @@
-// The fitting desk's entries: judging, search, gauge, walk, reading, the join, wards and the table of greatest charges, to be called from C.
+// The fitting desk's entries: judging, search, the decision without a plan, the least credit and the least bound, gauge, walk, reading, the join, wards and the
+// table of greatest charges, to be called from C.
 // include/chargeplan.h declares and explains them.
 // C passes a slice as two arguments, a pointer and a length, and a `&mut` as a pointer.
+// It passes a model, a plan and the switches part by part (the C interface), and each entry makes of them the structs that the calls take. (No helper: a call
+// of nine arguments is no plainer than the fields by name.)
 #![tactic(auto)]
 
 ghost use Rattle.std.specs.Prelude.{◌≡◌, not, eqb};
@@ -13,17 +16,19 @@ ghost use Rattle.packing.specs.Desk.{four_words, desk_judged, desk_started, desk
 ghost use Rattle.least.specs.declared.Sought.TheVariants.{Credit, Bound};
 
 use decide::decide;
+use filling::LentLists;
 use gauge::Gauge;
 use join::join;
-use judge::judge;
+use judge::{GivenPlan, judge};
 use least::{least_bound, least_credit};
 use lent_gauge::step;
-use packing::{Reached, Read, Started, pack, pack_alone, pack_least, tell};
-use planwalk::walk;
+use model::{Given, Lists};
+use packing::{Reached, Read, Started, pack, pack_alone, pack_least, pack_reached, pack_started};
+use planwalk::{WalkAnswer, walk};
 use reach::Reach;
 use reading::read;
 use refusals::Answer;
-use search::search;
+use search::{SearchAnswer, search};
 use ward::{Wearer, ward};
 
 // Judging: number 0 for yes, or the first of 1 to 6, 11 to 16, 24 and 17 that applies. For all numbers, lists and plans.
@@ -47,10 +52,17 @@ pub extern "C" fn chargeplan_judge(
 ) -> u64
     ensures { result ≡ desk_judged n start k (lists sources.now targets.now draws.now gains.now colours.now actions.now) barred b c p q plan.now }
 {
-    let verdict = judge(
-        n, start, k, sources, targets, draws, gains, colours, actions, c, b, barred, p, q, plan,
-    );
-    pack_alone(verdict.answer())
+    let lists = Lists {
+        sources,
+        targets,
+        draws,
+        gains,
+        colours,
+        actions,
+    };
+    let given = Given { n, start, k, lists };
+    let plan = GivenPlan { p, q, arcs: plan };
+    pack_alone(Answer::from(judge(&given, c, b, barred, &plan)))
 }
 
 // Search: number 0 with p and q of a plan in the plan buffer, 10 where there is none of arcs that are on, or the first of 1 to 9 that applies. For
@@ -78,26 +90,18 @@ pub extern "C" fn chargeplan_search(
 ) -> u64
     ensures { DeskSearched n start k (lists sources.now targets.now draws.now gains.now colours.now actions.now) barred (four_words on0 on1 on2 on3) b c work.old plan.old work.new plan.new result }
 {
-    let searched = search(
-        n,
-        start,
-        k,
+    let lists = Lists {
         sources,
         targets,
         draws,
         gains,
         colours,
         actions,
-        c,
-        b,
-        barred,
-        [on0, on1, on2, on3],
-        work,
-        plan,
-    );
-    let told = searched.answer();
-    let answer = told.answer;
-    pack(answer, told.p, told.q)
+    };
+    let given = Given { n, start, k, lists };
+    let searched = search(&given, c, b, barred, [on0, on1, on2, on3], work, plan);
+    let told = SearchAnswer::from(searched);
+    pack(told.answer, told.p, told.q)
 }
 
 // The decision without a plan: number 0 where there is a plan of arcs that are on, 10 where there is none, or the first of 1 to 6 and 8 that applies, with
@@ -124,23 +128,17 @@ pub extern "C" fn chargeplan_decide(
 ) -> u64
     ensures { DeskDecided n start k (lists sources.now targets.now draws.now gains.now colours.now actions.now) barred (four_words on0 on1 on2 on3) b c work.old work.new result }
 {
-    let verdict = decide(
-        n,
-        start,
-        k,
+    let lists = Lists {
         sources,
         targets,
         draws,
         gains,
         colours,
         actions,
-        c,
-        b,
-        barred,
-        [on0, on1, on2, on3],
-        work,
-    );
-    pack_alone(verdict.answer())
+    };
+    let given = Given { n, start, k, lists };
+    let decided = decide(&given, c, b, barred, [on0, on1, on2, on3], work);
+    pack_alone(Answer::from(decided))
 }
 
 // The least credit under the bound b: number 0 with its value, 10 where there is no plan with any credit up to b, or the first of 1 to 8 that applies. For all
@@ -166,22 +164,16 @@ pub extern "C" fn chargeplan_least_credit(
 ) -> u64
     ensures { DeskLeast Credit n start k (lists sources.now targets.now draws.now gains.now colours.now actions.now) barred (four_words on0 on1 on2 on3) b work.old work.new result }
 {
-    let found = least_credit(
-        n,
-        start,
-        k,
+    let lists = Lists {
         sources,
         targets,
         draws,
         gains,
         colours,
         actions,
-        b,
-        barred,
-        [on0, on1, on2, on3],
-        work,
-    );
-    pack_least(found)
+    };
+    let given = Given { n, start, k, lists };
+    pack_least(least_credit(&given, b, barred, [on0, on1, on2, on3], work))
 }
 
 // The least bound, not below the credit c and within the product ceiling of search: number 0 with its value, 10 where there is no plan with any such bound, or the
@@ -207,22 +199,16 @@ pub extern "C" fn chargeplan_least_bound(
 ) -> u64
     ensures { DeskLeast Bound n start k (lists sources.now targets.now draws.now gains.now colours.now actions.now) barred (four_words on0 on1 on2 on3) c work.old work.new result }
 {
-    let found = least_bound(
-        n,
-        start,
-        k,
+    let lists = Lists {
         sources,
         targets,
         draws,
         gains,
         colours,
         actions,
-        c,
-        barred,
-        [on0, on1, on2, on3],
-        work,
-    );
-    pack_least(found)
+    };
+    let given = Given { n, start, k, lists };
+    pack_least(least_bound(&given, c, barred, [on0, on1, on2, on3], work))
 }
 
 // Starting a gauge: number 0 and a new gauge with the start mode, the credit c and spill 0, which carries n, the number of arcs and b; or the
@@ -243,13 +229,16 @@ pub extern "C" fn chargeplan_gauge_start(
 ) -> Started
     ensures { result ≡ desk_started n start k (lists sources.now targets.now draws.now gains.now colours.now actions.now) b c }
 {
-    let gauged = Gauge::start(
-        n, start, k, sources, targets, draws, gains, colours, actions, c, b,
-    );
-    let verdict = gauged.verdict;
-    let gauge = gauged.gauge;
-    let answer = pack_alone(verdict.answer());
-    Started { answer, gauge }
+    let lists = Lists {
+        sources,
+        targets,
+        draws,
+        gains,
+        colours,
+        actions,
+    };
+    let given = Given { n, start, k, lists };
+    pack_started(Gauge::start(&given, c, b))
 }
 
 // One step of the lent gauge on an arc: number 0 and the gauge moved on, or the first of 1 to 6, 22, 12, 13 and 15 that applies and the gauge as
@@ -271,10 +260,16 @@ pub extern "C" fn chargeplan_gauge_step(
 ) -> u64
     ensures { DeskStepped n start k (lists sources.now targets.now draws.now gains.now colours.now actions.now) b arc gauge.old gauge.new result }
 {
-    let answer = step(
-        gauge, n, start, k, sources, targets, draws, gains, colours, actions, b, arc,
-    );
-    pack_alone(answer)
+    let lists = Lists {
+        sources,
+        targets,
+        draws,
+        gains,
+        colours,
+        actions,
+    };
+    let given = Given { n, start, k, lists };
+    pack_alone(step(gauge, &given, b, arc))
 }
 
 // The walk: number 0 with the steps made and whether colour j was met, or the first of 1 to 6, 11 to 16, 24, 17 and 18 that applies. For all
@@ -301,15 +296,18 @@ pub extern "C" fn chargeplan_walk(
 ) -> u64
     ensures { result ≡ desk_walked n start k (lists sources.now targets.now draws.now gains.now colours.now actions.now) barred b c p q plan.now j allowance }
 {
-    let walked = walk(
-        n, start, k, sources, targets, draws, gains, colours, actions, c, b, barred, p, q, plan, j,
-        allowance,
-    );
-    let told = walked.answer();
-    let answer = told.answer;
-    let steps = told.steps as u32;
-    let met = told.met as u32;
-    pack(answer, steps, met)
+    let lists = Lists {
+        sources,
+        targets,
+        draws,
+        gains,
+        colours,
+        actions,
+    };
+    let given = Given { n, start, k, lists };
+    let plan = GivenPlan { p, q, arcs: plan };
+    let told = WalkAnswer::from(walk(&given, c, b, barred, &plan, j, allowance));
+    pack(told.answer, u32::from(told.steps), u32::from(told.met))
 }
 
 // Reading: number 0 with n, the start mode, k and m, and the model's arcs in the lent lists, from place 0 of each on; or the first of 19, 20, 21 and 1
@@ -328,9 +326,15 @@ pub extern "C" fn chargeplan_read(
     ensures answer { result ≡ desk_read hoa.now dimacs.now (lists sources.old targets.old draws.old gains.old colours.old actions.old) }
     ensures lists { lists sources.new targets.new draws.new gains.new colours.new actions.new ≡ lists_read hoa.now dimacs.now (lists sources.old targets.old draws.old gains.old colours.old actions.old) }
 {
-    tell(read(
-        hoa, dimacs, sources, targets, draws, gains, colours, actions,
-    ))
+    let mut lent = LentLists {
+        sources,
+        targets,
+        draws,
+        gains,
+        colours,
+        actions,
+    };
+    Read::from(read(hoa, dimacs, &mut lent))
 }
 
 // The join of a knee and a habit: number 0 with n, the start mode, k and m of the joined model, and its arcs in the lent lists, from place 0 of each
@@ -365,11 +369,41 @@ pub extern "C" fn chargeplan_join(
     ensures answer { result ≡ desk_joined (given n1 start1 k1 (lists sources1.now targets1.now draws1.now gains1.now colours1.now actions1.now)) (given n2 start2 k2 (lists sources2.now targets2.now draws2.now gains2.now colours2.now actions2.now)) (lists sources.old targets.old draws.old gains.old colours.old actions.old) }
     ensures lists { lists sources.new targets.new draws.new gains.new colours.new actions.new ≡ lists_joined (given n1 start1 k1 (lists sources1.now targets1.now draws1.now gains1.now colours1.now actions1.now)) (given n2 start2 k2 (lists sources2.now targets2.now draws2.now gains2.now colours2.now actions2.now)) (lists sources.old targets.old draws.old gains.old colours.old actions.old) }
 {
-    tell(join(
-        n1, start1, k1, sources1, targets1, draws1, gains1, colours1, actions1, n2, start2, k2,
-        sources2, targets2, draws2, gains2, colours2, actions2, sources, targets, draws, gains,
-        colours, actions,
-    ))
+    let knee = Given {
+        n: n1,
+        start: start1,
+        k: k1,
+        lists: Lists {
+            sources: sources1,
+            targets: targets1,
+            draws: draws1,
+            gains: gains1,
+            colours: colours1,
+            actions: actions1,
+        },
+    };
+    let habit = Given {
+        n: n2,
+        start: start2,
+        k: k2,
+        lists: Lists {
+            sources: sources2,
+            targets: targets2,
+            draws: draws2,
+            gains: gains2,
+            colours: colours2,
+            actions: actions2,
+        },
+    };
+    let mut lent = LentLists {
+        sources,
+        targets,
+        draws,
+        gains,
+        colours,
+        actions,
+    };
+    Read::from(join(&knee, &habit, &mut lent))
 }
 
 // One plan for a ward: the verdict of each wearer of the lent list is filled with judging's number, and the answer is 0 where all are 0, else the
@@ -393,9 +427,16 @@ pub extern "C" fn chargeplan_ward(
 ) -> Answer
     ensures { WardOf n k (lists sources.now targets.now draws.now gains.now colours.now actions.now) barred p q plan.now wearers.old wearers.new result }
 {
-    ward(
-        wearers, n, k, sources, targets, draws, gains, colours, actions, barred, p, q, plan,
-    )
+    let lists = Lists {
+        sources,
+        targets,
+        draws,
+        gains,
+        colours,
+        actions,
+    };
+    let plan = GivenPlan { p, q, arcs: plan };
+    ward(wearers, n, k, &lists, barred, &plan)
 }
 
 // The table of greatest charges, made afresh: number 0 with the switches that were given and for each mode the greatest charge with which it can be
@@ -420,24 +461,17 @@ pub extern "C" fn chargeplan_reach_start(
 ) -> Reached
     ensures { DeskReached (StartOf n start k (lists sources.now targets.now draws.now gains.now colours.now actions.now) (four_words on0 on1 on2 on3) b c) result }
 {
-    let reached = Reach::start(
-        n,
-        start,
-        k,
+    let lists = Lists {
         sources,
         targets,
         draws,
         gains,
         colours,
         actions,
-        c,
-        b,
-        [on0, on1, on2, on3],
-    );
-    let verdict = reached.verdict;
-    let reach = reached.reach;
-    let answer = pack_alone(verdict.answer());
-    Reached { answer, reach }
+    };
+    let given = Given { n, start, k, lists };
+    let on = [on0, on1, on2, on3];
+    pack_reached(Reach::unreached(on), Reach::start(&given, c, b, on))
 }
 
 // The table with an arc switched on, where on is not 0, or off: number 0, and the table as it was where the arc is so already, else with the switch
@@ -461,23 +495,14 @@ pub extern "C" fn chargeplan_reach_switch(
 ) -> Reached
     ensures { DeskReached (SwitchOf n start k (lists sources.now targets.now draws.now gains.now colours.now actions.now) b c arc (not (eqb on 0)) reach) result }
 {
-    let reached = reach.switch(
-        n,
-        start,
-        k,
+    let lists = Lists {
         sources,
         targets,
         draws,
         gains,
         colours,
         actions,
-        c,
-        b,
-        arc,
-        on != 0,
-    );
-    let verdict = reached.verdict;
-    let reach = reached.reach;
-    let answer = pack_alone(verdict.answer());
-    Reached { answer, reach }
+    };
+    let given = Given { n, start, k, lists };
+    pack_reached(reach, reach.switch(&given, c, b, arc, on != 0))
 }

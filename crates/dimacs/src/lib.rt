@@ -1,8 +1,8 @@
 // DIMACS text: its lines, the first that is outside the forms, and the numbers of a text.
 #![tactic(auto)]
 
-ghost use Rattle.std.specs.Prelude.{◌≡◌, ◌≤◌, drop};
-ghost use Rattle.fields.specs.Fields.{lines_of, LineAt};
+ghost use Rattle.std.specs.Prelude.{◌≡◌, suc, ◌≤◌, drop};
+ghost use Rattle.fields.specs.Fields.{lines_of, LineAt, line_or_none};
 ghost use Rattle.dimacs.specs.Lines.{
   is_comment,
   modes_on,
@@ -20,12 +20,11 @@ ghost use Rattle.dimacs.specs.Lines.{
   weight_ends,
   is_arc,
 };
-ghost use Rattle.dimacs.specs.Text.{comments, IsProblemOf, arcs_wrong, dimacs_wrong};
+ghost use Rattle.dimacs.specs.Text.{comments, problem_line, IsProblemOf, arcs_wrong, dimacs_wrong};
 
 use fields::Bytes;
 
-// The letter `c`.
-const COMMENT_LETTER: u8 = 99;
+const COMMENT_LETTER: u8 = b'c';
 
 // The draw and the gain that a weight means.
 #[derive(Clone, Copy)]
@@ -34,7 +33,8 @@ pub struct Parts {
     pub gain: u32,
 }
 
-// The numbers on the `p` line of a text, and the place where the lines of the arcs begin.
+// The numbers on the `p` line of a text, and the place where the lines of the arcs begin. (A place and no slice: `IsProblemOf` and `LineAt`, which MAP
+// names, speak of places.)
 #[derive(Clone, Copy)]
 pub struct Problem {
     pub modes: u32,
@@ -42,24 +42,26 @@ pub struct Problem {
     pub arcs: usize,
 }
 
-// A place in a text where a line begins, and the number of lines before it.
+// A place in a text where a line begins, and the number of lines before it. (A place and no slice, as `LineAt` says it.)
 #[derive(Clone, Copy)]
 struct Place {
     at: usize,
     line: usize,
 }
 
+// The `p` line of a text, and the place behind it.
+#[derive(Clone, Copy)]
+struct Head<'a> {
+    problem: &'a [u8],
+    arcs: Place,
+}
+
 // Whether a line is a comment.
+#[tactic(auto, unfolding(crate::specs::Lines::is_comment))]
 fn is_comment(line: &[u8]) -> bool
     ensures { result ≡ is_comment line.now }
 {
-    if line.len() == 0 {
-        return false;
-    }
-    if line[0] != COMMENT_LETTER {
-        return false;
-    }
-    line[line.len() - 1] == Bytes::FEED
+    matches!(line, [COMMENT_LETTER, .., Bytes::FEED])
 }
 
 // The number of modes on a `p` line.
@@ -120,26 +122,22 @@ fn weight_field(line: &[u8]) -> &[u8]
 }
 
 // Whether a field has a minus.
+#[tactic(auto, unfolding(crate::specs::Lines::is_negative))]
 fn is_negative(field: &[u8]) -> bool
     ensures { result ≡ is_negative field.now }
 {
-    if field.len() == 0 {
-        return false;
-    }
-    field[0] == Bytes::MINUS
+    matches!(field, [Bytes::MINUS, ..])
 }
 
 // A field without its minus.
+#[tactic(auto, unfolding(crate::specs::Lines::unsigned))]
 fn unsigned_of(field: &[u8]) -> &[u8]
     ensures { result.now ≡ unsigned field.now }
 {
-    if field.len() == 0 {
-        return field;
+    match field {
+        [Bytes::MINUS, rest @ ..] => rest,
+        _ => field,
     }
-    if field[0] == Bytes::MINUS {
-        return &field[1..];
-    }
-    field
 }
 
 // The draw and the gain on an `a` line.
@@ -149,14 +147,15 @@ pub fn parts_on(line: &[u8]) -> Parts
     let field = weight_field(line);
     let size = fields::number_of(unsigned_of(field));
     if is_negative(field) {
-        return Parts {
+        Parts {
             draw: size,
             gain: 0,
-        };
-    }
-    Parts {
-        draw: 0,
-        gain: size,
+        }
+    } else {
+        Parts {
+            draw: 0,
+            gain: size,
+        }
     }
 }
 
@@ -164,10 +163,7 @@ pub fn parts_on(line: &[u8]) -> Parts
 fn is_mode(n: u32, x: u32) -> bool
     ensures { result ≡ is_mode n x }
 {
-    if x < 1 {
-        return false;
-    }
-    x <= n
+    (1..=n).contains(&x)
 }
 
 // Whether nothing but the line feed follows the weight of a field.
@@ -178,94 +174,92 @@ fn weight_ends(field: &[u8]) -> bool
 }
 
 // Whether a line is an `a` line.
+#[tactic(auto, unfolding(crate::specs::Lines::is_arc))]
 fn is_arc(line: &[u8], n: u32) -> bool
     ensures { result ≡ is_arc n line.now }
 {
-    let from = fields::after_word(line, b"a ");
-    if !is_mode(n, fields::number_of(from)) {
-        return false;
-    }
-    let to = fields::after_word(fields::after_number(from), b" ");
-    if !is_mode(n, fields::number_of(to)) {
-        return false;
-    }
-    let tail = fields::after_number(to);
-    weight_ends(fields::after_word(tail, b" "))
+    is_mode(n, from_on(line)) && is_mode(n, to_on(line)) && weight_ends(weight_field(line))
 }
 
 // The place after the comments that a text begins with.
 fn after_comments(text: &[u8]) -> Place
     ensures { (result.line ≡ comments (lines_of text.now)) × (result.line ≤ result.at) × LineAt text.now result.at result.line }
 {
-    let mut at = 0;
-    let mut line = 0;
-    while at < text.len() {
-        let e = fields::piece_end(text, at, Bytes::FEED);
-        if !is_comment(&text[at..e]) {
-            return Place { at, line };
+    // Counted by hand: where the text ends, the answer is this count too.
+    let mut place = Place { at: 0, line: 0 };
+    for line in fields::lines(text) {
+        if !is_comment(line) {
+            return place;
         }
-        at = e;
-        line += 1;
+        place.at += line.len();
+        place.line += 1;
     }
-    Place { at, line }
+    place
 }
 
-// The first line from a place on that is outside the forms, from 1 over the whole text; 0 where there is none.
-fn arcs_wrong(text: &[u8], start: usize, before: usize, n: u32, m: u32) -> usize
-    requires { (before ≤ start) × LineAt text.now start before }
-    ensures { result ≡ arcs_wrong n m before 0 (drop before (lines_of text.now)) }
+// The line after the comments, nothing where there is none, and the place behind it.
+fn head_of(text: &[u8]) -> Head<'_>
+    ensures problem { result.problem.now ≡ problem_line (lines_of text.now) }
+    ensures line { result.arcs.line ≡ suc (comments (lines_of text.now)) }
+    ensures few { result.arcs.line ≤ suc result.arcs.at }
+    ensures place { LineAt text.now result.arcs.at result.arcs.line }
 {
-    let mut at = start;
-    let mut line = before;
-    let mut i: usize = 0;
-    while at < text.len() {
-        let e = fields::piece_end(text, at, Bytes::FEED);
-        if i >= (m as usize) {
-            return line + 1;
+    let place = after_comments(text);
+    let e = fields::piece_end(text, place.at, Bytes::FEED);
+    Head {
+        problem: &text[place.at..e],
+        arcs: Place {
+            at: e,
+            line: place.line + 1,
+        },
+    }
+}
+
+// The first line from a place on that is outside the forms of the lines of arcs, from 1 over the whole text, or none.
+#[tactic(auto, using(crate::proofs::Lists::lines_few), unfolding(crate::specs::Text::arcs_wrong))]
+fn arcs_wrong(text: &[u8], place: Place, n: u32, m: u32) -> Option<usize>
+    requires { (place.line ≤ suc place.at) × LineAt text.now place.at place.line }
+    ensures { result ≡ line_or_none (arcs_wrong n m place.line 0 (drop place.line (lines_of text.now))) }
+{
+    // Counted by hand: where the text ends, the answer rests on this count too.
+    let mut i = 0;
+    for line in fields::lines(&text[place.at..]) {
+        if i >= (m as usize) || !is_arc(line, n) {
+            return Some(place.line + i + 1);
         }
-        if !is_arc(&text[at..e], n) {
-            return line + 1;
-        }
-        at = e;
-        line += 1;
         i += 1;
     }
     if i == (m as usize) {
-        return 0;
+        None
+    } else {
+        Some(place.line + i + 1)
     }
-    line + 1
 }
 
-// The first line of a text that is outside the forms, from 1; 0 where there is none.
-pub fn dimacs_wrong(text: &[u8]) -> usize
-    ensures { result ≡ dimacs_wrong (lines_of text.now) }
+// The first line of a text that is outside the forms, from 1, or none.
+pub fn dimacs_wrong(text: &[u8]) -> Option<usize>
+    ensures { result ≡ line_or_none (dimacs_wrong (lines_of text.now)) }
 {
-    let place = after_comments(text);
-    let at = place.at;
-    let line = place.line;
-    let e = fields::piece_end(text, at, Bytes::FEED);
-    let problem = &text[at..e];
-    if !is_problem(problem) {
-        return line + 1;
+    let head = head_of(text);
+    if !is_problem(head.problem) {
+        return Some(head.arcs.line);
     }
-    let n = modes_on(problem);
-    let m = count_on(problem);
-    arcs_wrong(text, e, line + 1, n, m)
+    arcs_wrong(
+        text,
+        head.arcs,
+        modes_on(head.problem),
+        count_on(head.problem),
+    )
 }
 
 // The numbers of a text, and where the lines of its arcs begin.
 pub fn problem_of(text: &[u8]) -> Problem
     ensures { IsProblemOf text.now result }
 {
-    let place = after_comments(text);
-    let at = place.at;
-    let e = fields::piece_end(text, at, Bytes::FEED);
-    let problem = &text[at..e];
-    let modes = modes_on(problem);
-    let count = count_on(problem);
+    let head = head_of(text);
     Problem {
-        modes,
-        count,
-        arcs: e,
+        modes: modes_on(head.problem),
+        count: count_on(head.problem),
+        arcs: head.arcs.at,
     }
 }

@@ -1,68 +1,56 @@
--- Words, digits and pieces at a place of a list: what one byte more does. Assumes nothing.
-use mathlib.Core.Path.{◌≡◌, refl}
-use mathlib.Core.Bool.{true, false}
-use mathlib.Core.List.{List, [], ◌∷◌}
-use Prim.Native.Nat.{ℕ, suc, ◌+◌, ◌≤◌, ◌<◌}
-use native.Mathlib.Numerals.{add-one}
+-- Words, digits and pieces at the head of a list: what the library's methods find there. Assumes nothing.
+use mathlib.Core.Path.{◌≡◌, refl, sym, ap, ◌∙◌}
+use mathlib.Core.Bool.{Bool, true, false, not, cond}
+use mathlib.Core.List.{List, [], ◌∷◌, ◌++◌}
+use mathlib.Core.Logic.{◌≢◌}
+use Prim.Native.Nat.{ℕ, suc, ◌+◌, ◌≤◌}
 use native.Mathlib.Omega.{arith}
+use denote.Ref.{Bor}
 use lib.Dec.{eqb}
-use lib.ListN.{length, get_or, drop, drop_of_length-le}
-use lib.Seq.{drop-cons}
-use borrow.Author.Tests.{eq-eqb, ne_eqb}
-use Rattle.fields.specs.Fields.{after_word, is_only, is_digit, digit_count, piece_length}
+use lib.ListN.{length, drop, drop_of_length-le}
+use Rattle.std.specs.Prelude.{Option, Some, None, unwrap_or, min}
+use Rattle.std.specs.Option.{MatchOption}
+use Rattle.std.specs.List.{position_or_len}
+use Rattle.std.proofs.lemmas.List.Recursion.{is_position_or_len}
+use Rattle.fields.specs.Fields.{after_word, is_digit, digit_count, piece_length}
+use Rattle.fields.proofs.Forms.{word-form}
+use Rattle.fields.proofs.Printed.{after-word}
 
-pub only-long : (b : ℕ) (s : List ℕ) → (length s ≡ 1 → ⊥) → is_only b s ≡ false
-unfolding is_only
-only-long b [] h = refl
-only-long b (x ∷ []) h = absurd (h refl)
-only-long b (x ∷ y ∷ l) h = refl
+no-word : (w s : List ℕ) → ((rest : List ℕ) → s ≢ w ++ rest) → after_word w s ≡ []
+no-word w s h = go (after_word w s) refl
+  where
+    go : (l : List ℕ) → after_word w s ≡ l → l ≡ []
+    go [] e = refl
+    go (x ∷ l) e = absurd (h (after_word w s) (word-form w s (rw e (omega arith))))
 
-pub only_one : (b : ℕ) (s : List ℕ) → length s ≡ 1 → is_only b s ≡ eqb (get_or s 0 0) b
-unfolding is_only
-only_one b [] h = absurd (omega (arith, h))
-only_one b (x ∷ []) h = refl
-only_one b (x ∷ y ∷ l) h = absurd (omega (arith, h))
+-- what follows a word, as `strip_prefix` finds it
+pub word-stripped : (w s : List ℕ) (r : Option (Bor (List ℕ))) (d : Bor (List ℕ)) → d.now ≡ []
+    → MatchOption r ((rest : List ℕ) → s ≢ w ++ rest) (λ x. s ≡ w ++ x.now) → (unwrap_or r d).now ≡ after_word w s
+word-stripped w s None d e h = e ∙ sym (no-word w s h)
+word-stripped w s (Some x) d e h = sym (ap (after_word w) h ∙ after-word w x.now)
 
--- the word is spent
-pub after-done : (w s : List ℕ) (i : ℕ) → length w ≤ i → after_word (drop i w) (drop i s) ≡ drop i s
-unfolding after_word
-after-done w s i h = rw (drop_of_length-le w h)
-
--- the list ends before the word
-pub after-short : (w s : List ℕ) (i : ℕ) → i < length w → length s ≤ i → after_word (drop i w) (drop i s) ≡ []
-unfolding after_word
-after-short w s i h k = rw (drop_of_length-le s k, drop-cons w i 0 h)
-
-pub after_same : (w s : List ℕ) (i : ℕ) → i < length w → i < length s → get_or s i 0 ≡ get_or w i 0
-    → after_word (drop i w) (drop i s) ≡ after_word (drop (i + 1) w) (drop (i + 1) s)
-unfolding after_word
-after_same w s i h k e = rw (add-one i, drop-cons w i 0 h, drop-cons s i 0 k, eq-eqb _ _ e)
-
-pub after-other : (w s : List ℕ) (i : ℕ) → i < length w → i < length s → (get_or s i 0 ≡ get_or w i 0 → ⊥)
-    → after_word (drop i w) (drop i s) ≡ []
-unfolding after_word
-after-other w s i h k e = rw (drop-cons w i 0 h, drop-cons s i 0 k, ne_eqb _ _ e)
-
-pub digits-end : (s : List ℕ) (i : ℕ) → length s ≤ i → digit_count (drop i s) ≡ 0
+-- how many digits, as `position` finds the first byte that is none
+pub digits-first : (s : List ℕ) → digit_count s ≡ position_or_len (λ x. not (is_digit x)) s
 unfolding digit_count
-digits-end s i h = rw (drop_of_length-le s h)
+digits-first s = is_position_or_len digit_count (λ x. not (is_digit x)) refl (λ x l. go x l (is_digit x)) s
+  where
+    go : (x : ℕ) (l : List ℕ) (t : Bool) → cond t (suc (digit_count l)) 0 ≡ cond (not t) 0 (1 + digit_count l)
+    go x l true = omega arith
+    go x l false = refl
 
-pub digits_more : (s : List ℕ) (i : ℕ) → i < length s → is_digit (get_or s i 0) ≡ true → digit_count (drop i s) ≡ suc (digit_count (drop (i + 1) s))
-unfolding digit_count
-digits_more s i h e = rw (add-one i, drop-cons s i 0 h, e)
+-- how long the first piece is, as `position` finds its end
+pub piece-first : (b : ℕ) (s : List ℕ) → piece_length b s ≡ min (position_or_len (λ x. eqb x b) s + 1) (length s)
+unfolding piece_length
+piece-first b [] = omega arith
+piece-first b (x ∷ s) = go (eqb x b) (piece-first b s)
+  where
+    k : ℕ
+    k = position_or_len (λ y. eqb y b) s
 
-pub digits-stop : (s : List ℕ) (i : ℕ) → i < length s → is_digit (get_or s i 0) ≡ false → digit_count (drop i s) ≡ 0
-unfolding digit_count
-digits-stop s i h e = rw (drop-cons s i 0 h, e)
+    go : (t : Bool) → piece_length b s ≡ min (k + 1) (length s) → cond t 1 (suc (piece_length b s)) ≡ min (cond (not t) (1 + k) 0 + 1) (suc (length s))
+    go true e = omega arith
+    go false e = omega (arith, e)
 
 pub piece-end : (b : ℕ) (s : List ℕ) (i : ℕ) → length s ≤ i → piece_length b (drop i s) ≡ 0
 unfolding piece_length
 piece-end b s i h = rw (drop_of_length-le s h)
-
-pub piece-here : (b : ℕ) (s : List ℕ) (i : ℕ) → i < length s → get_or s i 0 ≡ b → piece_length b (drop i s) ≡ 1
-unfolding piece_length
-piece-here b s i h e = rw (drop-cons s i 0 h, eq-eqb _ _ e)
-
-pub piece-later : (b : ℕ) (s : List ℕ) (i : ℕ) → i < length s → (get_or s i 0 ≡ b → ⊥) → piece_length b (drop i s) ≡ suc (piece_length b (drop (i + 1) s))
-unfolding piece_length
-piece-later b s i h e = rw (add-one i, drop-cons s i 0 h, ne_eqb _ _ e)

@@ -11,7 +11,7 @@ use lib.ListN.{length, get_or, take, drop, drop_of_length-le}
 use lib.Seq.{drop-cons, get_or-take, length-take-le}
 use borrow.Author.Tests.{leb-true}
 use Rattle.limits.specs.Ceilings.{digits_most}
-use Rattle.fields.specs.Fields.{is_digit, digit_count, value, is_plain, number_of, after_number}
+use Rattle.fields.specs.Fields.{is_digit, digit_count, value, is_plain, number_of}
 
 -- both of two tests
 pub both : (s t : Bool) → (s && t) ≡ true → (s ≡ true) × (t ≡ true)
@@ -46,16 +46,21 @@ digits_are (x ∷ l) i h = go (is_digit x) refl i h (digits_are l)
     go true e (suc i) h f = f i (omega arith)
     go false e i h f = absurd (omega arith)
 
-pub value-turn : (n i v : ℕ) (s : List ℕ) → i < n → n ≤ length s
-    → value v (drop i (take n s)) ≡ value (v * 10 + (get_or s i 0 - 48)) (drop (i + 1) (take n s))
-unfolding value
-value-turn n i v s h k =
-    let long : i < length (take n s) = rw (length-take-le n s k) h in
-    rw (add-one i, drop-cons (take n s) i 0 long, get_or-take n s i 0 h)
+-- one of the digits that lead a list
+pub taken-digit : (s : List ℕ) (n i : ℕ) → n ≡ digit_count s → i < length (take n s)
+    → (i < n) × (48 ≤ get_or (take n s) i 0) × (get_or (take n s) i 0 ≤ 57)
+taken-digit s n i e h =
+    let few = length-take-le n s (omega (arith, digits_le s)) in
+    let (low, high) = digit-bounds (get_or s i 0) (digits_are s i (omega arith)) in
+    rw (get_or-take n s i 0 (omega arith)) (omega arith, low, high)
 
-pub value-done : (n i v : ℕ) (s : List ℕ) → n ≤ i → n ≤ length s → value v (drop i (take n s)) ≡ v
+pub value-turn : (l : List ℕ) (i v : ℕ) → i < length l → value v (drop i l) ≡ value (v * 10 + (get_or l i 0 - 48)) (drop (i + 1) l)
 unfolding value
-value-done n i v s h k = rw (drop_of_length-le (take n s) {i = i} (rw (length-take-le n s k) h))
+value-turn l i v h = rw (add-one i, drop-cons l i 0 h)
+
+pub value-done : (l : List ℕ) (i v : ℕ) → length l ≤ i → value v (drop i l) ≡ v
+unfolding value
+value-done l i v h = rw (drop_of_length-le l {i = i} h)
 
 -- a value of i digits is below 10 to the i
 pub below_power : (i v d : ℕ) → v < 10 ^ i → d ≤ 9 → v * 10 + d < 10 ^ (i + 1)
@@ -64,18 +69,6 @@ below_power i v d h k = rw (add-one i, pow-suc 10 i) (omega arith)
 pub below-most : (i v : ℕ) → i ≤ 8 → v < 10 ^ i → v < 100000000
 below-most i v h k = omega (arith, pow-le-pow_right {n = 10} (omega arith) {i = i} {j = 8} h)
 
-pub number-none : (s : List ℕ) → is_plain (digit_count s) ≡ false → 0 ≡ number_of s
-unfolding number_of
-number-none s e = rw e
-
 pub number-some : (s : List ℕ) (n v : ℕ) → is_plain (digit_count s) ≡ true → n ≡ digit_count s → value 0 (take n s) ≡ v → v ≡ number_of s
 unfolding number_of
 number-some s n v e h k = rw (e, ← h) (sym k)
-
-pub after_none : (s : List ℕ) → is_plain (digit_count s) ≡ false → [] ≡ after_number s
-unfolding after_number
-after_none s e = rw e
-
-pub after-some : (s : List ℕ) (n : ℕ) → is_plain (digit_count s) ≡ true → n ≡ digit_count s → drop n s ≡ after_number s
-unfolding after_number
-after-some s n e h = rw (e, h)

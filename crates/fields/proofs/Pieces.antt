@@ -46,6 +46,25 @@ split-first b (x ∷ y ∷ l) h = go (eqb x b) (split-first b (y ∷ l) (omega a
     go true e = refl
     go false e = ap (with_byte x) e
 
+-- the first piece, cut off
+pub split-next : (b : ℕ) (l : List ℕ) (n : ℕ) (p r : List ℕ) → 0 < length l → n ≡ piece_length b l → p ≡ take n l → r ≡ drop n l
+    → split b l ≡ p ∷ split b r
+split-next b l n p r h e f g = rw (f, g, e) (split-first b l h)
+
+-- no more pieces than bytes
+pub split_few : (b : ℕ) (l : List ℕ) → length (split b l) ≤ length l
+unfolding split with_byte
+split_few b [] = omega arith
+split_few b (x ∷ l) = go (eqb x b) (split b l) (split_few b l)
+  where
+    put : (ps : List (List ℕ)) → length (with_byte x ps) ≤ suc (length ps)
+    put [] = omega arith
+    put (p ∷ ps) = omega arith
+
+    go : (t : Bool) (ps : List (List ℕ)) → length ps ≤ length l → length (cond t ((x ∷ []) ∷ ps) (with_byte x ps)) ≤ suc (length l)
+    go true ps h = omega arith
+    go false ps h = omega (arith, put ps)
+
 -- the pieces from a place on: the piece up to e, and those from e on
 pub split_at : (b : ℕ) (s : List ℕ) (at e : ℕ) → at < length s → e ≡ at + piece_length b (drop at s)
     → split b (drop at s) ≡ take (e - at) (drop at s) ∷ split b (drop e s)

@@ -4,7 +4,8 @@ use mathlib.Core.List.{List, [], ◌∷◌, ◌++◌}
 use Prim.Native.Nat.{ℕ, zero, suc, ◌+◌, ◌-◌, ◌≤◌, ◌<◌}
 use native.Mathlib.Decide.{dec_le}
 use native.Mathlib.Omega.{arith}
-use lib.ListN.{length, get_or, take, drop, drop_of_length-le, get_or-eq_default}
+use lib.ListN.{length, get_or, take, drop, length-drop, drop_of_length-le, get_or-eq_default}
+use lib.Seq.{length-take-le}
 use Rattle.fields.specs.Fields.{split, piece_length, LineAt}
 use Rattle.fields.proofs.Pieces.{split_at, end-bounds}
 use Rattle.fields.proofs.Heads.{piece-end}
@@ -51,6 +52,32 @@ short (x ∷ l) (suc j) e = omega (arith, short l j e)
 
 pub lines-spent : (s : List ℕ) (at j : ℕ) → LineAt s at j → length s ≤ at → length (split 10 s) ≤ j
 lines-spent s at j p h = short (split 10 s) j (line-none s at j p h)
+
+-- a line that a walk over the lines yields: the next begins where it ends
+pub record LineTook (s : List ℕ) (at j : ℕ) (p : List ℕ) (ps : List (List ℕ)) : Type 0 where
+  pub next : LineAt s (at + length p) (suc j)
+  pub left : split 10 (drop (at + length p) s) ≡ ps
+  pub some : 0 < length p
+
+pub line_took : (s : List ℕ) (at j : ℕ) (p : List ℕ) (ps : List (List ℕ)) → LineAt s at j → split 10 (drop at s) ≡ p ∷ ps → LineTook s at j p ps
+line_took s at j p ps here e =
+    elim (dec_le (length s) at) [
+      | yes h ↦ absurd (let z : ◌≡◌ {A = ℕ} 0 1 = cc (split-end 10 s at h) in omega arith)
+      | no h ↦ go (at + piece_length 10 (drop at s)) (omega arith) refl
+    ]
+  where
+    go : (f : ℕ) → at < length s → f ≡ at + piece_length 10 (drop at s) → LineTook s at j p ps
+    go f h q =
+        let cut = sym e ∙ split_at 10 s at f h q in
+        let (later, within) = end-bounds 10 s at f h q in
+        let size : length p ≡ f - at =
+        ap (λ (ls : List (List ℕ)). length (get_or ls 0 [])) cut ∙ length-take-le (f - at) (drop at s) (rw (length-drop at s) (omega arith)) in
+        let ends : at + length p ≡ f = omega (arith, size) in
+        record {
+          next = rw ends (line-next s at j f here h q);
+          left = rw ends (sym (ap (λ (ls : List (List ℕ)). drop 1 ls) cut));
+          some = omega (arith, size);
+        }
 
 -- the next place, whether a line is there or not
 pub line_step : (s : List ℕ) (at j e : ℕ) → LineAt s at j → e ≡ at + piece_length 10 (drop at s) → LineAt s e (suc j)

@@ -1,7 +1,9 @@
 -- Words, plain numbers and pieces of a list of bytes. Document 02, Ask 1: "one blank between fields, a line feed after each" line. A reading
 -- leaves the rest of the list, and the empty list where it fails: what is whole always leaves something, at least its line feed.
+use Rattle.std.specs.Prelude.{Option, Some, None}
 use Rattle.std.specs.Prelude.{◌≡◌, Bool, false, cond, ◌&&◌, List, [], ◌∷◌, ℕ, suc, ◌+◌, ◌-◌, ◌*◌, ◌≤◌, leb, eqb, length, get_or, take, drop}
 use Rattle.limits.specs.Ceilings.{digits_most}
+use Rattle.fields.specs.declared.SplitAfter.{SplitAfter}
 use Rattle.fields.specs.Bytes.{feed, digit_zero, digit_nine}
 
 -- what follows the word at the head of the list; nothing where the list does not begin with it
@@ -52,6 +54,10 @@ unfoldable pub split : ℕ → List ℕ → List (List ℕ)
 split b [] = []
 split b (x ∷ l) = cond (eqb x b) ((x ∷ []) ∷ split b l) (with_byte x (split b l))
 
+-- the pieces that a walk over them has left
+abbrev pub pieces_left : SplitAfter → List (List ℕ)
+pieces_left p = split p.end p.rest.now
+
 -- how long the first piece is
 unfoldable pub piece_length : ℕ → List ℕ → ℕ
 piece_length b [] = 0
@@ -88,3 +94,7 @@ field_after w v l = after_word v (tail_after w l)
 -- the line is this word and a plain number
 abbrev pub is_numbered : List ℕ → List ℕ → Bool
 is_numbered w l = is_only feed (tail_after w l)
+
+-- a line counted from 1, where 0 stands for none
+abbrev pub line_or_none : ℕ → Option ℕ
+line_or_none d = cond (eqb d 0) None (Some d)

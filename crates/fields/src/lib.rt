@@ -1,18 +1,21 @@
-// Words, plain numbers, pieces and lines of a list of bytes. What reads returns the rest of the list as a slice, and the empty one where it
-// fails, so that no place in the text is carried along.
+// Words, plain numbers, pieces and lines of a list of bytes. What reads a line returns the rest of it as a slice, and the empty one where it fails.
+// It answers no Option: specs/Fields gives each form by the list that is left, for every list, and no form takes the empty one, so that a caller has
+// no failure to pass on.
 #![tactic(auto)]
 
 ghost use Rattle.std.specs.Prelude.{◌≡◌, true, ◌+◌, ◌-◌, ◌*◌, ◌≤◌, ◌<◌, length, drop};
+ghost use Rattle.std.specs.Iterator.{YieldsFirstRef, item_count};
 ghost use Rattle.fields.specs.Bytes.{feed, blank, ampersand, minus, digit_zero, digit_nine};
 ghost use Rattle.fields.specs.Fields.{
   after_word,
   is_only,
-  is_digit,
   digit_count,
   is_plain,
   number_of,
   after_number,
   piece_length,
+  split,
+  pieces_left,
   lines_of,
   line_of,
   LineAt,
@@ -30,17 +33,18 @@ use limits::Limits;
 pub struct Bytes;
 
 impl Bytes {
-    pub const FEED: u8 = 10;
+    pub const FEED: u8 = b'\n';
 
-    pub const BLANK: u8 = 32;
+    pub const BLANK: u8 = b' ';
 
-    pub const AMPERSAND: u8 = 38;
+    pub const AMPERSAND: u8 = b'&';
 
-    pub const MINUS: u8 = 45;
+    pub const MINUS: u8 = b'-';
 
-    pub const DIGIT_ZERO: u8 = 48;
+    pub const DIGIT_ZERO: u8 = b'0';
 
-    pub const DIGIT_NINE: u8 = 57;
+    // Used by `agree` alone since the library tests digits.
+    pub const DIGIT_NINE: u8 = b'9';
 
     // Every constant is the numeral of specs/Bytes: changing one side alone is refused.
     pub fn agree() -> bool
@@ -56,101 +60,111 @@ impl Bytes {
     }
 }
 
+// A walk over the pieces of a list, split after each byte `end`. (The library's `split_inclusive` is no plainer: it says its pieces by the calls of a
+// closure, and `lines_of`, which the theorems name, says them by `split` of specs/Fields, so that each walk over lines would show that both agree.)
+#[derive(Drop)]
+pub struct SplitAfter<'a> {
+    rest: &'a [u8],
+    end: u8,
+}
+
+impl<'a> Iterator for SplitAfter<'a> {
+    type Item = &'a [u8];
+
+    ghost next_gives = { YieldsFirstRef pieces_left };
+
+    ghost remaining = { item_count pieces_left };
+
+    fn next(&mut self) -> Option<&'a [u8]> {
+        if self.rest.is_empty() {
+            return None;
+        }
+        let (piece, rest) = self.rest.split_at(piece_length(self.rest, self.end));
+        self.rest = rest;
+        Some(piece)
+    }
+}
+
+// The pieces of a list, split after each byte `end`.
+pub fn split_after(s: &[u8], end: u8) -> SplitAfter<'_>
+    ensures { pieces_left result ≡ split end s.now }
+{
+    SplitAfter { rest: s, end }
+}
+
+// The lines of a text.
+pub fn lines(text: &[u8]) -> SplitAfter<'_>
+    ensures { pieces_left result ≡ lines_of text.now }
+{
+    split_after(text, Bytes::FEED)
+}
+
+// How long the first piece of a list is: past the first byte b, or the whole list.
+fn piece_length(s: &[u8], b: u8) -> usize
+    ensures { result ≡ piece_length b s.now }
+{
+    match s.iter().position(|x| *x == b) {
+        Some(i) => i + 1,
+        None => s.len(),
+    }
+}
+
+// Where the first piece that begins at a place ends.
+pub fn piece_end(s: &[u8], at: usize, b: u8) -> usize
+    ensures { result ≡ at + piece_length b (drop at s.now) }
+{
+    if at > s.len() {
+        return at;
+    }
+    at + piece_length(&s[at..], b)
+}
+
 // What follows the word at the head of a list; nothing where the list does not begin with it.
 pub fn after_word<'a, 'b>(s: &'a [u8], word: &'b [u8]) -> &'a [u8]
     ensures { result.now ≡ after_word word.now s.now }
 {
-    let mut i = 0;
-    while i < word.len() {
-        if i >= s.len() {
-            return &s[..0];
-        }
-        if s[i] != word[i] {
-            return &s[..0];
-        }
-        i += 1;
-    }
-    &s[i..]
+    s.strip_prefix(word).unwrap_or(&[])
 }
 
 // Whether the list is this one byte.
+#[tactic(auto, unfolding(crate::specs::Fields::is_only))]
 pub fn is_only(s: &[u8], b: u8) -> bool
     ensures { result ≡ is_only b s.now }
 {
-    if s.len() != 1 {
-        return false;
-    }
-    s[0] == b
-}
-
-// Whether a byte is a digit.
-fn is_digit(x: u8) -> bool
-    ensures { result ≡ is_digit x }
-{
-    if x < Bytes::DIGIT_ZERO {
-        return false;
-    }
-    x <= Bytes::DIGIT_NINE
+    matches!(s, [x] if *x == b)
 }
 
 // How many digits stand at the head of a list.
 fn digit_count(s: &[u8]) -> usize
     ensures { result ≡ digit_count s.now }
 {
-    let mut i = 0;
-    while i < s.len() {
-        if !is_digit(s[i]) {
-            return i;
-        }
-        i += 1;
-    }
-    i
-}
-
-// Where the first piece that begins at a place ends: past the next byte b, or at the end.
-pub fn piece_end(s: &[u8], at: usize, b: u8) -> usize
-    ensures { result ≡ at + piece_length b (drop at s.now) }
-{
-    let mut i = at;
-    while i < s.len() {
-        if s[i] == b {
-            return i + 1;
-        }
-        i += 1;
-    }
-    i
+    s.iter()
+        .position(|x| !x.is_ascii_digit())
+        .unwrap_or(s.len())
 }
 
 // Whether so many digits make a plain number.
+#[tactic(auto, unfolding(crate::specs::Fields::is_plain))]
 fn is_plain(count: usize) -> bool
     ensures { result ≡ is_plain count }
 {
-    if count < 1 {
-        return false;
-    }
-    count <= Limits::DIGITS
+    (1..=Limits::DIGITS).contains(&count)
 }
 
 // What follows the plain number at the head of a list; nothing where there is none.
+#[tactic(auto, using(crate::proofs::Numbers::digits_le), unfolding(crate::specs::Fields::after_number))]
 pub fn after_number(s: &[u8]) -> &[u8]
     ensures { result.now ≡ after_number s.now }
 {
     let count = digit_count(s);
     if !is_plain(count) {
-        return &s[..0];
+        return &[];
     }
     &s[count..]
 }
 
-// A number with one digit more.
-fn with_digit(v: u32, x: u8) -> u32
-    requires { (v < 100000000) × (is_digit x ≡ true) }
-    ensures { result ≡ v * 10 + (x - digit_zero) }
-{
-    v * 10 + ((x - Bytes::DIGIT_ZERO) as u32)
-}
-
-// The plain number at the head of a list, 0 where there is none.
+// The plain number at the head of a list, 0 where there is none (as `number_of` of specs/Fields says, of every list).
+#[tactic(auto, unfolding(crate::specs::Fields::number_of))]
 pub fn number_of(s: &[u8]) -> u32
     ensures { result ≡ number_of s.now }
 {
@@ -158,11 +172,9 @@ pub fn number_of(s: &[u8]) -> u32
     if !is_plain(count) {
         return 0;
     }
-    let mut v: u32 = 0;
-    let mut i = 0;
-    while i < count {
-        v = with_digit(v, s[i]);
-        i += 1;
+    let mut v = 0;
+    for x in &s[..count] {
+        v = v * 10 + u32::from(*x - Bytes::DIGIT_ZERO);
     }
     v
 }
@@ -172,10 +184,8 @@ pub fn line_at(text: &[u8], j: usize) -> usize
     ensures { LineAt text.now result j }
 {
     let mut at = 0;
-    let mut t = 0;
-    while t < j {
+    for _ in 0..j {
         at = piece_end(text, at, Bytes::FEED);
-        t += 1;
     }
     at
 }
@@ -184,9 +194,7 @@ pub fn line_at(text: &[u8], j: usize) -> usize
 pub fn line_of(text: &[u8], j: usize) -> &[u8]
     ensures { result.now ≡ line_of (lines_of text.now) j }
 {
-    let at = line_at(text, j);
-    let e = piece_end(text, at, Bytes::FEED);
-    &text[at..e]
+    lines(text).nth(j).unwrap_or(&[])
 }
 
 // Whether a line is this word.

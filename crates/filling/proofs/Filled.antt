@@ -1,5 +1,6 @@
 -- What stands in lists that were filled: the model that was written, and behind it what was there. What a call answers, and leaves, by its verdict.
 -- Assumes nothing.
+use Rattle.std.specs.Prelude.{Ok, Err}
 use mathlib.Core.Path.{◌≡◌, refl, sym, ap, subst, ◌∙◌}
 use mathlib.Core.List.{List, ◌++◌, map}
 use mathlib.Core.Logic.{◌↔◌}
@@ -7,19 +8,15 @@ use Prim.Native.Nat.{ℕ, ◌+◌, ◌≤◌}
 use native.Mathlib.Omega.{arith}
 use lib.ListN.{length, get_or, take, drop, length-map, get_or-map}
 use lib.Seq.{sets, sets-eq, take_at, drop_at, get_or-drop, ext_get_or}
-use Rattle.refusals.specs.declared.Answer.{Answer}
 use Rattle.refusals.specs.declared.Refusal.{Refusal}
-use Rattle.refusals.specs.declared.Verdict.{Verdict}
-use Rattle.refusals.specs.declared.Verdict.TheVariants.{Yes, Refused}
-use Rattle.refusals.specs.Refusals.{answer_of}
+use Rattle.refusals.specs.Refusals.{Verdict, answer_of, verdict_of}
 use Rattle.model.specs.declared.Arc.{Arc}
 use Rattle.model.specs.Automaton.{Automaton, no_arc}
 use Rattle.model.specs.Lists.{Lists, lists, arc_of, arcs_of, automaton_of}
 use Rattle.model.specs.Fitness.{EqualLists, Fit, fitness}
 use Rattle.model.proofs.Fitness.{fitness-yes}
 use Rattle.model.proofs.Arcs.{arcs-length, arcs-here}
-use Rattle.filling.specs.declared.Reading.{Reading}
-use Rattle.filling.specs.Filling.{room_in, written_from, written_if, refused_by, reading_if, first_places, later_places}
+use Rattle.filling.specs.Filling.{room_in, written_from, written_if, reading_if, no_numbers, numbers_in, first_places, later_places}
 
 -- there is room for m arcs exactly where each list takes them
 pub room-least : (l : Lists) (m : ℕ) → (m ≤ room_in l)
@@ -130,7 +127,7 @@ module _ (g : Automaton) (l : Lists) (room : length g.arcs ≤ room_in l) where
       ap {B = Automaton} with-lists first-written ∙ ap {B = Automaton} with-arcs (arcs-back g.arcs)
 
   -- so no call refuses it by 1 to 5, where it is fit
-  pub filled-fitness : Fit g → fitness g.modes g.start g.colours (first_places (length g.arcs) (written_from 0 g.arcs l)) ≡ Yes
+  pub filled-fitness : Fit g → fitness g.modes g.start g.colours (first_places (length g.arcs) (written_from 0 g.arcs l)) ≡ Ok tt
   filled-fitness fit =
       (fitness-yes g.modes g.start g.colours (first_places (length g.arcs) (written_from 0 g.arcs l))).1 (
         subst EqualLists (sym first-written) (equal-lists g.arcs),
@@ -138,32 +135,28 @@ module _ (g : Automaton) (l : Lists) (room : length g.arcs ≤ room_in l) where
       )
 
 -- the verdict in what a call answers is the verdict
-pub verdict-if : (v : Verdict) (g : Automaton) → (reading_if v g).verdict ≡ v
-verdict-if Yes g = refl
-verdict-if (Refused r) g = refl
+pub verdict-if : (v : Verdict) (g : Automaton) → verdict_of (reading_if v g) ≡ v
+verdict-if (Ok _) g = refl
+verdict-if (Err r) g = refl
 
 -- a call whose verdict is v, and which writes the model g where that is yes
 module _ (v : Verdict) (g : Automaton) where
-  -- number and detail are those of the verdict
-  pub answer-if : (r : Reading) → r ≡ reading_if v g → answer_of r.verdict ≡ answer_of v
-  answer-if r e = ap {B = Answer} (λ (x : Reading). answer_of x.verdict) e ∙ ap {B = Answer} answer_of (verdict-if v g)
-
   -- document 02, Asks 1 and 5: "A refused reading leaves the lent arc lists untouched and gives 0 for n, start mode, k and m"; "A refused join
   -- writes nothing and gives 0 for n, start mode, k and m"
-  module _ (r : Refusal) (no : v ≡ Refused r) where
-    pub refused-answer : refused_by r ≡ reading_if v g
-    refused-answer = rw no refl
+  module _ (r : Refusal) (no : v ≡ Err r) where
+    pub refused-answer : (Err r ≡ reading_if v g) × (no_numbers ≡ numbers_in (reading_if v g))
+    refused-answer = rw no (refl, refl)
 
     pub refused-kept : (l : Lists) → l ≡ written_if v g.arcs l
     refused-kept l = rw no refl
 
   -- with the numbers of a call that is not refused, the first places are the model
-  pub accepted-model : v ≡ Yes → (l : Lists) → length g.arcs ≤ room_in l → let r = reading_if v g in
+  pub accepted-model : v ≡ Ok tt → (l : Lists) → length g.arcs ≤ room_in l → let r = numbers_in (reading_if v g) in
       automaton_of r.modes r.start r.colours (first_places r.count (written_if v g.arcs l)) ≡ g
   accepted-model e l room = rw e (filled-model g l room)
 
 -- the same by the number: where it is not 0, four zeros, and the lists as they were
-pub filled-refused : (v : Verdict) (g : Automaton) (l : Lists) → ((answer_of v).number ≡ 0 → ⊥) → let r = reading_if v g in
+pub filled-refused : (v : Verdict) (g : Automaton) (l : Lists) → ((answer_of v).number ≡ 0 → ⊥) → let r = numbers_in (reading_if v g) in
     (r.modes ≡ 0) × (r.start ≡ 0) × (r.colours ≡ 0) × (r.count ≡ 0) × (written_if v g.arcs l ≡ l)
-filled-refused Yes g l refused = absurd (refused refl)
-filled-refused (Refused r) g l refused = (refl, refl, refl, refl, refl)
+filled-refused (Ok _) g l refused = absurd (refused refl)
+filled-refused (Err r) g l refused = (refl, refl, refl, refl, refl)

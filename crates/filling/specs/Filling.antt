@@ -1,14 +1,27 @@
 -- Lists lent to be filled. Document 01: "a call that fills arc lists writes one place per arc, from place 0"; document 02, Asks 1 and 5: reading and the
 -- join fill them.
-use Rattle.std.specs.Prelude.{ℕ, ◌+◌, ◌<◌, min, ◌≡◌, List, map, length, get_or, set, take, drop}
+use Rattle.std.specs.Prelude.{ℕ, ◌+◌, ◌<◌, min, ◌≡◌, List, map, length, get_or, set, take, drop, Result, Ok, Err}
 use Rattle.std.proofs.lemmas.List.Edits.{sets}
 use Rattle.refusals.specs.declared.Refusal.{Refusal}
-use Rattle.refusals.specs.declared.Verdict.{Verdict}
-use Rattle.refusals.specs.declared.Verdict.TheVariants.{Yes, Refused}
+use Rattle.refusals.specs.Refusals.{Verdict}
 use Rattle.model.specs.declared.Arc.{Arc}
 use Rattle.model.specs.Automaton.{Automaton, no_arc}
 use Rattle.model.specs.Lists.{Lists, lists}
-use Rattle.filling.specs.declared.Reading.{Reading}
+use Rattle.filling.specs.declared.LentLists.{LentLists}
+use Rattle.filling.specs.declared.Numbers.{Numbers}
+
+-- the lists, as they stand behind the six references
+abbrev pub lists_lent : LentLists → Lists
+lists_lent l = lists l.sources.now l.targets.now l.draws.now l.gains.now l.colours.now l.actions.now
+
+-- the references are still those to the lists that were lent
+pub record SameLent (old new : LentLists) : Type 0 where
+  pub sources : new.sources.ghost_name ≡ old.sources.ghost_name
+  pub targets : new.targets.ghost_name ≡ old.targets.ghost_name
+  pub draws : new.draws.ghost_name ≡ old.draws.ghost_name
+  pub gains : new.gains.ghost_name ≡ old.gains.ghost_name
+  pub colours : new.colours.ghost_name ≡ old.colours.ghost_name
+  pub actions : new.actions.ghost_name ≡ old.actions.ghost_name
 
 -- "More edges than the shortest of them takes": how many arcs lists of these lengths take; "lists lent to be filled may have any length"
 abbrev pub room_of : ℕ → ℕ → ℕ → ℕ → ℕ → ℕ → ℕ
@@ -58,17 +71,26 @@ pub record Written (arcs : List Arc) (i : ℕ) (old : Lists) (end : ℕ) (now : 
 
 -- "A refused reading leaves the lent arc lists untouched"; "A refused join writes nothing"
 abbrev pub written_if : Verdict → List Arc → Lists → Lists
-written_if Yes arcs l = written_from 0 arcs l
-written_if (Refused r) arcs l = l
+written_if (Ok _) arcs l = written_from 0 arcs l
+written_if (Err r) arcs l = l
 
--- "and gives 0 for n, start mode, k and m"
-abbrev pub refused_by : Refusal → Reading
-refused_by r = record { verdict = Refused r; modes = 0; start = 0; colours = 0; count = 0 }
+-- the numbers of a model
+abbrev pub numbers_of : Automaton → Numbers
+numbers_of g = record { modes = g.modes; start = g.start; colours = g.colours; count = length g.arcs }
 
 -- what a call answers that writes the model g where the verdict is yes
-abbrev pub reading_if : Verdict → Automaton → Reading
-reading_if Yes g = record { verdict = Yes; modes = g.modes; start = g.start; colours = g.colours; count = length g.arcs }
-reading_if (Refused r) g = refused_by r
+abbrev pub reading_if : Verdict → Automaton → Result Numbers Refusal
+reading_if (Ok _) g = Ok (numbers_of g)
+reading_if (Err r) g = Err r
+
+-- "and gives 0 for n, start mode, k and m"
+abbrev pub no_numbers : Numbers
+no_numbers = record { modes = 0; start = 0; colours = 0; count = 0 }
+
+-- the numbers in what a call answers
+abbrev pub numbers_in : Result Numbers Refusal → Numbers
+numbers_in (Ok n) = n
+numbers_in (Err r) = no_numbers
 
 -- the first m places of each list: what a caller lends to the other calls
 abbrev pub first_places : ℕ → Lists → Lists

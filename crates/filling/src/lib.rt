@@ -2,98 +2,69 @@
 // call answers.
 #![tactic(auto)]
 
-ghost use Rattle.std.specs.Prelude.{◌≡◌, min, set};
-ghost use Rattle.model.specs.Lists.{lists};
-ghost use Rattle.filling.specs.Filling.{room_of, put, refused_by};
+ghost use Rattle.std.specs.Prelude.{◌≡◌, set};
+ghost use Rattle.filling.specs.Filling.{lists_lent, SameLent, room_in, put, numbers_in};
 
 use model::Arc;
-use refusals::{Refusal, Verdict};
+use refusals::Refusal;
 
-// What a call that fills lists answers: the verdict, and the numbers of the model that it wrote, each 0 where it is refused.
-#[derive(Clone, Copy)]
-pub struct Reading {
-    pub verdict: Verdict,
+// The numbers of a model that was written into lent lists: of its modes, its start mode, of its colours and of its arcs.
+#[derive(Clone, Copy, Default)]
+pub struct Numbers {
     pub modes: u32,
     pub start: u32,
     pub colours: u32,
     pub count: u32,
 }
 
-// A refused call.
-pub fn refused(refusal: Refusal) -> Reading
-    ensures { result ≡ refused_by refusal }
+// The numbers that a call answers, each 0 where it is refused.
+pub fn numbers_in(told: Result<Numbers, Refusal>) -> Numbers
+    ensures { result ≡ numbers_in told }
 {
-    Reading {
-        verdict: Verdict::Refused(refusal),
-        modes: 0,
-        start: 0,
-        colours: 0,
-        count: 0,
-    }
+    told.unwrap_or_default()
 }
 
-// The smaller of two numbers.
-fn smaller(a: usize, b: usize) -> usize
-    ensures { result ≡ min a b }
-{
-    if a <= b {
-        return a;
-    }
-    b
-}
-
-// How many arcs six lists of these lengths take: the length of the shortest.
-pub fn room(
-    sources: usize,
-    targets: usize,
-    draws: usize,
-    gains: usize,
-    colours: usize,
-    actions: usize,
-) -> usize
-    ensures { result ≡ room_of sources targets draws gains colours actions }
-{
-    let ends = smaller(sources, targets);
-    let parts = smaller(draws, gains);
-    let bytes = smaller(colours, actions);
-    smaller(ends, smaller(parts, bytes))
-}
-
-// A byte written at place i of a list. Where the list has no such place, nothing is written.
-fn put_byte(list: &mut [u8], i: usize, byte: u8)
-    ensures { list.new ≡ set list.old i byte }
+// A value written at place i of a list. Where the list has no such place, nothing is written.
+fn put<T: Copy>(list: &mut [T], i: usize, value: T)
+    ensures { list.new ≡ set list.old i value }
 {
     if i < list.len() {
-        list[i] = byte;
+        list[i] = value;
     }
 }
 
-// The same of a word.
-fn put_word(list: &mut [u16], i: usize, word: u16)
-    ensures { list.new ≡ set list.old i word }
-{
-    if i < list.len() {
-        list[i] = word;
-    }
+// Six lists that are lent to be filled, an arc at one place of each. They may have any lengths. (Six lists, and not one of arcs, as C lends them.)
+#[derive(Drop)]
+pub struct LentLists<'a> {
+    pub sources: &'a mut [u8],
+    pub targets: &'a mut [u8],
+    pub draws: &'a mut [u16],
+    pub gains: &'a mut [u16],
+    pub colours: &'a mut [u8],
+    pub actions: &'a mut [u8],
 }
 
-// An arc written at place i of each list.
-pub fn write(
-    arc: Arc,
-    i: usize,
-    sources: &mut [u8],
-    targets: &mut [u8],
-    draws: &mut [u16],
-    gains: &mut [u16],
-    colours: &mut [u8],
-    actions: &mut [u8],
-)
-    ensures { lists sources.new targets.new draws.new gains.new colours.new actions.new ≡ put (lists sources.old targets.old draws.old gains.old colours.old actions.old) i arc }
-{
-    put_byte(sources, i, arc.source);
-    put_byte(targets, i, arc.target);
-    put_word(draws, i, arc.draw);
-    put_word(gains, i, arc.gain);
-    put_byte(colours, i, arc.colours);
-    put_byte(actions, i, arc.action);
+impl LentLists<'_> {
+    // How many arcs they take: as many as the shortest has places.
+    pub fn room(&self) -> usize
+        ensures { result ≡ room_in (lists_lent self.now) }
+    {
+        let ends = self.sources.len().min(self.targets.len());
+        let parts = self.draws.len().min(self.gains.len());
+        let bytes = self.colours.len().min(self.actions.len());
+        ends.min(parts.min(bytes))
+    }
+
+    // An arc written at place i of each list.
+    pub fn write(&mut self, arc: Arc, i: usize)
+        ensures arc { lists_lent self.new ≡ put (lists_lent self.old) i arc }
+        ensures same_lists { SameLent self.old self.new }
+    {
+        put(self.sources, i, arc.source);
+        put(self.targets, i, arc.target);
+        put(self.draws, i, arc.draw);
+        put(self.gains, i, arc.gain);
+        put(self.colours, i, arc.colours);
+        put(self.actions, i, arc.action);
+    }
 }

@@ -1,61 +1,51 @@
--- What starting and stepping a gauge hand back, row by row: of a model, of the model that the code holds, and by the verdict that
--- check_model answers. Assumes nothing.
+-- What starting and stepping a gauge hand back, row by row: of a model, and by what check_model and check_levels answer. Assumes nothing.
+use Rattle.std.specs.Prelude.{None, Ok, Err}
 use mathlib.Core.Path.{◌≡◌, refl, sym, ap, ◌∙◌}
 use mathlib.Core.Bool.{Bool, false, not, ◌||◌}
 use mathlib.Core.Logic.{◌≢◌, ◌↔◌}
 use Prim.Native.Nat.{ℕ, ◌+◌, ◌≤◌, ◌<◌}
-use native.Mathlib.Omega.{arith}
 use lib.Dec.{eqb}
 use lib.ListN.{length}
 use borrow.Author.Tests.{le-leb, lt-leb, le-ltb, lt-ltb, eq-eqb, ne_eqb}
 use Rattle.limits.specs.Ceilings.{spill_most}
-use Rattle.walks.specs.declared.Step.{Step}
-use Rattle.walks.specs.declared.Step.TheVariants.{To, Impossible}
-use Rattle.walks.specs.BoundedStep.{stepped}
+use Rattle.walks.specs.BoundedStep.{to, stepped}
 use Rattle.refusals.specs.declared.Refusal.{Refusal}
 use Rattle.refusals.specs.declared.Refusal.TheVariants.{ArcNumber, OtherMode, ImpossibleStep, MixedGauge}
-use Rattle.refusals.specs.declared.Verdict.{Verdict}
-use Rattle.refusals.specs.declared.Verdict.TheVariants.{Yes, Refused}
-use Rattle.refusals.specs.Refusals.{answer_of, refuse}
-use Rattle.refusals.proofs.Numbers.{in-number}
+use Rattle.refusals.specs.Refusals.{Verdict, refuse, and_then}
 use Rattle.refusals.proofs.Verdicts.{refuse-yes}
 use Rattle.refusals.proofs.Tests.{or_no, differ-no}
 use Rattle.model.specs.declared.Model.{Model}
-use Rattle.model.specs.declared.Fitted.{Fitted}
 use Rattle.model.specs.Automaton.{Automaton, arc_at, move_of}
 use Rattle.model.specs.Lists.{Lists, automaton_of, held}
-use Rattle.model.specs.Fitness.{fitted_of, levels_of, Holds}
-use Rattle.model.proofs.Held.{arc_in, held-arc, told-verdict, told-holds, told-held}
+use Rattle.model.specs.Fitness.{fitted_of, levels_of}
+use Rattle.model.proofs.Held.{told-yes, told-refused, told-holds, told-held}
 use Rattle.gauge.specs.declared.Gauge.{Gauge}
-use Rattle.gauge.specs.declared.Gauged.{Gauged}
-use Rattle.gauge.specs.Gauge.{gauge, moved_to, gauged, no_gauge, stop_at, landed, started_of, moved_of, Matches, mixed_up, moved_matched, moved_levelled, stepped_of}
-
--- what is handed back, and with it the number of its verdict
-pub gauged-number : {x y : Gauged} → x ≡ y → (x ≡ y) × (answer_of x.verdict ≡ answer_of y.verdict)
-gauged-number = in-number (λ (y : Gauged). answer_of y.verdict)
+use Rattle.gauge.specs.Gauge.{Gauged, gauge, gauge_or, moved_to, landed, started_of, moved_of, Matches, mixed_up, moved_matched, moved_levelled, stepped_of}
 
 -- a step that is not possible
-pub landed-off : (x : Gauge) (t : ℕ) → landed x t Impossible ≡ gauged (Refused (ImpossibleStep 0)) x
+pub landed-off : (x : Gauge) (t : ℕ) → landed x t None ≡ Err (ImpossibleStep 0)
 landed-off x t = refl
 
 module _ (x : Gauge) (t e l : ℕ) where
   -- a step that is possible: the total would pass 64 bits
-  pub landed-full : spill_most < x.spill + l → landed x t (To e l) ≡ gauged (Refused (ImpossibleStep 0)) x
-  landed-full h = rw (lt-ltb spill_most (x.spill + l) h) refl
+  pub landed-full : spill_most < x.spill + l → (landed x t (to e l) ≡ Err (ImpossibleStep 0)) × (gauge_or x (landed x t (to e l)) ≡ x)
+  landed-full h =
+      let e : landed x t (to e l) ≡ Err (ImpossibleStep 0) = rw (lt-ltb spill_most (x.spill + l) h) refl in
+      (e, ap {B = Gauge} (gauge_or x) e)
 
   -- it does not
-  pub landed-on : x.spill + l ≤ spill_most → landed x t (To e l) ≡ gauged Yes (moved_to x t e (x.spill + l))
+  pub landed-on : x.spill + l ≤ spill_most → landed x t (to e l) ≡ Ok (moved_to x t e (x.spill + l))
   landed-on h = rw (le-ltb spill_most (x.spill + l) h) refl
 
 module _ (g : Automaton) (b a : ℕ) (x : Gauge) where
   -- 12 applies
-  pub moved-number : length g.arcs ≤ a → moved_of g b a x ≡ gauged (Refused (ArcNumber 0)) x
+  pub moved-number : length g.arcs ≤ a → moved_of g b a x ≡ Err (ArcNumber 0)
   unfolding moved_of
   moved-number h = rw (le-leb (length g.arcs) a h) refl
 
   module _ (h : a < length g.arcs) where
     -- 12 does not apply, and 13 does
-    pub moved-mode : (arc_at g a).source ≢ x.mode → moved_of g b a x ≡ gauged (Refused (OtherMode 0)) x
+    pub moved-mode : (arc_at g a).source ≢ x.mode → moved_of g b a x ≡ Err (OtherMode 0)
     unfolding moved_of
     moved-mode q = rw (lt-leb (length g.arcs) a h, ne_eqb (arc_at g a).source x.mode q) refl
 
@@ -83,74 +73,54 @@ module _ (g : Automaton) (b : ℕ) (x : Gauge) where
       )
 
   -- the check lets it through
-  pub match-through : refuse (mixed_up g.modes (length g.arcs) b x) MixedGauge Yes ≡ Yes → Matches g b x
-  match-through e = mixed-no.0 ((refuse-yes (mixed_up g.modes (length g.arcs) b x) MixedGauge Yes).0 e).0
+  pub match-through : ◌≡◌ {A = Verdict} (refuse (mixed_up g.modes (length g.arcs) b x) MixedGauge (Ok tt)) (Ok tt) → Matches g b x
+  match-through e = mixed-no.0 ((refuse-yes (mixed_up g.modes (length g.arcs) b x) MixedGauge (Ok tt)).0 e).0
 
 module _ (g : Automaton) (b a : ℕ) (x : Gauge) where
   -- 22, and then 12, 13 and 15
   pub matched-by : (t : Bool) → mixed_up g.modes (length g.arcs) b x ≡ t
-      → moved_matched g b a x ≡ stop_at (refuse t MixedGauge Yes) x (moved_of g b a x)
+      → moved_matched g b a x ≡ refuse t MixedGauge (moved_of g b a x)
   unfolding moved_matched
-  matched-by t e = ap {B = Gauged} (λ (t : Bool). stop_at (refuse t MixedGauge Yes) x (moved_of g b a x)) e
+  matched-by t e = ap {B = Gauged} (λ (t : Bool). refuse t MixedGauge (moved_of g b a x)) e
 
   -- 6, and then 22 and what follows it
-  pub levelled-by : (v : Verdict) → levels_of b x.charge ≡ v → moved_levelled g b a x ≡ stop_at v x (moved_matched g b a x)
+  pub levelled-by : (v : Verdict) → levels_of b x.charge ≡ v → moved_levelled g b a x ≡ and_then v (moved_matched g b a x)
   unfolding moved_levelled
-  levelled-by v e = ap {B = Gauged} (λ (v : Verdict). stop_at v x (moved_matched g b a x)) e
+  levelled-by v e = ap {B = Gauged} (λ (v : Verdict). and_then v (moved_matched g b a x)) e
 
--- the same of the model that the code holds
-module _ (g : Model) (holds : Holds g) (b a : ℕ) (x : Gauge) where
-  -- 22
-  pub held-matched : (t : Bool) → mixed_up g.modes g.count b x ≡ t
-      → moved_matched (held g) b a x ≡ stop_at (refuse t MixedGauge Yes) x (moved_of (held g) b a x)
-  held-matched t e = matched-by (held g) b a x t (ap {B = Bool} (λ (m : ℕ). mixed_up g.modes m b x) holds.count ∙ e)
+-- what a caller of check_model and check_levels answers: the refusal of the first that refuses, ..
+module _ (n s k : ℕ) (l : Lists) where
+  pub start_unfit : (b c : ℕ) (r : Refusal) → Err r ≡ fitted_of n s k l → started_of n s k l b c ≡ Err r
+  unfolding started_of
+  start_unfit b c r told = rw (told-refused n s k l r told) refl
 
-  -- 12 applies
-  pub held_number : g.count ≤ a → moved_of (held g) b a x ≡ gauged (Refused (ArcNumber 0)) x
-  held_number h = moved-number (held g) b a x (omega (arith, holds.count))
+  pub step_unfit : (b a : ℕ) (x : Gauge) (r : Refusal) → Err r ≡ fitted_of n s k l → stepped_of n s k l b a x ≡ Err r
+  unfolding stepped_of
+  step_unfit b a x r told = rw (told-refused n s k l r told) refl
 
-  module _ (h : a < g.count) where
-    -- the arc is one of the model's
-    below : a < length (held g).arcs
-    below = omega (arith, holds.count)
+  pub start_levels : (b c : ℕ) (g : Model) (r : Refusal) → Ok g ≡ fitted_of n s k l → Err r ≡ levels_of b c → started_of n s k l b c ≡ Err r
+  unfolding started_of
+  start_levels b c g r told e = rw (told-yes n s k l g told, sym e) refl
 
-    -- 12 does not apply, and 13 does
-    pub held-mode : (arc_in g a).source ≢ x.mode → moved_of (held g) b a x ≡ gauged (Refused (OtherMode 0)) x
-    held-mode q = moved-mode (held g) b a x below (rw (held-arc g a h) q)
+  pub step_levels : (b a : ℕ) (x : Gauge) (g : Model) (r : Refusal) → Ok g ≡ fitted_of n s k l → Err r ≡ levels_of b x.charge → stepped_of n s k l b a x ≡ Err r
+  unfolding stepped_of
+  step_levels b a x g r told e = rw (told-yes n s k l g told, levelled-by (automaton_of n s k l) b a x (Err r) (sym e)) refl
 
-    -- neither does: the bounded step decides
-    pub held-lands : (arc_in g a).source ≡ x.mode → (s : Step) → stepped b (move_of (arc_in g a)) x.charge ≡ s
-        → moved_of (held g) b a x ≡ landed x (arc_in g a).target s
-    held-lands q s e = moved-lands (held g) b a x below (rw (held-arc g a h) q) ∙ rw (held-arc g a h, e) refl
+  -- .. or the new gauge, and 22 and what follows it
+  pub start_fit : (b c : ℕ) (g : Model) → Ok g ≡ fitted_of n s k l → Ok tt ≡ levels_of b c
+      → started_of n s k l b c ≡ Ok (gauge g.start c 0 g.modes g.count b)
+  unfolding started_of
+  start_fit b c g told e =
+      let same = told-held n s k l g told in
+      let start : g.start ≡ s = ap {B = ℕ} (λ (g : Automaton). g.start) same in
+      let modes : g.modes ≡ n = ap {B = ℕ} (λ (g : Automaton). g.modes) same in
+      let count : g.count ≡ length (automaton_of n s k l).arcs =
+      sym (told-holds n s k l g told).count ∙ ap {B = ℕ} (λ (g : Automaton). length g.arcs) same
+      in
+      rw (told-yes n s k l g told, start, modes, count, sym e) refl
 
--- what a caller of check_model hands back, where check_model answers y
-module _ (n s k : ℕ) (l : Lists) (y : Fitted) (told : y ≡ fitted_of n s k l) where
-  module _ (b c : ℕ) where
-    -- starting on a fit model: 6 decides
-    pub start-fit : y.verdict ≡ Yes
-        → stop_at (levels_of b c) no_gauge (gauged Yes (gauge y.model.start c 0 y.model.modes y.model.count b)) ≡ started_of n s k l b c
-    unfolding started_of
-    start-fit e =
-        let same = told-held n s k l y told e in
-        let start : y.model.start ≡ s = ap {B = ℕ} (λ (g : Automaton). g.start) same in
-        let modes : y.model.modes ≡ n = ap {B = ℕ} (λ (g : Automaton). g.modes) same in
-        let count : y.model.count ≡ length (automaton_of n s k l).arcs =
-        sym (told-holds n s k l y told e).count ∙ ap {B = ℕ} (λ (g : Automaton). length g.arcs) same
-        in
-        rw (told-verdict n s k l y told Yes e, start, modes, count) refl
-
-    -- starting on an unfit model: its refusal
-    pub start-unfit : (r : Refusal) → y.verdict ≡ Refused r → gauged (Refused r) no_gauge ≡ started_of n s k l b c
-    unfolding started_of
-    start-unfit r e = rw (told-verdict n s k l y told (Refused r) e) refl
-
-  module _ (b a : ℕ) (x : Gauge) where
-    -- a step on a fit model: 6 and what follows it decide
-    pub step-fit : y.verdict ≡ Yes → moved_levelled (held y.model) b a x ≡ stepped_of n s k l b a x
-    unfolding stepped_of
-    step-fit e = rw (told-verdict n s k l y told Yes e, told-held n s k l y told e) refl
-
-    -- a step on an unfit model: its refusal, and the gauge as found
-    pub step-unfit : (r : Refusal) → y.verdict ≡ Refused r → gauged (Refused r) x ≡ stepped_of n s k l b a x
-    unfolding stepped_of
-    step-unfit r e = rw (told-verdict n s k l y told (Refused r) e) refl
+  pub step_fit : (b a : ℕ) (x : Gauge) (g : Model) → Ok g ≡ fitted_of n s k l → Ok tt ≡ levels_of b x.charge
+      → stepped_of n s k l b a x ≡ moved_matched (held g) b a x
+  unfolding stepped_of
+  step_fit b a x g told e =
+      rw (told-yes n s k l g told, levelled-by (automaton_of n s k l) b a x (Ok tt) (sym e), told-held n s k l g told) refl

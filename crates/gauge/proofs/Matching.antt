@@ -1,18 +1,17 @@
 -- What 22 does to a step. Document 02, Ask 3: "Steps on a matching gauge follow the old rule, and a mixed-up gauge stays as found"; and no step
 -- changes the three numbers that it compares. Assumes nothing.
+use Rattle.std.specs.Prelude.{Ok, Err}
 use mathlib.Core.Path.{◌≡◌, refl, sym, ap, ◌∙◌, subst}
 use mathlib.Core.Bool.{true, false, not-eq-not}
 use mathlib.Core.Logic.{◌↔◌, ⊎_elim}
 use Prim.Native.Nat.{ℕ}
 use Rattle.refusals.specs.declared.Refusal.TheVariants.{MixedGauge}
-use Rattle.refusals.specs.declared.Verdict.{Verdict}
-use Rattle.refusals.specs.declared.Verdict.TheVariants.{Yes, Refused}
+use Rattle.refusals.specs.Refusals.{Verdict, and_then}
 use Rattle.model.specs.Automaton.{Automaton}
 use Rattle.model.specs.Lists.{Lists, automaton_of}
 use Rattle.model.specs.Fitness.{fitness, levels_of}
 use Rattle.gauge.specs.declared.Gauge.{Gauge}
-use Rattle.gauge.specs.declared.Gauged.{Gauged}
-use Rattle.gauge.specs.Gauge.{new_gauge, moved_to, gauged, stop_at, moved_of, Matches, moved_levelled, stepped_of, old_rule}
+use Rattle.gauge.specs.Gauge.{Gauged, gauge_or, new_gauge, moved_to, moved_of, Matches, moved_levelled, stepped_of, old_rule}
 use Rattle.gauge.proofs.Gauges.{mixed-no, matched-by}
 use Rattle.gauge.proofs.Stops.{step-outcome}
 
@@ -21,7 +20,7 @@ module _ (n s k : ℕ) (l : Lists) (b a : ℕ) (x : Gauge) where
   g = automaton_of n s k l
 
   -- the old rule: 1 to 5, 6, and the step on the arc, whatever the gauge was started with
-  pub old-by : (u v : Verdict) → fitness n s k l ≡ u → levels_of b x.charge ≡ v → old_rule n s k l b a x ≡ stop_at u x (stop_at v x (moved_of g b a x))
+  pub old-by : (u v : Verdict) → fitness n s k l ≡ u → levels_of b x.charge ≡ v → old_rule n s k l b a x ≡ and_then u (and_then v (moved_of g b a x))
   old-by u v fit levels = rw (fit, levels) refl
 
   -- "Steps on a matching gauge follow the old rule"
@@ -30,22 +29,25 @@ module _ (n s k : ℕ) (l : Lists) (b a : ℕ) (x : Gauge) where
   matching-step m = rw (matched-by g b a x false ((mixed-no g b x).1 m)) refl
 
   -- "a mixed-up gauge stays as found": 22, where none of 1 to 6 applies
-  pub mixed-step : (Matches g b x → ⊥) → fitness n s k l ≡ Yes → levels_of b x.charge ≡ Yes
-      → stepped_of n s k l b a x ≡ gauged (Refused MixedGauge) x
+  pub mixed-step : (Matches g b x → ⊥) → fitness n s k l ≡ Ok tt → levels_of b x.charge ≡ Ok tt
+      → (stepped_of n s k l b a x ≡ Err MixedGauge) × (gauge_or x (stepped_of n s k l b a x) ≡ x)
   unfolding stepped_of moved_levelled
-  mixed-step other fit levels = rw (fit, levels, matched-by g b a x true (not-eq-not.0 (λ e. other ((mixed-no g b x).0 e)))) refl
+  mixed-step other fit levels =
+      let e : stepped_of n s k l b a x ≡ Err MixedGauge =
+      rw (fit, levels, matched-by g b a x true (not-eq-not.0 (λ e. other ((mixed-no g b x).0 e)))) refl
+      in (e, ap {B = Gauge} (gauge_or x) e)
 
 -- z has x's n, m and b
 abbrev pub Kept : Gauge → Gauge → Type 0
 Kept x z = z ≡ moved_to x z.mode z.charge z.spill
 
 -- a step keeps them, accepted or refused
-pub step_kept : (n s k : ℕ) (l : Lists) (b a : ℕ) (x : Gauge) → Kept x (stepped_of n s k l b a x).gauge
+pub step_kept : (n s k : ℕ) (l : Lists) (b a : ℕ) (x : Gauge) → Kept x (gauge_or x (stepped_of n s k l b a x))
 step_kept n s k l b a x = ⊎_elim (λ (r, _, e). rw e refl) (λ (t, e, u, p). rw p refl) (step-outcome n s k l b a x)
 
 -- so the gauge of an accepted one has them
-pub yes-kept : (x u : Gauge) (y : Gauged) → y ≡ gauged Yes u → Kept x y.gauge → Kept x u
-yes-kept x u y q = subst (Kept x) (ap {B = Gauge} (λ (y : Gauged). y.gauge) q)
+pub yes-kept : (x u : Gauge) (y : Gauged) → y ≡ Ok u → Kept x (gauge_or x y) → Kept x u
+yes-kept x u y q = subst (Kept x) (ap {B = Gauge} (gauge_or x) q)
 
 -- one step, and another
 pub kept_on : (x u z : Gauge) → Kept x u → Kept u z → Kept x z

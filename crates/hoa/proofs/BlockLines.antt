@@ -1,60 +1,29 @@
 -- The blocks in the first lines of a body. Assumes nothing.
 use mathlib.Core.Path.{◌≡◌, refl, sym, ◌∙◌}
-use mathlib.Core.Bool.{Bool, true, false, not, cond, ◌||◌, or-false}
+use mathlib.Core.Bool.{Bool, true, false, cond, ◌||◌, or-false}
 use mathlib.Core.List.{List, [], ◌∷◌, ◌++◌}
-use Prim.Native.Nat.{ℕ, suc, ◌^◌, ◌≤◌, ◌<◌, max}
+use Prim.Native.Nat.{ℕ, suc, ◌^◌, ◌<◌, max}
 use native.Mathlib.Nat.{div-eq_of_lt}
 use native.Mathlib.Decide.{ℕ_discrete}
 use native.Mathlib.Omega.{arith}
 use lib.Bits.{bit_or}
 use lib.Dec.{eqb, ltb}
 use lib.Pow.{pow_pos}
-use lib.ListN.{length, take, drop, drop_of_length-le, length-take}
-use lib.Seq.{drop-cons, get_or-take, length-take-le}
-use borrow.Author.Tests.{le-ltb, lt-ltb, ltb-false, not-false, eq-eqb, ne_eqb}
-use Rattle.fields.proofs.Places.{Begins}
+use borrow.Author.Tests.{ltb-false, eq-eqb, ne_eqb}
+use Rattle.std.specs.List.{list_any}
 use Rattle.limits.specs.Ceilings.{modes_most}
 use Rattle.model.specs.Automaton.{bit}
 use Rattle.model.proofs.Bits.{power-bit, or-bit}
 use Rattle.hoa.specs.declared.Blocks.{Blocks}
-use Rattle.hoa.specs.Text.{opens_block, has_block, is_new_block, may_stand}
+use Rattle.hoa.specs.Text.{opens_block, has_block}
 use Rattle.hoa.specs.Blocks.{Knows, no_blocks, low_with, blocks_after}
-use Rattle.hoa.specs.Lines.{is_state, state_of, is_edge}
+use Rattle.hoa.specs.Lines.{is_state, state_of}
 
--- no line is left of those to look at
-pub block_none : (m c j : ℕ) (ls : List (List ℕ)) → length (take c ls) ≤ j → has_block m (drop j (take c ls)) ≡ false
+-- some line of these opens the block
+pub block-any : (m : ℕ) (ls : List (List ℕ)) → has_block m ls ≡ list_any (opens_block m) ls
 unfolding has_block
-block_none m c j ls h = rw (drop_of_length-le (take c ls) h)
-
-pub block-all : (m c j : ℕ) (ls : List (List ℕ)) → c ≤ j → has_block m (drop j (take c ls)) ≡ false
-block-all m c j ls h = block_none m c j ls (rw (length-take c ls) (omega arith))
-
-pub block-spent : (m c j : ℕ) (ls : List (List ℕ)) → length ls ≤ j → has_block m (drop j (take c ls)) ≡ false
-block-spent m c j ls h = block_none m c j ls (rw (length-take c ls) (omega arith))
-
-pub block-turn : (m c j : ℕ) (ls : List (List ℕ)) (l : List ℕ) (t : List (List ℕ)) → j < c → Begins [] ls j l t
-    → has_block m (drop j (take c ls)) ≡ (opens_block m l || has_block m (drop (suc j) (take c ls)))
-unfolding has_block
-block-turn m c j ls l t h b =
-    let long : j < length (take c ls) = rw (length-take c ls) (omega (arith, b.within)) in
-    rw (drop-cons (take c ls) j [] long, get_or-take c ls j [] h, b.here)
-
--- a `State:` line of a mode below n opens a new block unless the mode has one
-pub new-unless : (n mode : ℕ) (ls : List (List ℕ)) (l : List ℕ) (state : Bool) → state ≡ is_state l → not state ≡ false → mode ≡ state_of l → mode < n
-    → is_new_block n ls l ≡ not (has_block mode ls)
-unfolding is_new_block
-new-unless n mode ls l state is so e h = rw (← is, not-false state so, ← e, lt-ltb mode n h) refl
-
--- a line that opens no new block: no first line of a body, and elsewhere an edge's line
-module _ (n k c : ℕ) (ls : List (List ℕ)) (l : List ℕ) (within : c ≤ length ls) (new : Bool) (is : new ≡ is_new_block n (take c ls) l)
-    (old : new ≡ false) where
-  pub stand-first : c ≡ 0 → may_stand n k (take c ls) l ≡ false
-  unfolding may_stand
-  stand-first e = simp (sym is ∙ old, length-take-le c ls within, le-ltb 0 c (omega arith))
-
-  pub stand-edge : (c ≡ 0 → ⊥) → may_stand n k (take c ls) l ≡ is_edge n k l
-  unfolding may_stand
-  stand-edge e = simp (sym is ∙ old, length-take-le c ls within, lt-ltb 0 c (omega (arith, e)))
+block-any m [] = refl
+block-any m (l ∷ ls) = rw (block-any m ls)
 
 -- blocks of one line more
 pub block_more : (m : ℕ) (ls : List (List ℕ)) (l : List ℕ) → has_block m (ls ++ l ∷ []) ≡ (has_block m ls || opens_block m l)

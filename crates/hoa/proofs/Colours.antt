@@ -1,76 +1,23 @@
 -- The colours in braces, piece by piece. Assumes nothing.
 use mathlib.Core.Path.{◌≡◌, refl, sym, ap, ◌∙◌}
-use mathlib.Core.Bool.{Bool, true, false, cond, ◌&&◌, ◌||◌}
+use mathlib.Core.Bool.{Bool, true, false, cond, ◌&&◌}
 use mathlib.Core.List.{List, [], ◌∷◌, map}
-use Prim.Native.Nat.{ℕ, zero, suc, ◌+◌, ◌-◌, ◌^◌, ◌≤◌, ◌<◌}
+use Prim.Native.Nat.{ℕ, zero, suc, ◌+◌, ◌^◌, ◌<◌}
 use native.Mathlib.Omega.{arith}
 use lib.Dec.{ltb, eqb}
-use lib.ListN.{length, take, drop, drop_of_length-le}
-use borrow.Author.Tests.{lt-ltb, le-ltb}
+use borrow.Author.Tests.{le-ltb}
 use Rattle.limits.specs.Ceilings.{colours_most}
 use Rattle.model.specs.Automaton.{bit}
 use Rattle.model.proofs.Bits.{colours-below}
-use Rattle.fields.specs.Bytes.{feed, blank}
-use Rattle.fields.specs.Fields.{after_word, is_only, number_of, after_number, split, piece_length, is_word}
-use Rattle.fields.proofs.Pieces.{split_at}
-use Rattle.hoa.specs.Words.{close_brace}
-use Rattle.hoa.specs.Lines.{are_colours, inside}
-use Rattle.hoa.specs.Text.{colours_said, contains, colour_byte}
+use Rattle.fields.specs.Fields.{number_of}
+use Rattle.std.specs.List.{list_any}
+use Rattle.hoa.specs.Text.{contains, colour_byte}
 
--- one piece, and what the pieces after it say
-abbrev pub turn : ℕ → List ℕ → Bool → Bool
-turn k p rest = ltb (number_of p) k && (is_only feed (after_word close_brace (after_number p)) || (is_only blank (after_number p) && rest))
-
-pub colours-at : (k : ℕ) (s : List ℕ) (at e : ℕ) → at < length s → e ≡ at + piece_length blank (drop at s)
-    → are_colours k (split blank (drop at s)) ≡ turn k (take (e - at) (drop at s)) (are_colours k (split blank (drop e s)))
-unfolding are_colours
-colours-at k s at e h q = rw (split_at blank s at e h q)
-
-pub colours-end : (k : ℕ) (s : List ℕ) (at : ℕ) → length s ≤ at → are_colours k (split blank (drop at s)) ≡ false
-unfolding are_colours split
-colours-end k s at h = rw (drop_of_length-le s h)
-
--- the ways a turn goes
-pub turn-high : (k : ℕ) (p : List ℕ) (rest : Bool) → k ≤ number_of p → turn k p rest ≡ false
-turn-high k p rest h = simp (le-ltb _ _ h)
-
-pub turn-closed : (k : ℕ) (p : List ℕ) (rest : Bool) → number_of p < k → is_only feed (after_word close_brace (after_number p)) ≡ true
-    → turn k p rest ≡ true
-turn-closed k p rest h c = simp (lt-ltb _ _ h, c)
-
-pub turn-wrong : (k : ℕ) (p : List ℕ) (rest : Bool) → number_of p < k → is_only feed (after_word close_brace (after_number p)) ≡ false
-    → is_only blank (after_number p) ≡ false → turn k p rest ≡ false
-turn-wrong k p rest h c d = simp (lt-ltb _ _ h, c, d)
-
-pub turn_more : (k : ℕ) (p : List ℕ) (rest : Bool) → number_of p < k → is_only feed (after_word close_brace (after_number p)) ≡ false
-    → is_only blank (after_number p) ≡ true → turn k p rest ≡ rest
-turn_more k p rest h c d = simp (lt-ltb _ _ h, c, d)
-
--- one colour among the pieces
-pub contains-at : (x : ℕ) (s : List ℕ) (at e : ℕ) → at < length s → e ≡ at + piece_length blank (drop at s)
-    → contains x (map number_of (split blank (drop at s)))
-    ≡ (eqb x (number_of (take (e - at) (drop at s))) || contains x (map number_of (split blank (drop e s))))
+-- a colour among the pieces is one that some piece says
+pub contains-any : (x : ℕ) (ps : List (List ℕ)) → contains x (map number_of ps) ≡ list_any (λ p. eqb x (number_of p)) ps
 unfolding contains
-contains-at x s at e h q = rw (split_at blank s at e h q)
-
-pub contains-end : (x : ℕ) (s : List ℕ) (at : ℕ) → length s ≤ at → contains x (map number_of (split blank (drop at s))) ≡ false
-unfolding contains split
-contains-end x s at h = rw (drop_of_length-le s h)
-
--- what the colour byte is, by what follows the opening brace: nothing, the closing brace, pieces
-pub byte-bare : (l r : List ℕ) → r ≡ inside l → length r ≡ 0 → 0 ≡ colour_byte (colours_said l)
-unfolding colours_said colour_byte contains split is_only after_word
-byte-bare l [] e h = rw (← e)
-byte-bare l (x ∷ r) e h = absurd (omega (arith, h))
-
-pub byte-closed : (l r : List ℕ) → r ≡ inside l → is_word close_brace r ≡ true → 0 ≡ colour_byte (colours_said l)
-unfolding colours_said colour_byte contains
-byte-closed l r e h = rw (← e, h)
-
-pub byte-pieces : (l r : List ℕ) → r ≡ inside l → is_word close_brace r ≡ false
-    → colour_byte (map number_of (split blank r)) ≡ colour_byte (colours_said l)
-unfolding colours_said
-byte-pieces l r e h = rw (← e, h)
+contains-any x [] = refl
+contains-any x (p ∷ ps) = rw (contains-any x ps)
 
 -- a byte of four bits
 byte-bits : (p q r s : Bool) → (x : ℕ) × (x ≡ cond p 1 0 + cond q 2 0 + cond r 4 0 + cond s 8 0)

@@ -1,9 +1,9 @@
 // HOA text: its lines, and the first that is outside the forms.
 #![tactic(auto)]
 
-ghost use Rattle.std.specs.Prelude.{◌≡◌, true, cond, [], map, suc, ◌≤◌, max, length, take};
+ghost use Rattle.std.specs.Prelude.{◌≡◌, true, cond, [], map, suc, ◌≤◌, max, length, take, drop};
 ghost use Rattle.fields.specs.Bytes.{blank, ampersand};
-ghost use Rattle.fields.specs.Fields.{number_of, split, lines_of, is_word};
+ghost use Rattle.fields.specs.Fields.{number_of, split, lines_of, is_word, line_or_none};
 ghost use Rattle.hoa.specs.Words.{close_brace};
 ghost use Rattle.hoa.specs.Lines.{
   is_state,
@@ -42,6 +42,7 @@ use fields::Bytes;
 use limits::Limits;
 
 // What is known of the modes that have a block in the lines so far: bit j of low for each mode j that a fit model may have; no mode from top on.
+// (A word as a set: no heap.)
 #[derive(Clone, Copy)]
 pub struct Blocks {
     pub low: u64,
@@ -84,13 +85,11 @@ fn closes(s: &[u8]) -> bool
 }
 
 // Whether colours below k stand in a list, with what closes them.
+#[tactic(auto, unfolding(crate::specs::Lines::are_colours))]
 fn are_colours(s: &[u8], k: u32) -> bool
     ensures { result ≡ are_colours k (split blank s.now) }
 {
-    let mut at = 0;
-    while at < s.len() {
-        let e = fields::piece_end(s, at, Bytes::BLANK);
-        let piece = &s[at..e];
+    for piece in fields::split_after(s, Bytes::BLANK) {
         if fields::number_of(piece) >= k {
             return false;
         }
@@ -101,34 +100,25 @@ fn are_colours(s: &[u8], k: u32) -> bool
         if !fields::is_only(tail, Bytes::BLANK) {
             return false;
         }
-        at = e;
     }
     false
 }
 
 // Whether braces that are open are closed rightly.
+#[tactic(auto, unfolding(crate::specs::Lines::is_braces))]
 fn is_braces(s: &[u8], k: u32) -> bool
     ensures { result ≡ is_braces k s.now }
 {
-    if closes(s) {
-        return true;
-    }
-    are_colours(s, k)
+    closes(s) || are_colours(s, k)
 }
 
 // Whether a line is an edge's line.
+#[tactic(auto, unfolding(crate::specs::Lines::is_edge))]
 fn is_edge(line: &[u8], n: u32, k: u32) -> bool
     ensures { result ≡ is_edge n k line.now }
 {
-    let rest = fields::after_word(line, b"[t] ");
-    if fields::number_of(rest) >= n {
-        return false;
-    }
-    let tail = fields::after_number(rest);
-    if fields::is_only(tail, Bytes::FEED) {
-        return true;
-    }
-    is_braces(fields::after_word(tail, b" {"), k)
+    let tail = fields::tail_after(line, b"[t] ");
+    target_of(line) < n && (fields::is_only(tail, Bytes::FEED) || is_braces(inside_of(line), k))
 }
 
 // The number of colours on an `Acceptance:` line.
@@ -160,14 +150,11 @@ fn inf_number(piece: &[u8]) -> u32
 }
 
 // Whether a condition is `Inf(0)` to `Inf(k-1)`.
+#[tactic(auto, unfolding(crate::specs::Lines::are_infs))]
 fn are_infs(s: &[u8], k: u32) -> bool
     ensures { result ≡ are_infs k 0 (split ampersand s.now) }
 {
-    let mut at = 0;
-    let mut j: usize = 0;
-    while at < s.len() {
-        let e = fields::piece_end(s, at, Bytes::AMPERSAND);
-        let piece = &s[at..e];
+    for (j, piece) in fields::split_after(s, Bytes::AMPERSAND).enumerate() {
         if (inf_number(piece) as usize) != j {
             return false;
         }
@@ -178,22 +165,22 @@ fn are_infs(s: &[u8], k: u32) -> bool
         if !fields::is_only(tail, Bytes::AMPERSAND) {
             return false;
         }
-        at = e;
-        j += 1;
     }
     false
 }
 
 // Whether a line is an `Acceptance:` line.
+#[tactic(auto, unfolding(crate::specs::Lines::is_acceptance))]
 fn is_acceptance(line: &[u8]) -> bool
     ensures { result ≡ is_acceptance line.now }
 {
     let k = colour_count(line);
     let rest = condition_of(line);
     if k == 0 {
-        return fields::is_word(rest, b"t");
+        fields::is_word(rest, b"t")
+    } else {
+        are_infs(rest, k)
     }
-    are_infs(rest, k)
 }
 
 // The number of modes of a text.
@@ -217,119 +204,85 @@ pub fn colours_of(text: &[u8]) -> u32
     fields::line_number(text, 4, b"Acceptance: ")
 }
 
-// The first of the lines before the body that is outside the forms, from 1; 0 where there is none.
-fn head_wrong(text: &[u8]) -> usize
-    ensures { result ≡ head_wrong (lines_of text.now) }
+// The first of the lines before the body that is outside the forms, from 1, or none.
+#[tactic(auto, unfolding(crate::specs::Text::head_wrong))]
+fn head_wrong(text: &[u8]) -> Option<usize>
+    ensures { result ≡ line_or_none (head_wrong (lines_of text.now)) }
 {
     if !fields::is_word_line(text, 0, b"HOA: v1") {
-        return 1;
+        Some(1)
+    } else if !fields::is_numbered_line(text, 1, b"States: ") {
+        Some(2)
+    } else if !fields::is_numbered_line(text, 2, b"Start: ") {
+        Some(3)
+    } else if !fields::is_word_line(text, 3, b"AP: 0") {
+        Some(4)
+    } else if !is_acceptance(fields::line_of(text, 4)) {
+        Some(5)
+    } else if !fields::is_word_line(text, 5, b"--BODY--") {
+        Some(6)
+    } else {
+        None
     }
-    if !fields::is_numbered_line(text, 1, b"States: ") {
-        return 2;
-    }
-    if !fields::is_numbered_line(text, 2, b"Start: ") {
-        return 3;
-    }
-    if !fields::is_word_line(text, 3, b"AP: 0") {
-        return 4;
-    }
-    if !is_acceptance(fields::line_of(text, 4)) {
-        return 5;
-    }
-    if !fields::is_word_line(text, 5, b"--BODY--") {
-        return 6;
-    }
-    0
 }
 
 // Whether a line opens the block of a mode.
+#[tactic(auto, unfolding(crate::specs::Text::opens_block))]
 fn opens(line: &[u8], mode: u32) -> bool
     ensures { result ≡ opens_block mode line.now }
 {
-    if !is_state(line) {
-        return false;
-    }
-    mode == state_of(line)
+    is_state(line) && mode == state_of(line)
 }
 
-// Whether a mode has a block in the first lines of a body.
+// Whether a mode has a block in the first lines of a body. (Body and count go through three functions, each with another fact of them.)
 fn has_block(body: &[u8], count: usize, mode: u32) -> bool
     ensures { result ≡ has_block mode (take count (lines_of body.now)) }
 {
-    let mut at = 0;
-    let mut j = 0;
-    while j < count {
-        if at >= body.len() {
-            return false;
-        }
-        let e = fields::piece_end(body, at, Bytes::FEED);
-        if opens(&body[at..e], mode) {
-            return true;
-        }
-        at = e;
-        j += 1;
-    }
-    false
+    fields::lines(body)
+        .take(count)
+        .any(|line| opens(line, mode))
 }
 
 // Whether a line opens the block of a mode that has none in the first lines of a body. Those lines are scanned only for a mode that no fit model
 // has, so that the text of a fit model is read in linear time.
+#[tactic(auto, unfolding(crate::specs::Text::is_new_block))]
 fn is_new_block(body: &[u8], count: usize, blocks: Blocks, line: &[u8], n: u32) -> bool
     requires { Knows blocks (take count (lines_of body.now)) }
     ensures { result ≡ is_new_block n (take count (lines_of body.now)) line.now }
 {
-    if !is_state(line) {
-        return false;
-    }
     let mode = state_of(line);
-    if mode >= n {
+    if !is_state(line) || mode >= n {
         return false;
     }
     if mode < Limits::MODES {
         return (blocks.low >> mode) % 2 != 1;
     }
-    if (mode as u64) >= blocks.top {
-        return true;
-    }
-    !has_block(body, count, mode)
+    u64::from(mode) >= blocks.top || !has_block(body, count, mode)
 }
 
 // Whether a line may stand after the first lines of a body.
+#[tactic(auto, unfolding(crate::specs::Text::may_stand))]
 fn may_stand(body: &[u8], count: usize, blocks: Blocks, line: &[u8], n: u32, k: u32) -> bool
     requires { (count ≤ length (lines_of body.now)) × Knows blocks (take count (lines_of body.now)) }
     ensures { result ≡ may_stand n k (take count (lines_of body.now)) line.now }
 {
-    if is_new_block(body, count, blocks, line, n) {
-        return true;
-    }
-    if count == 0 {
-        return false;
-    }
-    is_edge(line, n, k)
+    is_new_block(body, count, blocks, line, n) || (count != 0 && is_edge(line, n, k))
 }
 
 // The bits with the mode's own, where it has one.
+#[tactic(auto, unfolding(crate::specs::Blocks::low_with))]
 fn low_with(low: u64, mode: u32) -> u64
     ensures { result ≡ low_with low mode }
 {
-    if mode >= Limits::MODES {
-        return low;
+    if mode < Limits::MODES {
+        low | (1u64 << mode)
+    } else {
+        low
     }
-    low | (1u64 << mode)
-}
-
-// The top above the mode too.
-fn top_with(top: u64, mode: u32) -> u64
-    ensures { result ≡ max top (suc mode) }
-{
-    let above = (mode as u64) + 1;
-    if above < top {
-        return top;
-    }
-    above
 }
 
 // What is known with one line more.
+#[tactic(auto, unfolding(crate::specs::Blocks::blocks_after))]
 fn blocks_after(blocks: Blocks, line: &[u8]) -> Blocks
     ensures { result ≡ blocks_after blocks line.now }
 {
@@ -337,9 +290,10 @@ fn blocks_after(blocks: Blocks, line: &[u8]) -> Blocks
         return blocks;
     }
     let mode = state_of(line);
-    let low = low_with(blocks.low, mode);
-    let top = top_with(blocks.top, mode);
-    Blocks { low, top }
+    Blocks {
+        low: low_with(blocks.low, mode),
+        top: blocks.top.max(u64::from(mode) + 1),
+    }
 }
 
 // Whether a line is the last.
@@ -349,92 +303,76 @@ pub fn is_end(line: &[u8]) -> bool
     fields::is_word(line, b"--END--")
 }
 
-// The first line of a body that is outside the forms, from 1 over the whole text; 0 where there is none.
-fn body_wrong(body: &[u8], n: u32, k: u32) -> usize
-    ensures { result ≡ body_wrong n k [] (lines_of body.now) }
+// The first line of a body that is outside the forms, from 1 over the whole text, or none.
+#[tactic(auto, using(fields::proofs::Pieces::split_few))]
+fn body_wrong(body: &[u8], n: u32, k: u32) -> Option<usize>
+    ensures { result ≡ line_or_none (body_wrong n k [] (lines_of body.now)) }
 {
-    let mut at = 0;
-    let mut j = 0;
     let mut blocks = Blocks { low: 0, top: 0 };
-    while at < body.len() {
-        let e = fields::piece_end(body, at, Bytes::FEED);
-        let line = &body[at..e];
+    let mut lines = fields::lines(body);
+    // Counted by hand, and walked by hand: where the text ends early the answer is this count too, and after the last line comes a look at the next.
+    let mut j = 0;
+    while let Some(line) = lines.next() {
         if is_end(line) {
-            if e < body.len() {
-                return j + 8;
+            if lines.next().is_some() {
+                return Some(j + 8);
             }
-            return 0;
+            return None;
         }
         if !may_stand(body, j, blocks, line, n, k) {
-            return j + 7;
+            return Some(j + 7);
         }
         blocks = blocks_after(blocks, line);
-        at = e;
         j += 1;
     }
-    j + 7
+    Some(j + 7)
 }
 
-// The first line of a text that is outside the forms, from 1; 0 where there is none.
-pub fn hoa_wrong(text: &[u8]) -> usize
-    ensures { result ≡ hoa_wrong (lines_of text.now) }
+// The lines behind the six before the body.
+pub fn body_of(text: &[u8]) -> &[u8]
+    ensures { lines_of result.now ≡ drop 6 (lines_of text.now) }
 {
-    let head = head_wrong(text);
-    if head != 0 {
-        return head;
+    &text[fields::line_at(text, 6)..]
+}
+
+// The first line of a text that is outside the forms, from 1, or none.
+#[tactic(auto, using(crate::proofs::Bodies::text_head, crate::proofs::Bodies::text_body))]
+pub fn hoa_wrong(text: &[u8]) -> Option<usize>
+    ensures { result ≡ line_or_none (hoa_wrong (lines_of text.now)) }
+{
+    if let Some(line) = head_wrong(text) {
+        return Some(line);
     }
-    let n = modes_of(text);
-    let k = colours_of(text);
-    let at = fields::line_at(text, 6);
-    body_wrong(&text[at..], n, k)
+    body_wrong(body_of(text), modes_of(text), colours_of(text))
 }
 
 // Whether a colour stands among the pieces of a list.
 fn in_pieces(s: &[u8], colour: u32) -> bool
     ensures { result ≡ contains colour (map number_of (split blank s.now)) }
 {
-    let mut at = 0;
-    while at < s.len() {
-        let e = fields::piece_end(s, at, Bytes::BLANK);
-        if colour == fields::number_of(&s[at..e]) {
-            return true;
-        }
-        at = e;
-    }
-    false
+    fields::split_after(s, Bytes::BLANK).any(|piece| colour == fields::number_of(piece))
 }
 
 // A bit where a colour stands among the pieces of a list, else 0.
 fn colour_bit(s: &[u8], colour: u32, bit: u8) -> u8
     ensures { (result ≡ cond (contains colour (map number_of (split blank s.now))) bit 0) × (result ≤ bit) }
 {
-    if in_pieces(s, colour) {
-        return bit;
-    }
-    0
+    if in_pieces(s, colour) { bit } else { 0 }
 }
 
-// The colour byte of the pieces of a list.
+// The colour byte of the pieces of a list. (Four terms, as `colour_byte` of specs/Text adds them.)
+#[tactic(auto, unfolding(crate::specs::Text::colour_byte))]
 fn pieces_byte(s: &[u8]) -> u8
     ensures { result ≡ colour_byte (map number_of (split blank s.now)) }
 {
-    let a = colour_bit(s, 0, 1);
-    let b = colour_bit(s, 1, 2);
-    let c = colour_bit(s, 2, 4);
-    let d = colour_bit(s, 3, 8);
-    a + b + c + d
+    colour_bit(s, 0, 1) + colour_bit(s, 1, 2) + colour_bit(s, 2, 4) + colour_bit(s, 3, 8)
 }
 
 // The colour byte of an edge's line.
+#[tactic(auto, unfolding(crate::specs::Text::colours_said, crate::specs::Text::colour_byte, crate::specs::Text::contains))]
 pub fn colour_byte(line: &[u8]) -> u8
     ensures { result ≡ colour_byte (colours_said line.now) }
 {
     let rest = inside_of(line);
-    if rest.len() == 0 {
-        return 0;
-    }
-    if closes(rest) {
-        return 0;
-    }
-    pieces_byte(rest)
+    if closes(rest) { 0 } else { pieces_byte(rest) }
 }

@@ -1,81 +1,33 @@
--- From the verdict to what the join answers and leaves in the lists. Assumes nothing.
-use mathlib.Core.Path.{◌≡◌, refl, ◌∙◌}
-use mathlib.Core.List.{List}
-use Prim.Native.Nat.{ℕ, ◌≤◌}
-use native.Mathlib.Nat.{zero-add}
-use native.Mathlib.Omega.{arith}
-use lib.ListN.{length}
-use Rattle.refusals.specs.declared.Verdict.{Verdict}
-use Rattle.refusals.specs.declared.Verdict.TheVariants.{Yes}
-use Rattle.refusals.specs.Refusals.{and_then, answer_of}
-use Rattle.refusals.proofs.Verdicts.{and-then-yes}
-use Rattle.model.specs.declared.Arc.{Arc}
-use Rattle.model.specs.declared.Fitted.{Fitted}
+-- From the checks to what the join answers and leaves in the lists. x: the knee; y: the habit. Assumes nothing.
+use Rattle.std.specs.Prelude.{Result, Ok, Err}
+use mathlib.Core.Path.{◌≡◌, refl, ap, subst, ◌∙◌}
+use Prim.Native.Nat.{ℕ}
+use Rattle.refusals.specs.declared.Refusal.{Refusal}
+use Rattle.refusals.specs.Refusals.{answer_of}
+use Rattle.model.specs.declared.Model.{Model}
+use Rattle.model.specs.Automaton.{Automaton}
 use Rattle.model.specs.Lists.{Lists, held}
 use Rattle.model.specs.Fitness.{fitted_of}
-use Rattle.filling.specs.declared.Reading.{Reading}
-use Rattle.filling.specs.Filling.{room_in, Written, reading_if, written_if}
-use Rattle.filling.proofs.Filled.{answer-if}
-use Rattle.filling.proofs.Widths.{fit-narrow}
-use Rattle.join.specs.Joining.{Given, joined_given, size_of, SizeFits, join_verdict, join_of, join_answer, lists_joined}
-use Rattle.join.specs.Within.{AllFit, HoldsIf, joined_fitted, fitted_verdict, numbers_of}
-use Rattle.join.proofs.Fits.{size-yes, joined-fit}
-use Rattle.join.proofs.Verdicts.{verdict-told}
+use Rattle.filling.specs.declared.Numbers.{Numbers}
+use Rattle.filling.specs.Filling.{room_in, Written, numbers_of}
+use Rattle.join.specs.Joined.{joined}
+use Rattle.join.specs.Joining.{Given, size_of, join_verdict, join_of, join_answer, lists_joined}
+use Rattle.join.specs.Within.{joined_held}
+use Rattle.join.proofs.Verdicts.{joined-told, size-left}
 
--- two models with the verdicts on them, and lists that are lent
-module _ (knee habit : Fitted) (holds : HoldsIf knee × HoldsIf habit) (lent : Lists) where
-  abbrev verdict : Verdict
-  verdict = fitted_verdict knee habit (room_in lent)
+module _ (x y : Given) (l : Lists) where
+  -- where the verdict is a refusal
+  pub refused-join : (r : Refusal) → join_verdict x y (room_in l) ≡ Err r
+      → (Err r ≡ join_of x y l) × (answer_of (Err r) ≡ join_answer x y l) × (l ≡ lists_joined x y l)
+  refused-join r e = rw e (refl, refl, refl)
 
-  abbrev arcs : List Arc
-  arcs = (joined_fitted knee habit).arcs
-
-  -- no refusal: both are fit, and 23 does not apply
-  module _ (yes : verdict ≡ Yes) where
-    all_yes : (knee.verdict ≡ Yes) × (habit.verdict ≡ Yes) × SizeFits (joined_fitted knee habit) (room_in lent)
-    all_yes =
-        let size = size_of (joined_fitted knee habit) (room_in lent) in
-        let first = (and-then-yes knee.verdict (and_then habit.verdict size)).0 yes in
-        let second = (and-then-yes habit.verdict size).0 first.1 in
-        (first.0, second.0, (size-yes (joined_fitted knee habit) (room_in lent)).0 second.1)
-
-    -- the joined arcs may be written
-    pub may_write : AllFit knee.model habit.model
-    may_write =
-        let g = knee.model in
-        let h = habit.model in
-        let first = holds.0 all_yes.0 in
-        let second = holds.1 all_yes.1 in
-        let fit = joined-fit (held g) (held h) (room_in lent) first.fit second.fit all_yes.2 in
-        record {
-          knee = first;
-          habit = second;
-          narrow = fit-narrow (joined_fitted knee habit) fit;
-          few = fit.few_arcs;
-        }
-
-    -- and once they are
-    module _ (count : ℕ) (left : Lists) (written : Written arcs 0 lent count left) where
-      pub count-few : count ≤ 255
-      count-few = omega (arith, written.place, all_yes.2.few_arcs)
-
-      pub joined_numbers : numbers_of knee.model habit.model count ≡ reading_if verdict (joined_fitted knee habit)
-      joined_numbers = rw (yes, written.place, zero-add (length arcs)) refl
-
-      pub joined-lists : left ≡ written_if verdict arcs lent
-      joined-lists = rw yes written.puts
-
--- the same of what is given: the answer, number and detail, and the lists
-module _ (x y : Given) (knee habit : Fitted) (knee-told : knee ≡ fitted_of x.modes x.start x.colours x.arcs)
-    (habit-told : habit ≡ fitted_of y.modes y.start y.colours y.arcs) (lent : Lists) where
-  pub joined-answers : (a : Reading) (left : Lists) → a ≡ reading_if (fitted_verdict knee habit (room_in lent)) (joined_fitted knee habit)
-      → left ≡ written_if (fitted_verdict knee habit (room_in lent)) (joined_fitted knee habit).arcs lent
-      → (a ≡ join_of x y lent) × ((answer_of a.verdict ≡ join_answer x y lent) × (left ≡ lists_joined x y lent))
-  joined-answers a left e f =
-      let whole = e ∙ verdict-told x y knee habit knee-told habit-told reading_if (λ r g h. refl) (room_in lent) in (
-        whole,
-        (
-          answer-if (join_verdict x y (room_in lent)) (joined_given x y) a whole,
-          f ∙ verdict-told x y knee habit knee-told habit-told (λ v g. written_if v g.arcs lent) (λ r g h. refl) (room_in lent),
-        ),
-      )
+  -- where there are models g and h of what is given, 23 does not apply to them, and the joined arcs are written
+  pub accepted-join : (g h : Model) (knee : Ok g ≡ fitted_of x.modes x.start x.colours x.arcs)
+      (habit : Ok h ≡ fitted_of y.modes y.start y.colours y.arcs) (fits : size_of (joined (held g) (held h)) (room_in l) ≡ Ok tt)
+      (n : Numbers) (count : ℕ) (left : Lists) → n ≡ numbers_of (joined (held g) (held h)) → Written (joined_held g h) 0 l count left
+      → (Ok n ≡ join_of x y l) × (answer_of (Ok tt) ≡ join_answer x y l) × (left ≡ lists_joined x y l)
+  accepted-join g h knee habit fits n count left e w =
+      let same = joined-told x y g h knee habit in
+      let written = subst (λ (q : Automaton). Written q.arcs 0 l count left) same w in
+      let yes : join_verdict x y (room_in l) ≡ Ok tt = size-left x y g h knee habit (room_in l) ∙ fits in
+      rw yes (ap {B = Result Numbers Refusal} (λ (q : Numbers). Ok q) (e ∙ ap {B = Numbers} numbers_of same), refl, written.puts)

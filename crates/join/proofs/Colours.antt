@@ -2,11 +2,11 @@
 use mathlib.Core.Path.{◌≡◌, sym, ap, ◌∙◌}
 use mathlib.Core.Bool.{Bool}
 use Prim.Native.Nat.{ℕ, suc, ◌+◌, ◌*◌, ◌-◌, ◌/◌, ◌%◌, ◌^◌, ◌<◌}
-use native.Mathlib.Nat.{mul_assoc, mul_comm, mul-suc, mul-le-mul_left, pow-suc, div-eq_of_lt, add-mul-div_left, add-mul-mod_self_left}
+use native.Mathlib.Nat.{mul_assoc, mul_comm, mul-suc, mul-le-mul_left, pow-suc, div-eq_of_lt, mod-eq_of_lt, add-mul-div_left, add-mul-mod_self_left}
 use native.Mathlib.Omega.{arith}
 use lib.Dec.{eqb}
 use lib.Bits.{bit_or, or_shifted_r}
-use lib.Pow.{pow_pos, pow-add, shl_exact}
+use lib.Pow.{pow_pos, pow-add}
 use Rattle.model.specs.Automaton.{bit}
 use Rattle.model.proofs.Bits.{shifted-bit}
 use Rattle.join.specs.Within.{ColoursFit}
@@ -42,6 +42,7 @@ pub colours-within : (x y k k' : ℕ) → x < 2 ^ k → y < 2 ^ k' → x + 2 ^ k
 colours-within x y k k' h h' = rw (pow-add 2 k k') (omega (arith, mul-suc (2 ^ k) y, mul-le-mul_left (2 ^ k) h'))
 
 -- as the code makes it
-pub colours-or : (x y k : ℕ) → ColoursFit x y k → y < 256 → bit_or x (y * 2 ^ k % 4294967296) ≡ x + 2 ^ k * y
-colours-or x y k f h =
-    ap (bit_or x) (shl_exact 8 k 32 h (omega (arith, f.few))) ∙ or_shifted_r y k x f.below ∙ (omega (arith, mul_comm y (2 ^ k)))
+pub colours-or : (x y k : ℕ) → ColoursFit x y k → bit_or x (y * 2 ^ k % 256) ≡ x + 2 ^ k * y
+colours-or x y k f =
+    let exact : y * 2 ^ k % 256 ≡ y * 2 ^ k = mod-eq_of_lt (omega (arith, f.fits, mul_comm y (2 ^ k))) in
+    ap (bit_or x) exact ∙ or_shifted_r y k x f.below ∙ (omega (arith, mul_comm y (2 ^ k)))

@@ -1,4 +1,5 @@
 -- The joined model of two fit models is fit where 23 does not apply. Assumes nothing.
+use Rattle.std.specs.Prelude.{Ok, Err}
 use mathlib.Core.Path.{◌≡◌, refl, sym, subst}
 use mathlib.Core.Bool.{Bool, true, false, ◌||◌}
 use mathlib.Core.List.{List, [], ◌∷◌}
@@ -9,8 +10,7 @@ use lib.Dec.{ltb}
 use lib.ListN.{length, get_or}
 use Rattle.limits.specs.Ceilings.{modes_most, arcs_most, colours_most, draw_most, gain_most}
 use Rattle.refusals.specs.declared.Refusal.TheVariants.{JoinSize}
-use Rattle.refusals.specs.declared.Verdict.TheVariants.{Yes, Refused}
-use Rattle.refusals.specs.Refusals.{refuse}
+use Rattle.refusals.specs.Refusals.{Verdict, refuse}
 use Rattle.refusals.proofs.Tests.{or_no, or5-no, lt_no}
 use Rattle.refusals.proofs.Verdicts.{clash, refuse-yes}
 use Rattle.model.specs.declared.Arc.{Arc}
@@ -45,7 +45,7 @@ sums-no l = (to l, from l)
     from (x ∷ l) f = (or_no (sum_above x) (some_sum_above l)).1 ((sum-no x).1 (f 0 (omega arith)), from l (λ a h. f (suc a) (omega arith)))
 
 -- 23 does not apply exactly where the size fits
-pub size-yes : (g : Automaton) (room : ℕ) → (size_of g room ≡ Yes) ↔ SizeFits g room
+pub size-yes : (g : Automaton) (room : ℕ) → (size_of g room ≡ Ok tt) ↔ SizeFits g room
 unfolding size_of oversize
 size-yes g room =
     let m = length g.arcs in
@@ -53,7 +53,7 @@ size-yes g room =
     let arcs = ltb arcs_most m in
     let colours = ltb colours_most g.colours in
     let above = some_sum_above g.arcs in
-    let all = refuse-yes (modes || arcs || colours || above || ltb room m) JoinSize Yes in
+    let all = refuse-yes (modes || arcs || colours || above || ltb room m) JoinSize (Ok tt) in
     let five = or5-no modes arcs colours above (ltb room m) in (
       λ e.
           let (few_modes, few_arcs, few_colours, sums, fits) = five.0 (all.0 e).0 in
@@ -76,14 +76,14 @@ size-yes g room =
     )
 
 -- and is answered exactly where it does not
-pub size-no : (g : Automaton) (room : ℕ) → (size_of g room ≡ Refused JoinSize) ↔ (SizeFits g room → ⊥)
+pub size-no : (g : Automaton) (room : ℕ) → (size_of g room ≡ Err JoinSize) ↔ (SizeFits g room → ⊥)
 unfolding size_of
 size-no g room = (
   λ e s. let yes = (size-yes g room).1 s in clash (cc),
   λ misfit. go (oversize g.modes (length g.arcs) g.colours (some_sum_above g.arcs) room) (λ e. misfit ((size-yes g room).0 e)),
 )
   where
-    go : (t : Bool) → (refuse t JoinSize Yes ≡ Yes → ⊥) → refuse t JoinSize Yes ≡ Refused JoinSize
+    go : (t : Bool) → (◌≡◌ {A = Verdict} (refuse t JoinSize (Ok tt)) (Ok tt) → ⊥) → ◌≡◌ {A = Verdict} (refuse t JoinSize (Ok tt)) (Err JoinSize)
     go true other = refl
     go false other = absurd (other refl)
 

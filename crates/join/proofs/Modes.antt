@@ -1,7 +1,7 @@
 -- Joined modes. "The joined mode of i and j is i × n2 + j". Assumes nothing.
 use mathlib.Core.Path.{◌≡◌, sym, ap, ◌∙◌}
-use Prim.Native.Nat.{ℕ, zero, suc, ◌+◌, ◌*◌, ◌/◌, ◌%◌, ◌≤◌, ◌<◌}
-use native.Mathlib.Nat.{suc-mul, mul-zero, mul_comm, mul-le-mul, mul-le-mul_right, div-eq_of_lt, div-lt_iff_lt-mul, div-add-mod', mod-lt, mod-eq_of_lt, add-mul-div_left, add-mul-mod_self_left}
+use Prim.Native.Nat.{ℕ, zero, suc, ◌+◌, ◌*◌, ◌/◌, ◌%◌, ◌<◌}
+use native.Mathlib.Nat.{suc-mul, mul-zero, mul_comm, mul-le-mul_right, div-eq_of_lt, div-lt_iff_lt-mul, div-add-mod', mod-lt, mod-eq_of_lt, add-mul-div_left, add-mul-mod_self_left}
 use native.Mathlib.Omega.{arith}
 use Rattle.model.specs.Automaton.{Automaton}
 use Rattle.join.specs.Joined.{join_mode, joined}
@@ -32,7 +32,3 @@ mode-joined g h s k =
     positive : (n : ℕ) → s < g.modes * n → 0 < n
     positive zero k = absurd (omega (arith, mul-zero g.modes))
     positive (suc n) k = omega arith
-
--- a product of two bytes, as the code makes of the numbers of modes
-pub product-most : (a b : ℕ) → a < 256 → b < 256 → a * b ≤ 65025
-product-most a b h k = omega (arith, mul-le-mul {n₁ = a} {m₁ = b} {n₂ = 255} {m₂ = 255} (omega arith) (omega arith))

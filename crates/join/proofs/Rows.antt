@@ -1,37 +1,29 @@
 -- Rows of joined arcs, taken arc by arc. Assumes nothing.
-use mathlib.Core.Path.{◌≡◌, refl, ap, ◌∙◌}
+use mathlib.Core.Path.{◌≡◌, refl, ap}
 use mathlib.Core.Bool.{Bool, true, false}
 use mathlib.Core.List.{List, [], ◌∷◌, ◌++◌}
 use Prim.Native.Nat.{ℕ, suc, ◌≤◌, ◌<◌}
 use native.Mathlib.Omega.{arith}
 use lib.Dec.{eqb}
-use lib.ListN.{length, drop, drop_of_length-le}
+use lib.ListN.{length, get_or, drop, drop_of_length-le}
 use lib.Seq.{drop-cons}
 use Rattle.model.specs.declared.Arc.{Arc}
-use Rattle.model.specs.declared.Model.{Model}
 use Rattle.model.specs.Automaton.{no_arc}
-use Rattle.model.specs.Lists.{held}
-use Rattle.model.specs.Fitness.{Holds}
-use Rattle.model.proofs.Held.{arc_in, held-arc}
 use Rattle.join.specs.Joined.{join_arc, keep, join_row, join_arcs}
 
--- the row of a knee's arc, with the habit's arcs from number j on
-abbrev pub row_from : ℕ → Arc → Model → ℕ → List Arc
-row_from k x h j = join_row h.modes k x (drop j (held h).arcs)
+-- the row of a knee's arc x, with the habit's arcs ys from number j on; the habit has n modes, and the knee k colours
+abbrev pub row_from : ℕ → ℕ → Arc → List Arc → ℕ → List Arc
+row_from n k x ys j = join_row n k x (drop j ys)
 
-module _ (k : ℕ) (x : Arc) (h : Model) (holds : Holds h) (j : ℕ) where
-  pub row-turn : j < h.count → row_from k x h j ≡ keep (eqb x.action (arc_in h j).action) (join_arc h.modes k x (arc_in h j)) (row_from k x h (suc j))
+module _ (n k : ℕ) (x : Arc) (ys : List Arc) (j : ℕ) where
+  pub row-turn : j < length ys → let y = get_or ys j no_arc in
+      row_from n k x ys j ≡ keep (eqb x.action y.action) (join_arc n k x y) (row_from n k x ys (suc j))
   unfolding join_row
-  row-turn lt =
-      let later = row_from k x h (suc j) in
-      ap {B = List Arc} (join_row h.modes k x) (drop-cons (held h).arcs j no_arc (omega (arith, holds.count)))
-      ∙ ap {B = List Arc} (λ (y : Arc). keep (eqb x.action y.action) (join_arc h.modes k x y) later) (held-arc h j lt)
+  row-turn lt = ap {B = List Arc} (join_row n k x) (drop-cons ys j no_arc lt)
 
-  pub row-end : h.count ≤ j → row_from k x h j ≡ []
+  pub row-end : length ys ≤ j → row_from n k x ys j ≡ []
   unfolding join_row
-  row-end ge =
-      let all : length (held h).arcs ≤ j = omega (arith, holds.count) in
-      rw (drop_of_length-le (held h).arcs all) refl
+  row-end ge = rw (drop_of_length-le ys ge) refl
 
 -- a row has no more arcs than the habit
 module _ (n k : ℕ) (x : Arc) where
@@ -44,24 +36,15 @@ module _ (n k : ℕ) (x : Arc) where
   row-length [] = omega arith
   row-length (y ∷ ys) = omega (arith, row-length ys, keep-length (eqb x.action y.action) (join_arc n k x y) (join_row n k x ys))
 
--- the rows of the knee's arcs from number i on
-abbrev pub rows_from : Model → Model → ℕ → List Arc
-rows_from g h i = join_arcs h.modes g.colours (drop i (held g).arcs) (held h).arcs
+-- the rows of the knee's arcs xs from number i on
+abbrev pub rows_from : ℕ → ℕ → List Arc → List Arc → ℕ → List Arc
+rows_from n k xs ys i = join_arcs n k (drop i xs) ys
 
--- the row of its arc i
-abbrev pub row_of : Model → Model → ℕ → List Arc
-row_of g h i = join_row h.modes g.colours (arc_in g i) (held h).arcs
-
-module _ (g h : Model) (holds : Holds g) (i : ℕ) where
-  pub rows-turn : i < g.count → rows_from g h i ≡ row_of g h i ++ rows_from g h (suc i)
+module _ (n k : ℕ) (xs ys : List Arc) (i : ℕ) where
+  pub rows-turn : i < length xs → rows_from n k xs ys i ≡ join_row n k (get_or xs i no_arc) ys ++ rows_from n k xs ys (suc i)
   unfolding join_arcs
-  rows-turn lt =
-      let later = rows_from g h (suc i) in
-      ap {B = List Arc} (λ (l : List Arc). join_arcs h.modes g.colours l (held h).arcs) (drop-cons (held g).arcs i no_arc (omega (arith, holds.count)))
-      ∙ ap {B = List Arc} (λ (x : Arc). join_row h.modes g.colours x (held h).arcs ++ later) (held-arc g i lt)
+  rows-turn lt = ap {B = List Arc} (λ (l : List Arc). join_arcs n k l ys) (drop-cons xs i no_arc lt)
 
-  pub rows_end : g.count ≤ i → rows_from g h i ≡ []
+  pub rows-end : length xs ≤ i → rows_from n k xs ys i ≡ []
   unfolding join_arcs
-  rows_end ge =
-      let all : length (held g).arcs ≤ i = omega (arith, holds.count) in
-      rw (drop_of_length-le (held g).arcs all) refl
+  rows-end ge = rw (drop_of_length-le xs ge) refl

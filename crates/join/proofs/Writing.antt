@@ -2,146 +2,123 @@
 use mathlib.Core.Path.{◌≡◌, sym, ap, ◌∙◌, subst}
 use mathlib.Core.Bool.{Bool, true, false}
 use mathlib.Core.List.{List, ◌∷◌, ◌++◌}
-use Prim.Native.Nat.{ℕ, suc, ◌+◌, ◌-◌, ◌≤◌, ◌<◌}
+use Prim.Native.Nat.{ℕ, suc, ◌+◌, ◌≤◌, ◌<◌}
 use native.Mathlib.Numerals.{add-one}
 use native.Mathlib.Omega.{arith}
 use lib.Dec.{eqb}
-use lib.ListN.{length, length-append}
+use lib.ListN.{length, get_or, length-append}
 use borrow.Author.Tests.{eq-eqb, ne_eqb}
-use mir.Syntax.{w64}
-use mir.Val.{Fits}
 use Rattle.limits.specs.Ceilings.{arcs_most}
 use Rattle.model.specs.declared.Arc.{Arc}
 use Rattle.model.specs.declared.Model.{Model}
+use Rattle.model.specs.Automaton.{no_arc, arc_at}
 use Rattle.model.specs.Lists.{Lists, held}
 use Rattle.model.specs.Fitness.{Holds}
 use Rattle.model.proofs.Bits.{colours-below}
-use Rattle.model.proofs.Held.{arc_in, holds-arc}
 use Rattle.filling.specs.Filling.{Narrow, AllNarrow, put, Written}
 use Rattle.filling.proofs.Widths.{narrow-first, narrow-others, narrow-left, narrow-right}
-use Rattle.filling.proofs.Writing.{Writing, writing-none, writing-rest, writing-put, writing-append, writing-done}
-use Rattle.join.specs.Joined.{join_arc, keep, join_row}
-use Rattle.join.specs.Within.{joined_held, RowFits, AllFit}
-use Rattle.join.proofs.Rows.{row_from, row-turn, row-end, rows_from, row_of, rows-turn, rows_end}
+use Rattle.filling.proofs.Writing.{Writing, writing-rest, writing-put, writing-append, writing-done}
+use Rattle.join.specs.Joined.{join_arc, keep, join_row, join_arcs}
+use Rattle.join.specs.Within.{Below}
+use Rattle.join.proofs.Rows.{row_from, row-turn, row-end, rows_from, rows-turn, rows-end}
 
--- a turn brings the end of a loop nearer
-pub turn-less : {n i : ℕ} → i < n → n - (i + 1) < n - i
-turn-less h = omega arith
+-- of the row of a knee's arc x, to be written from place `from` on, the arcs before the habit's arc j are written, and place i is next
+pub record RowWriting (n k : ℕ) (x : Arc) (ys : List Arc) (from : ℕ) (old now : Lists) (i j : ℕ) : Type 0 where
+  pub narrow : AllNarrow (row_from n k x ys j)
+  pub writing : Writing (join_row n k x ys) (row_from n k x ys j) from i old now
 
--- and its number fits a word
-pub turn-fits : {g : Model} {i : ℕ} → Holds g → i < g.count → Fits w64 (i + 1)
-turn-fits holds h = record { fits = omega (arith, holds.count, holds.fit.few_arcs) }
-
--- of the row of a knee's arc, to be written from place `from` on, the arcs before the habit's arc j are written
-pub record RowWriting (k : ℕ) (x : Arc) (h : Model) (from : ℕ) (old now : Lists) (i j : ℕ) : Type 0 where
-  pub fits : RowFits k x h from
-  pub narrow : AllNarrow (row_from k x h j)
-  pub writing : Writing (join_row h.modes k x (held h).arcs) (row_from k x h j) from i old now
-
-module _ (k : ℕ) (x : Arc) (h : Model) (from : ℕ) (old : Lists) where
+module _ (n k : ℕ) (x : Arc) (ys : List Arc) (from : ℕ) (old : Lists) where
   abbrev row : List Arc
-  row = join_row h.modes k x (held h).arcs
+  row = join_row n k x ys
 
-  pub row-writing-none : RowFits k x h from → RowWriting k x h from old old from 0
-  row-writing-none fits = record { fits = fits; narrow = fits.narrow; writing = writing-none row from old }
+  module _ (now : Lists) (i j : ℕ) (state : RowWriting n k x ys from old now i j) where
+    module _ (y : Arc) (lt : j < length ys) (here : y ≡ get_or ys j no_arc) where
+      abbrev later : List Arc
+      later = row_from n k x ys (suc j)
 
-  module _ (now : Lists) (i j : ℕ) (state : RowWriting k x h from old now i j) where
-    -- the rest of the row, by whether the habit's arc j has the action
-    rest-is : j < h.count → (t : Bool) → eqb x.action (arc_in h j).action ≡ t
-        → row_from k x h j ≡ keep t (join_arc h.modes k x (arc_in h j)) (row_from k x h (suc j))
-    rest-is lt t e =
-        row-turn k x h state.fits.holds j lt
-        ∙ ap {B = List Arc} (λ (q : Bool). keep q (join_arc h.modes k x (arc_in h j)) (row_from k x h (suc j))) e
+      -- the rest of the row, by whether the habit's arc j has the action
+      rest-is : (t : Bool) → eqb x.action y.action ≡ t → row_from n k x ys j ≡ keep t (join_arc n k x y) later
+      rest-is t e =
+          rw (← here) at (row-turn n k x ys j lt) ∙ ap {B = List Arc} (λ (q : Bool). keep q (join_arc n k x y) later) e
 
-    -- it has another
-    pub row-writing-skip : j < h.count → (x.action ≡ (arc_in h j).action → ⊥) → RowWriting k x h from old now i (j + 1)
-    row-writing-skip lt ne =
-        let e = rest-is lt false (ne_eqb x.action (arc_in h j).action ne) in
-        rw (add-one j)
-        record {
-          fits = state.fits;
-          narrow = subst AllNarrow e state.narrow;
-          writing = writing-rest row from i old now _ _ e state.writing;
-        }
+      -- it has another
+      pub row-writing-skip : (x.action ≡ y.action → ⊥) → RowWriting n k x ys from old now i (j + 1)
+      row-writing-skip ne =
+          let e = rest-is false (ne_eqb x.action y.action ne) in
+          rw (add-one j)
+          record { narrow = subst AllNarrow e state.narrow; writing = writing-rest row from i old now _ _ e state.writing }
 
-    module _ (lt : j < h.count) (eq : x.action ≡ (arc_in h j).action) where
-      abbrev arc : Arc
-      arc = join_arc h.modes k x (arc_in h j)
+      module _ (eq : x.action ≡ y.action) where
+        abbrev arc : Arc
+        arc = join_arc n k x y
 
-      next : row_from k x h j ≡ arc ∷ row_from k x h (suc j)
-      next = rest-is lt true (eq-eqb x.action (arc_in h j).action eq)
+        next : row_from n k x ys j ≡ arc ∷ later
+        next = rest-is true (eq-eqb x.action y.action eq)
 
-      pub row-writing-narrow : Narrow arc
-      row-writing-narrow = narrow-first arc (row_from k x h (suc j)) (subst AllNarrow next state.narrow)
+        pub row-writing-narrow : Narrow arc
+        row-writing-narrow = narrow-first arc later (subst AllNarrow next state.narrow)
 
-      -- there is a place for it
-      pub row-writing-place : i < arcs_most
-      row-writing-place = omega (arith, state.fits.few, state.writing.place, ap {B = ℕ} length next)
+        -- by the arc that the code makes
+        pub row-writing-put : {made : Arc} (left : Lists) → made ≡ arc → left ≡ put now i made → RowWriting n k x ys from old left (i + 1) (j + 1)
+        row-writing-put left same e =
+            rw (add-one i, add-one j)
+            record {
+              narrow = narrow-others arc later (subst AllNarrow next state.narrow);
+              writing =
+                  subst (λ (l : Lists). Writing row later from (suc i) old l) (sym (e ∙ ap {B = Lists} (put now i) same))
+                  (writing-put row from i old now arc later (writing-rest row from i old now _ _ next state.writing));
+            }
 
-      pub row-writing-put : (left : Lists) → left ≡ put now i arc → RowWriting k x h from old left (i + 1) (j + 1)
-      row-writing-put left e =
-          rw (add-one i, add-one j)
-          record {
-            fits = state.fits;
-            narrow = narrow-others arc (row_from k x h (suc j)) (subst AllNarrow next state.narrow);
-            writing =
-                subst (λ (l : Lists). Writing row (row_from k x h (suc j)) from (suc i) old l) (sym e)
-                (writing-put row from i old now arc (row_from k x h (suc j)) (writing-rest row from i old now _ _ next state.writing));
-          }
+    pub row-writing-done : length ys ≤ j → Written row from old i now
+    row-writing-done ge = writing-done row from i old now (writing-rest row from i old now _ _ (row-end n k x ys j ge) state.writing)
 
-      -- by the arc that the code makes
-      pub row-writing-made : {made : Arc} (left : Lists) → made ≡ arc → left ≡ put now i made → RowWriting k x h from old left (i + 1) (j + 1)
-      row-writing-made left same e = row-writing-put left (e ∙ ap {B = Lists} (put now i) same)
-
-    pub row-writing-done : h.count ≤ j → Written row from old i now
-    row-writing-done ge =
-        writing-done row from i old now (writing-rest row from i old now _ _ (row-end k x h state.fits.holds j ge) state.writing)
+-- an arc of a fit knee has no colour at or above k
+pub arc-below : (g : Model) → Holds g → (xs : List Arc) → xs ≡ (held g).arcs → (i : ℕ) → i < length xs → Below g.colours (get_or xs i no_arc)
+arc-below g holds xs same i =
+    subst (λ (l : List Arc). i < length l → Below g.colours (get_or l i no_arc)) (sym same) λ h.
+    record {
+      few = holds.fit.few_colours;
+      colours = (colours-below (arc_at (held g) i).colours g.colours).1 (holds.fit.arcs_fit i h).colours;
+    }
 
 -- the rows of the knee's arcs before arc i are written, up to place `at`
-pub record AllWriting (g h : Model) (old now : Lists) (at i : ℕ) : Type 0 where
-  pub fits : AllFit g h
-  pub narrow : AllNarrow (rows_from g h i)
-  pub writing : Writing (joined_held g h) (rows_from g h i) 0 at old now
+pub record AllWriting (n k : ℕ) (xs ys : List Arc) (old now : Lists) (at i : ℕ) : Type 0 where
+  pub narrow : AllNarrow (rows_from n k xs ys i)
+  pub writing : Writing (join_arcs n k xs ys) (rows_from n k xs ys i) 0 at old now
 
-module _ (g h : Model) (old : Lists) where
-  pub all-writing-none : AllFit g h → AllWriting g h old old 0 0
-  all-writing-none fits = record { fits = fits; narrow = fits.narrow; writing = writing-none (joined_held g h) 0 old }
+module _ (n k : ℕ) (xs ys : List Arc) (old : Lists) where
+  abbrev rows : List Arc
+  rows = join_arcs n k xs ys
 
-  module _ (now : Lists) (at i : ℕ) (state : AllWriting g h old now at i) where
-    module _ (lt : i < g.count) where
-      row_next : rows_from g h i ≡ row_of g h i ++ rows_from g h (suc i)
-      row_next = rows-turn g h state.fits.knee i lt
+  module _ (now : Lists) (at i : ℕ) (state : AllWriting n k xs ys old now at i) where
+    module _ (x : Arc) (lt : i < length xs) (here : x ≡ get_or xs i no_arc) where
+      abbrev first : List Arc
+      first = join_row n k x ys
 
-      both : AllNarrow (row_of g h i ++ rows_from g h (suc i))
-      both = subst AllNarrow row_next state.narrow
+      abbrev others : List Arc
+      others = rows_from n k xs ys (suc i)
 
-      pub all-writing-row : RowFits g.colours (arc_in g i) h at
-      all-writing-row =
-          let knee = state.fits.knee in
-          let long = ap {B = ℕ} length row_next ∙ length-append (row_of g h i) (rows_from g h (suc i)) in
-          record {
-            holds = state.fits.habit;
-            below =
-                record {
-                  few = knee.fit.few_colours;
-                  colours = (colours-below (arc_in g i).colours g.colours).1 (holds-arc g i knee lt).colours;
-                };
-            narrow = narrow-left (row_of g h i) (rows_from g h (suc i)) both;
-            few = omega (arith, state.fits.few, state.writing.place, long);
-          }
+      rows-next : rows_from n k xs ys i ≡ first ++ others
+      rows-next = rw (← here) at (rows-turn n k xs ys i lt)
 
-      pub all-writing-more : (end : ℕ) (left : Lists) → Written (row_of g h i) at now end left → AllWriting g h old left end (i + 1)
+      both : AllNarrow (first ++ others)
+      both = subst AllNarrow rows-next state.narrow
+
+      pub row-narrow : AllNarrow first
+      row-narrow = narrow-left first others both
+
+      pub row-few : length rows ≤ arcs_most → at + length first ≤ arcs_most
+      row-few few =
+          let long = ap {B = ℕ} length rows-next ∙ length-append first others in
+          omega (arith, few, state.writing.place, long)
+
+      pub all-writing-more : (end : ℕ) (left : Lists) → Written first at now end left → AllWriting n k xs ys old left end (i + 1)
       all-writing-more end left w =
           rw (add-one i)
           record {
-            fits = state.fits;
-            narrow = narrow-right (row_of g h i) (rows_from g h (suc i)) both;
-            writing =
-                writing-append (joined_held g h) 0 at old now (row_of g h i) (rows_from g h (suc i))
-                (writing-rest (joined_held g h) 0 at old now _ _ row_next state.writing) end left w;
+            narrow = narrow-right first others both;
+            writing = writing-append rows 0 at old now first others (writing-rest rows 0 at old now _ _ rows-next state.writing) end left w;
           }
 
-    pub all-writing-done : g.count ≤ i → Written (joined_held g h) 0 old at now
-    all-writing-done ge =
-        writing-done (joined_held g h) 0 at old now
-        (writing-rest (joined_held g h) 0 at old now _ _ (rows_end g h state.fits.knee i ge) state.writing)
+    pub all-writing-done : length xs ≤ i → Written rows 0 old at now
+    all-writing-done ge = writing-done rows 0 at old now (writing-rest rows 0 at old now _ _ (rows-end n k xs ys i ge) state.writing)

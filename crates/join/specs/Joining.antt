@@ -1,17 +1,17 @@
 -- The join: its answer, and what is left in the lent lists. Document 02, Ask 5: "Either model unfit gives its own number from 1 to 5, the knee's
 -- first"; 23 is "looked at last".
-use Rattle.std.specs.Prelude.{ℕ, ◌≤◌, ◌<◌, Bool, false, ◌||◌, List, [], ◌∷◌, ltb, length}
+use Rattle.std.specs.Prelude.{ℕ, ◌≤◌, ◌<◌, Bool, false, ◌||◌, List, [], ◌∷◌, ltb, length, Result, Ok}
 use Rattle.limits.specs.Ceilings.{modes_most, arcs_most, colours_most, draw_most, gain_most}
 use Rattle.refusals.specs.declared.Answer.{Answer}
+use Rattle.refusals.specs.declared.Refusal.{Refusal}
 use Rattle.refusals.specs.declared.Refusal.TheVariants.{JoinSize}
-use Rattle.refusals.specs.declared.Verdict.{Verdict}
-use Rattle.refusals.specs.declared.Verdict.TheVariants.{Yes}
-use Rattle.refusals.specs.Refusals.{refuse, and_then, answer_of}
+use Rattle.refusals.specs.Refusals.{Verdict, refuse, and_then, answer_of}
 use Rattle.model.specs.declared.Arc.{Arc}
+use Rattle.model.specs.declared.Given as lent
 use Rattle.model.specs.Automaton.{Automaton, arc_at}
-use Rattle.model.specs.Lists.{Lists, automaton_of}
+use Rattle.model.specs.Lists.{Lists, lists_of, automaton_of}
 use Rattle.model.specs.Fitness.{EqualLists, Fit, fitness}
-use Rattle.filling.specs.declared.Reading.{Reading}
+use Rattle.filling.specs.declared.Numbers.{Numbers}
 use Rattle.filling.specs.Filling.{room_in, written_if, reading_if}
 use Rattle.join.specs.Joined.{joined}
 
@@ -24,6 +24,10 @@ pub record Given : Type 0 where
 
 abbrev pub given : ℕ → ℕ → ℕ → Lists → Given
 given n s k l = record { modes = n; start = s; colours = k; arcs = l }
+
+-- as the code is given it
+abbrev pub given_of : lent.Given → Given
+given_of g = given g.n g.start g.k (lists_of g.lists)
 
 abbrev pub model_given : Given → Automaton
 model_given x = automaton_of x.modes x.start x.colours x.arcs
@@ -47,7 +51,7 @@ oversize n m k above room = ltb modes_most n || ltb arcs_most m || ltb colours_m
 
 -- 23 of the joined model g
 unfoldable pub size_of : Automaton → ℕ → Verdict
-size_of g room = refuse (oversize g.modes (length g.arcs) g.colours (some_sum_above g.arcs) room) JoinSize Yes
+size_of g room = refuse (oversize g.modes (length g.arcs) g.colours (some_sum_above g.arcs) room) JoinSize (Ok tt)
 
 -- What 23 leaves, as facts. (Theorem size-yes.) The sums of an arc are within an arc's ranges,
 pub record SumsFit (a : Arc) : Type 0 where
@@ -79,7 +83,7 @@ pub record Joinable (x y : Given) (room : ℕ) : Type 0 where
   pub size : SizeFits (joined_given x y) room
 
 -- what the join answers; "A refused join .. gives 0 for n, start mode, k and m."
-abbrev pub join_of : Given → Given → Lists → Reading
+abbrev pub join_of : Given → Given → Lists → Result Numbers Refusal
 join_of x y l = reading_if (join_verdict x y (room_in l)) (joined_given x y)
 
 -- the number and the detail

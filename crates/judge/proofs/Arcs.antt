@@ -1,34 +1,31 @@
 -- Lists of arc numbers of a model: where 12 and the shape do not apply, the parts of one, and the colours of its arcs. Assumes nothing.
-use mathlib.Core.Path.{◌≡◌, sym, ap}
+use Rattle.std.specs.Prelude.{Ok}
+use mathlib.Core.Path.{◌≡◌}
 use mathlib.Core.List.{List}
 use Prim.Native.Nat.{ℕ, ◌+◌, ◌-◌, ◌^◌, ◌≤◌, ◌<◌}
 use native.Mathlib.Omega.{arith}
 use lib.ListN.{length, get_or, take, drop, length-drop}
 use lib.Seq.{get_or-take, get_or-drop, length-take-le, take_all}
 use Rattle.limits.specs.Ceilings.{arcs_most, plan_most}
-use Rattle.refusals.specs.declared.Verdict.{Verdict}
-use Rattle.refusals.specs.declared.Verdict.TheVariants.{Yes}
-use Rattle.refusals.specs.Refusals.{and_then}
 use Rattle.refusals.proofs.Verdicts.{and-then-yes}
 use Rattle.model.specs.declared.Model.{Model}
-use Rattle.model.specs.Automaton.{Automaton, arc_at}
+use Rattle.model.specs.Automaton.{arc_at}
 use Rattle.model.specs.Fitness.{Holds}
 use Rattle.model.specs.Lists.{held}
 use Rattle.model.proofs.Bits.{colours-below}
-use Rattle.judge.specs.Shape.{plan_of, length_of, numbers, chain, numbers_then_chain, closing, path, shape}
-use Rattle.judge.specs.Colours.{barred_from, colours_of, accepted_of}
+use Rattle.judge.specs.Shape.{length_of, numbers, chain, numbers_then_chain, closing, path, shape}
 use Rattle.judge.specs.Judged.{ArcNumbers}
 use Rattle.judge.proofs.Shapes.{length-yes, numbers-yes}
 
 -- where 12 and 13 do not apply, the numbers are those of arcs of the model
-pub path-arcs : (g : Model) → Holds g → (w : List ℕ) (s : ℕ) → numbers_then_chain (held g) s w 0 ≡ Yes → ArcNumbers g w
+pub path-arcs : (g : Model) → Holds g → (w : List ℕ) (s : ℕ) → numbers_then_chain (held g) s w 0 ≡ Ok tt → ArcNumbers g w
 path-arcs g holds w s path =
     let numbered = ((and-then-yes (numbers (length (held g).arcs) w 0) (chain (held g) s w 0)).0 path).0 in
     let below = (numbers-yes (length (held g).arcs) w).0 numbered in
     record { few = omega (arith, holds.fit.few_arcs, holds.count); below = λ i h. omega (arith, below i h, holds.count) }
 
 -- where 11 to 14 do not apply, too, and p of them are the prefix's
-pub shape-arcs : (g : Model) → Holds g → (p q : ℕ) (w : List ℕ) → shape (held g) p q w ≡ Yes
+pub shape-arcs : (g : Model) → Holds g → (p q : ℕ) (w : List ℕ) → shape (held g) p q w ≡ Ok tt
     → ArcNumbers g w × (p ≤ length w) × (length w ≤ plan_most)
 unfolding shape
 shape-arcs g holds p q w shaped =
@@ -66,9 +63,3 @@ module _ (g : Model) (w : List ℕ) (arcs : ArcNumbers g w) where
   arcs-coloured holds i h =
       let fits = holds.fit.arcs_fit (get_or w i 0) (omega (arith, arcs.below i h, holds.count)) in
       (colours-below (arc_at (held g) (get_or w i 0)).colours g.colours).1 fits.colours
-
--- 24 and 17 of a plan, by its bytes
-pub accepted-parts : (g : Automaton) (x p : ℕ) (w : List ℕ) → p ≤ length w
-    → and_then (barred_from g x (drop p w) p) (colours_of g x (drop p w)) ≡ accepted_of g x (plan_of p w)
-unfolding accepted_of
-accepted-parts g x p w h = ap {B = Verdict} (λ (i : ℕ). and_then (barred_from g x (drop p w) i) (colours_of g x (drop p w))) (sym (length-take-le p w h))

@@ -1,5 +1,6 @@
 -- What the yes of refusals 24 and 17 says: every required colour stands on some arc of the cycle, and no barred one; what they say with nothing
 -- barred; and that they ignore the bits at or above k. Assumes nothing.
+use Rattle.std.specs.Prelude.{Ok}
 use mathlib.Core.Path.{◌≡◌, refl, sym, ◌∙◌}
 use mathlib.Core.Bool.{Bool, true, false, true≢false, not, ◌||◌}
 use mathlib.Core.List.{List, [], ◌∷◌}
@@ -10,7 +11,6 @@ use native.Mathlib.Omega.{arith}
 use lib.ListN.{length}
 use borrow.Author.Tests.{not-false}
 use Rattle.refusals.specs.declared.Refusal.TheVariants.{MissingColour, BarredColour}
-use Rattle.refusals.specs.declared.Verdict.TheVariants.{Yes}
 use Rattle.refusals.proofs.Verdicts.{clash, refuse-yes, and-then-yes, and-then-on}
 use Rattle.refusals.proofs.Tests.{or_yes, is-no}
 use Rattle.refusals.proofs.Scan.{scan-yes}
@@ -32,7 +32,7 @@ has_arc test (a ∷ w) =
     )
 
 -- 17 does not apply exactly where every required colour stands on some arc of the cycle
-pub colours-yes : (g : Automaton) (x : ℕ) (w : List ℕ) → (colours_of g x w ≡ Yes) ↔ ((j : ℕ) → j < g.colours → bit x j ≡ false → Meets g j w)
+pub colours-yes : (g : Automaton) (x : ℕ) (w : List ℕ) → (colours_of g x w ≡ Ok tt) ↔ ((j : ℕ) → j < g.colours → bit x j ≡ false → Meets g j w)
 unfolding colours_of
 colours-yes g x w =
     let k = g.colours in
@@ -48,7 +48,7 @@ colours-yes g x w =
 
 -- 24 does not apply exactly where no barred colour stands on an arc of the cycle
 pub barred-yes : (g : Automaton) (x : ℕ) (w : List ℕ) (i : ℕ)
-    → (barred_from g x w i ≡ Yes) ↔ ((j : ℕ) → j < g.colours → bit x j ≡ true → Meets g j w → ⊥)
+    → (barred_from g x w i ≡ Ok tt) ↔ ((j : ℕ) → j < g.colours → bit x j ≡ true → Meets g j w → ⊥)
 unfolding barred_from
 barred-yes g x [] i = (λ e j h q m. m, λ f. refl)
 barred-yes g x (a ∷ w) i =
@@ -60,11 +60,11 @@ barred-yes g x (a ∷ w) i =
     )
 
 -- with nothing barred 24 does not apply
-pub barred-zero : (g : Automaton) (w : List ℕ) (i : ℕ) → barred_from g 0 w i ≡ Yes
+pub barred-zero : (g : Automaton) (w : List ℕ) (i : ℕ) → barred_from g 0 w i ≡ Ok tt
 barred-zero g w i = (barred-yes g 0 w i).1 (λ j h q m. true≢false (sym q ∙ bit-zero j))
 
 -- neither applies exactly where the plan is accepted
-pub accepted-yes : (g : Automaton) (x : ℕ) (p : Plan) → (accepted_of g x p ≡ Yes) ↔ Accepted g x p
+pub accepted-yes : (g : Automaton) (x : ℕ) (p : Plan) → (accepted_of g x p ≡ Ok tt) ↔ Accepted g x p
 unfolding accepted_of
 accepted-yes g x p =
     let both = and-then-yes (barred_from g x p.cycle (length p.prefix)) (colours_of g x p.cycle) in

@@ -1,6 +1,7 @@
 -- When refusals 15, 16 and 24 are answered: 15 with the first step that is not possible, counted over run-in, first and second round in one list;
 -- 16 where both rounds end lower; 24 with the position in the plan. And that earlier rows come first: 13 after 12, 24 after 15 and 16, and 17
 -- after 24. Assumes nothing.
+use Rattle.std.specs.Prelude.{Option, Some, None, Result, Ok, Err}
 use mathlib.Core.Path.{◌≡◌, refl, ◌∙◌}
 use mathlib.Core.Bool.{Bool, true, not, ◌&&◌, ◌||◌}
 use mathlib.Core.List.{List, [], ◌∷◌, ◌++◌}
@@ -14,46 +15,41 @@ use lib.Dec.{leb, ltb}
 use lib.ListN.{length, get_or, take, drop}
 use lib.Seq.{split_at, length-take-le}
 use Rattle.walks.specs.declared.Step.{Step}
-use Rattle.walks.specs.declared.Step.TheVariants.{To, Impossible}
 use Rattle.walks.specs.BoundedStep.{stepped}
 use Rattle.walks.specs.Walk.{Ends, walked}
 use Rattle.refusals.specs.declared.Refusal.{Refusal}
 use Rattle.refusals.specs.declared.Refusal.TheVariants.{ArcNumber, OtherMode, ImpossibleStep, FallingCycle, MissingColour, BarredColour}
-use Rattle.refusals.specs.declared.Verdict.{Verdict}
-use Rattle.refusals.specs.declared.Verdict.TheVariants.{Yes, Refused}
-use Rattle.refusals.specs.Refusals.{refuse}
+use Rattle.refusals.specs.Refusals.{Verdict, refuse}
 use Rattle.refusals.proofs.Verdicts.{clash, refuse-not, and-then-first, and-then-second}
 use Rattle.refusals.proofs.Scan.{FirstOf}
 use Rattle.model.specs.Automaton.{Automaton, arc_at, bit, meets, move_of, has_barred}
 use Rattle.model.specs.Lists.{Lists, automaton_of}
 use Rattle.model.specs.Fitness.{fitness, levels_of}
 use Rattle.model.specs.Plans.{Plan, Meets, walked_arcs}
-use Rattle.judge.specs.declared.Ran.{Ran}
-use Rattle.judge.specs.declared.Ran.TheVariants.{Through, Stops}
 use Rattle.judge.specs.Shape.{plan_of, shape, numbers, chain, numbers_then_chain}
 use Rattle.judge.specs.Charges.{ran_on, ran, after_ran, second_round, rounds, charges}
 use Rattle.judge.specs.Colours.{some_arc, missing_from, barred_from, colours_of, accepted_of}
 use Rattle.judge.specs.Judged.{serves_of, judged_plan, judged_levels, judged}
 use Rattle.judge.proofs.Firsts.{colour-first, barred-first}
 use Rattle.judge.proofs.Colours.{barred-yes}
-use Rattle.judge.proofs.Runs.{after-ran, ran-walked}
+use Rattle.judge.proofs.Runs.{after-ran, ran-refused, ran-walked}
 
 -- what follows a list that is walked through, as a walk
-abbrev then_ran : Ran → (ℕ → Ran) → Ran
-then_ran (Through e) f = f e
-then_ran (Stops i) f = Stops i
+abbrev then_ran : Result ℕ Refusal → (ℕ → Result ℕ Refusal) → Result ℕ Refusal
+then_ran (Ok e) f = f e
+then_ran (Err r) f = Err r
 
 -- 15 of a list and of what follows it
-joined : (r : Ran) (f : ℕ → Verdict) (h : ℕ → Ran) (i : ℕ) → ((x : ℕ) → (f x ≡ Refused (ImpossibleStep i)) ↔ (h x ≡ Stops i))
-    → (after_ran r f ≡ Refused (ImpossibleStep i)) ↔ (then_ran r h ≡ Stops i)
-joined (Through x) f h i q = q x
-joined (Stops k) f h i q = (λ e. cc, λ e. cc)
+joined : (r : Result ℕ Refusal) (f : ℕ → Verdict) (h : ℕ → Result ℕ Refusal) (i : ℕ) → ((x : ℕ) → (f x ≡ Err (ImpossibleStep i)) ↔ (h x ≡ Err (ImpossibleStep i)))
+    → (after_ran r f ≡ Err (ImpossibleStep i)) ↔ (then_ran r h ≡ Err (ImpossibleStep i))
+joined (Ok x) f h i q = q x
+joined (Err k) f h i q = (λ e. cc, λ e. cc)
 
 -- 15 of the last list, after which only 16 is answered
-last : (r : Ran) (t : ℕ → Bool) (i : ℕ) → (after_ran r (λ y. refuse (t y) FallingCycle Yes) ≡ Refused (ImpossibleStep i)) ↔ (r ≡ Stops i)
-last (Through x) t i =
-    (λ e. absurd (refuse-not (t x) FallingCycle (ImpossibleStep i) Yes (λ q. clash (cc)) (λ q. clash (cc)) e), λ e. clash (cc))
-last (Stops k) t i = (λ e. cc, λ e. cc)
+last : (r : Result ℕ Refusal) (t : ℕ → Bool) (i : ℕ) → (after_ran r (λ y. refuse (t y) FallingCycle (Ok tt)) ≡ Err (ImpossibleStep i)) ↔ (r ≡ Err (ImpossibleStep i))
+last (Ok x) t i =
+    (λ e. absurd (refuse-not (t x) FallingCycle (ImpossibleStep i) (Ok tt) (λ q. clash (cc)) (λ q. clash (cc)) e), λ e. clash (cc))
+last (Err k) t i = (λ e. cc, λ e. cc)
 
 -- a refusal of the colours, 24 or 17
 pub data OfColours : Refusal → Type 0 where
@@ -61,27 +57,19 @@ pub data OfColours : Refusal → Type 0 where
   missing : {d : ℕ} → OfColours (MissingColour d)
 
 -- it is neither 15 nor 16
-not_step : {r : Refusal} → OfColours r → (i : ℕ) → Refused (ImpossibleStep i) ≡ Refused r → ⊥
+not_step : {r : Refusal} → OfColours r → (i : ℕ) → ◌≡◌ {A = Verdict} (Err (ImpossibleStep i)) (Err r) → ⊥
 not_step barred i e = clash (cc)
 not_step missing i e = clash (cc)
 
-not-fall : {r : Refusal} → OfColours r → Refused FallingCycle ≡ Refused r → ⊥
+not-fall : {r : Refusal} → OfColours r → ◌≡◌ {A = Verdict} (Err FallingCycle) (Err r) → ⊥
 not-fall barred e = clash (cc)
 not-fall missing e = clash (cc)
 
-yes-not : {r : Refusal} → Yes ≡ Refused r → ⊥
+yes-not : {r : Refusal} → ◌≡◌ {A = Verdict} (Ok tt) (Err r) → ⊥
 yes-not e = clash (cc)
 
--- it is not answered where what follows the list does not answer it
-after-not : (s : Ran) (f : ℕ → Verdict) {r : Refusal} → OfColours r → ((x : ℕ) → f x ≡ Refused r → ⊥) → after_ran s f ≡ Refused r → ⊥
-after-not s f {r} k q e = let (x, _, h) = (after-ran s f (Refused r) (λ i e. not_step k i e)).0 e in q x h
-
--- 16 is answered by what follows a list that is walked through
-after-falls : (r : Ran) (f : ℕ → Verdict) → (after_ran r f ≡ Refused FallingCycle) ↔ ((x : ℕ) × (r ≡ Through x) × (f x ≡ Refused FallingCycle))
-after-falls r f = after-ran r f (Refused FallingCycle) (λ i e. clash (cc))
-
 -- its test: both rounds end lower than they began
-both-lower : (e x y : ℕ) → (refuse (ltb x e && ltb y x) FallingCycle Yes ≡ Refused FallingCycle) ↔ ((x < e) × (y < x))
+both-lower : (e x y : ℕ) → (◌≡◌ {A = Verdict} (refuse (ltb x e && ltb y x) FallingCycle (Ok tt)) (Err FallingCycle)) ↔ ((x < e) × (y < x))
 both-lower e x y = (
   λ q.
       elim (dec_le e x) [
@@ -92,20 +80,35 @@ both-lower e x y = (
 )
 
 module _ (g : Automaton) (b : ℕ) where
+  -- it is not answered where what follows the list does not answer it
+  after-not : (w : List ℕ) (i e : ℕ) (f : ℕ → Verdict) {r : Refusal} → OfColours r → ((x : ℕ) → f x ≡ Err r → ⊥)
+      → after_ran (ran g b w i e) f ≡ Err r → ⊥
+  after-not w i e f {r} k q h =
+      let (x, _, z) =
+      (after-ran (ran g b w i e) f (Err r) λ v s t. let (d, n) = ran-refused g b w i e v s in not_step k d (rw n at t)).0 h
+      in
+      q x z
+
+  -- 16 is answered by what follows a list that is walked through
+  after-falls : (w : List ℕ) (i e : ℕ) (f : ℕ → Verdict)
+      → (after_ran (ran g b w i e) f ≡ Err FallingCycle) ↔ ((x : ℕ) × (ran g b w i e ≡ Ok x) × (f x ≡ Err FallingCycle))
+  after-falls w i e f =
+      after-ran (ran g b w i e) f (Err FallingCycle) λ v s t. let (d, n) = ran-refused g b w i e v s in clash (cc)
+
   -- a list of two parts is walked one part after the other
   ran_append : (u v : List ℕ) (i e : ℕ) → ran g b (u ++ v) i e ≡ then_ran (ran g b u i e) (λ x. ran g b v (i + length u) x)
   unfolding ran
   ran_append [] v i e = rw (add-zero i) refl
   ran_append (a ∷ u) v i e = go (stepped b (move_of (arc_at g a)) e) (ran_append u v (suc i))
     where
-      go : (s : Step) → ((y : ℕ) → ran g b (u ++ v) (suc i) y ≡ then_ran (ran g b u (suc i) y) (λ x. ran g b v (suc i + length u) x))
+      go : (s : Option Step) → ((y : ℕ) → ran g b (u ++ v) (suc i) y ≡ then_ran (ran g b u (suc i) y) (λ x. ran g b v (suc i + length u) x))
           → ran_on s i (ran g b (u ++ v) (suc i)) ≡ then_ran (ran_on s i (ran g b u (suc i))) (λ x. ran g b v (i + suc (length u)) x)
-      go (To y l) ih = ih y ∙ rw (add-suc i (length u), suc-add i (length u)) refl
-      go Impossible ih = refl
+      go (Some z) ih = ih z.charge ∙ rw (add-suc i (length u), suc-add i (length u)) refl
+      go None ih = refl
 
   -- 15 applies with detail i exactly where, of run-in, first and second round in one list, step i is the first that is not possible
   pub impossible-step : (c : ℕ) (p : Plan) (i : ℕ)
-      → (charges g b c p ≡ Refused (ImpossibleStep i)) ↔ (ran g b (p.prefix ++ (p.cycle ++ p.cycle)) 0 c ≡ Stops i)
+      → (charges g b c p ≡ Err (ImpossibleStep i)) ↔ (ran g b (p.prefix ++ (p.cycle ++ p.cycle)) 0 c ≡ Err (ImpossibleStep i))
   unfolding charges rounds second_round
   impossible-step c p i =
       let w = p.cycle in
@@ -117,21 +120,21 @@ module _ (g : Automaton) (b : ℕ) where
 
   -- the walk of the first i arcs ends at some charge, from which the next step is not possible
   abbrev pub StopsAt : List ℕ → ℕ → ℕ → Type 0
-  StopsAt w c i = (i < length w) × ((x : ℕ) × (walked_arcs g b (take i w) c ≡ Ends x) × (stepped b (move_of (arc_at g (get_or w i 0))) x ≡ Impossible))
+  StopsAt w c i = (i < length w) × ((x : ℕ) × (walked_arcs g b (take i w) c ≡ Ends x) × (stepped b (move_of (arc_at g (get_or w i 0))) x ≡ None))
 
   -- the step where a walk stops, counted from k on
-  stops_at : (w : List ℕ) (k c d : ℕ) → ran g b w k c ≡ Stops d → (i : ℕ) × (k + i ≡ d) × StopsAt w c i
+  stops_at : (w : List ℕ) (k c d : ℕ) → ran g b w k c ≡ Err (ImpossibleStep d) → (i : ℕ) × (k + i ≡ d) × StopsAt w c i
   unfolding ran walked
   stops_at [] k c d q = clash (cc)
   stops_at (a ∷ w) k c d q = go (stepped b (move_of (arc_at g a)) c) refl (λ y. stops_at w (suc k) y d) q
     where
-      go : (s : Step) → stepped b (move_of (arc_at g a)) c ≡ s → ((y : ℕ) → ran g b w (suc k) y ≡ Stops d → (i : ℕ) × (suc k + i ≡ d) × StopsAt w y i)
-          → ran_on s k (ran g b w (suc k)) ≡ Stops d → (i : ℕ) × (k + i ≡ d) × StopsAt (a ∷ w) c i
-      go (To y l) e ih q = let (i, n, (h, (x, u, v))) = ih y q in (suc i, omega arith, (omega arith, (x, rw e u, v)))
-      go Impossible e ih q = let z : k ≡ d = cc in (0, omega arith, (omega arith, (c, refl, e)))
+      go : (s : Option Step) → stepped b (move_of (arc_at g a)) c ≡ s → ((y : ℕ) → ran g b w (suc k) y ≡ Err (ImpossibleStep d) → (i : ℕ) × (suc k + i ≡ d) × StopsAt w y i)
+          → ran_on s k (ran g b w (suc k)) ≡ Err (ImpossibleStep d) → (i : ℕ) × (k + i ≡ d) × StopsAt (a ∷ w) c i
+      go (Some z) e ih q = let (i, n, (h, (x, u, v))) = ih z.charge q in (suc i, omega arith, (omega arith, (x, rw e u, v)))
+      go None e ih q = let z : k ≡ d = cc in (0, omega arith, (omega arith, (c, refl, e)))
 
   -- a walk stops at step i exactly where the walk of the i arcs before it ends at some charge, from which step i is not possible
-  pub ran-stops : (w : List ℕ) (c i : ℕ) → (ran g b w 0 c ≡ Stops i) ↔ StopsAt w c i
+  pub ran-stops : (w : List ℕ) (c i : ℕ) → (ran g b w 0 c ≡ Err (ImpossibleStep i)) ↔ StopsAt w c i
   unfolding ran
   ran-stops w c i = (
     λ q. let (j, n, s) = stops_at w 0 c i q in let e : j ≡ i = omega arith in rw (← e) s,
@@ -140,7 +143,7 @@ module _ (g : Automaton) (b : ℕ) where
   )
 
   -- 16 applies exactly where prefix and two rounds are walked through, and both rounds end lower than they began
-  pub falling-cycle : (c : ℕ) (p : Plan) → (charges g b c p ≡ Refused FallingCycle)
+  pub falling-cycle : (c : ℕ) (p : Plan) → (charges g b c p ≡ Err FallingCycle)
       ↔ (
       (e : ℕ) × (x : ℕ) × (y : ℕ) × (walked_arcs g b p.prefix c ≡ Ends e) × (walked_arcs g b p.cycle e ≡ Ends x)
       × (walked_arcs g b p.cycle x ≡ Ends y) × (x < e) × (y < x)
@@ -151,9 +154,9 @@ module _ (g : Automaton) (b : ℕ) where
       let w = p.cycle in
       let n = length u in (
         λ q.
-            let (e, r, q₁) = (after-falls (ran g b u 0 c) _).0 q in
-            let (x, r₁, q₂) = (after-falls (ran g b w n e) _).0 q₁ in
-            let (y, r₂, q₃) = (after-falls (ran g b w (n + length w) x) _).0 q₂ in
+            let (e, r, q₁) = (after-falls u 0 c _).0 q in
+            let (x, r₁, q₂) = (after-falls w n e _).0 q₁ in
+            let (y, r₂, q₃) = (after-falls w (n + length w) x _).0 q₂ in
             let (h, i) = (both-lower e x y).0 q₃ in
             (e, x, y, (ran-walked g b u 0 c e).0 r, (ran-walked g b w n e x).0 r₁, (ran-walked g b w (n + length w) x y).0 r₂, h, i),
         λ (e, x, y, r, r₁, r₂, h, i).
@@ -161,54 +164,54 @@ module _ (g : Automaton) (b : ℕ) where
       )
 
   -- 15 and 16 come before 24 and 17: where one of them applies, it is the verdict
-  pub serves-order : (x c : ℕ) (p : Plan) (r : Refusal) → charges g b c p ≡ Refused r → serves_of g x b c p ≡ Refused r
+  pub serves-order : (x c : ℕ) (p : Plan) (r : Refusal) → charges g b c p ≡ Err r → serves_of g x b c p ≡ Err r
   unfolding serves_of
   serves-order x c p r e = rw e refl
 
   -- 15 and 16 do not answer 24 or 17
-  charges-not : (c : ℕ) (p : Plan) {r : Refusal} → OfColours r → charges g b c p ≡ Refused r → ⊥
+  charges-not : (c : ℕ) (p : Plan) {r : Refusal} → OfColours r → charges g b c p ≡ Err r → ⊥
   unfolding charges rounds second_round
   charges-not c p {r} k =
       let w = p.cycle in
       let n = length p.prefix in
-      after-not (ran g b p.prefix 0 c) _ k λ e.
-      after-not (ran g b w n e) _ k λ x.
-      after-not (ran g b w (n + length w) x) _ k λ y.
-      refuse-not (ltb x e && ltb y x) FallingCycle r Yes (not-fall k) yes-not
+      after-not p.prefix 0 c _ k λ e.
+      after-not w n e _ k λ x.
+      after-not w (n + length w) x _ k λ y.
+      refuse-not (ltb x e && ltb y x) FallingCycle r (Ok tt) (not-fall k) yes-not
 
   -- 24 and 17 are answered only where neither 15 nor 16 applies
-  pub serves-colour : (x c : ℕ) (p : Plan) {r : Refusal} → OfColours r → serves_of g x b c p ≡ Refused r → charges g b c p ≡ Yes
+  pub serves-colour : (x c : ℕ) (p : Plan) {r : Refusal} → OfColours r → serves_of g x b c p ≡ Err r → charges g b c p ≡ Ok tt
   unfolding serves_of
   serves-colour x c p {r} k = and-then-second (charges g b c p) (accepted_of g x p) r (charges-not c p k)
 
 -- 24 comes before 17 ..
-pub accepted-order : (g : Automaton) (x : ℕ) (p : Plan) (r : Refusal) → barred_from g x p.cycle (length p.prefix) ≡ Refused r → accepted_of g x p ≡ Refused r
+pub accepted-order : (g : Automaton) (x : ℕ) (p : Plan) (r : Refusal) → barred_from g x p.cycle (length p.prefix) ≡ Err r → accepted_of g x p ≡ Err r
 unfolding accepted_of
 accepted-order g x p r e = rw e refl
 
 -- 24 does not answer 17
-barred-not : (g : Automaton) (x : ℕ) (w : List ℕ) (i d : ℕ) → barred_from g x w i ≡ Refused (MissingColour d) → ⊥
+barred-not : (g : Automaton) (x : ℕ) (w : List ℕ) (i d : ℕ) → barred_from g x w i ≡ Err (MissingColour d) → ⊥
 unfolding barred_from
 barred-not g x [] i d = λ e. clash (cc)
 barred-not g x (a ∷ w) i d = refuse-not (has_barred g x a) (BarredColour i) (MissingColour d) _ (λ q. clash (cc)) (barred-not g x w (suc i) d)
 
 -- .. which is answered only where 24 does not apply
-pub accepted-colour : (g : Automaton) (x : ℕ) (p : Plan) (d : ℕ) → accepted_of g x p ≡ Refused (MissingColour d)
-    → barred_from g x p.cycle (length p.prefix) ≡ Yes
+pub accepted-colour : (g : Automaton) (x : ℕ) (p : Plan) (d : ℕ) → accepted_of g x p ≡ Err (MissingColour d)
+    → barred_from g x p.cycle (length p.prefix) ≡ Ok tt
 unfolding accepted_of
 accepted-colour g x p d =
     and-then-second (barred_from g x p.cycle (length p.prefix)) (colours_of g x p.cycle) (MissingColour d)
     (barred-not g x p.cycle (length p.prefix) d)
 
 -- 17 does not answer 24
-missing-not : (has : ℕ → Bool) (f j e : ℕ) → missing_from has f j ≡ Refused (BarredColour e) → ⊥
+missing-not : (has : ℕ → Bool) (f j e : ℕ) → missing_from has f j ≡ Err (BarredColour e) → ⊥
 unfolding missing_from
 missing-not has zero j e = λ q. clash (cc)
 missing-not has (suc f) j e = refuse-not (not (has j)) (MissingColour j) (BarredColour e) _ (λ q. clash (cc)) (missing-not has f (suc j) e)
 
 -- "A barred colour in the round is 24, .. with the plan position of the round's first arc that has one": the length of the run-in and that arc's
 -- place in the round
-pub accepted-barred : (g : Automaton) (x : ℕ) (p : Plan) (e : ℕ) → (accepted_of g x p ≡ Refused (BarredColour e))
+pub accepted-barred : (g : Automaton) (x : ℕ) (p : Plan) (e : ℕ) → (accepted_of g x p ≡ Err (BarredColour e))
     ↔ ((d : ℕ) × (e ≡ length p.prefix + d) × FirstOf (λ j. has_barred g x (get_or p.cycle j 0)) (length p.cycle) d)
 unfolding accepted_of colours_of
 accepted-barred g x p e =
@@ -217,8 +220,8 @@ accepted-barred g x p e =
 
 -- Of the call, with its byte x, where none of 1 to 6 and 11 to 16 applies: 24 and then 17 answer, as the request has them; this pins the byte that
 -- is judged with.
-module _ (n s k : ℕ) (l : Lists) (x b c p q : ℕ) (w : List ℕ) (fit : fitness n s k l ≡ Yes) (levels : levels_of b c ≡ Yes)
-    (shaped : shape (automaton_of n s k l) p q w ≡ Yes) (charged : charges (automaton_of n s k l) b c (plan_of p w) ≡ Yes) where
+module _ (n s k : ℕ) (l : Lists) (x b c p q : ℕ) (w : List ℕ) (fit : fitness n s k l ≡ Ok tt) (levels : levels_of b c ≡ Ok tt)
+    (shaped : shape (automaton_of n s k l) p q w ≡ Ok tt) (charged : charges (automaton_of n s k l) b c (plan_of p w) ≡ Ok tt) where
   abbrev model : Automaton
   model = automaton_of n s k l
 
@@ -227,24 +230,24 @@ module _ (n s k : ℕ) (l : Lists) (x b c p q : ℕ) (w : List ℕ) (fit : fitne
   judged-rest = rw (fit, levels, shaped, charged) refl
 
   -- 24, "with the plan position of the round's first arc that has one"
-  pub judged-barred : (e : ℕ) → (judged n s k l x b c p q w ≡ Refused (BarredColour e))
+  pub judged-barred : (e : ℕ) → (judged n s k l x b c p q w ≡ Err (BarredColour e))
       ↔ ((d : ℕ) × (e ≡ length (take p w) + d) × FirstOf (λ j. has_barred model x (get_or (drop p w) j 0)) (length (drop p w)) d)
   judged-barred e = rw judged-rest (accepted-barred model x (plan_of p w) e)
 
   -- 17, after 24: the lowest-numbered colour that is not barred and is missing from the round
   pub judged-missing : ((j : ℕ) → j < k → bit x j ≡ true → Meets model j (drop p w) → ⊥) → (d : ℕ)
-      → (judged n s k l x b c p q w ≡ Refused (MissingColour d)) ↔ FirstOf (λ j. not (bit x j || some_arc (meets model j) (drop p w))) k d
+      → (judged n s k l x b c p q w ≡ Err (MissingColour d)) ↔ FirstOf (λ j. not (bit x j || some_arc (meets model j) (drop p w))) k d
   unfolding accepted_of
   judged-missing clean d =
       rw (judged-rest, (barred-yes model x (drop p w) (length (take p w))).1 clean) (colour-first model x (drop p w) d)
 
 -- 12 does not answer 13
-numbers-not : (m : ℕ) (w : List ℕ) (i d : ℕ) → numbers m w i ≡ Refused (OtherMode d) → ⊥
+numbers-not : (m : ℕ) (w : List ℕ) (i d : ℕ) → numbers m w i ≡ Err (OtherMode d) → ⊥
 unfolding numbers
 numbers-not m [] i d = λ e. clash (cc)
 numbers-not m (a ∷ w) i d = refuse-not (leb m a) (ArcNumber i) (OtherMode d) _ (λ q. clash (cc)) (numbers-not m w (suc i) d)
 
 -- 13 is answered only where 12 applies nowhere
-pub path-order : (g : Automaton) (s : ℕ) (w : List ℕ) (d : ℕ) → numbers_then_chain g s w 0 ≡ Refused (OtherMode d) → numbers (length g.arcs) w 0 ≡ Yes
+pub path-order : (g : Automaton) (s : ℕ) (w : List ℕ) (d : ℕ) → numbers_then_chain g s w 0 ≡ Err (OtherMode d) → numbers (length g.arcs) w 0 ≡ Ok tt
 path-order g s w d =
     and-then-second (numbers (length g.arcs) w 0) (chain g s w 0) (OtherMode d) (numbers-not (length g.arcs) w 0 d)

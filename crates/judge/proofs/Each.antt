@@ -1,4 +1,7 @@
 -- What holds of every verdict that judging gives of a plan: of yes, and of 11 to 16, 24 and 17 with the details that each can have. Assumes nothing.
+use Rattle.std.specs.Prelude.{Option, Some, None}
+use Rattle.std.specs.Prelude.{Ok, Err}
+use Rattle.refusals.specs.Refusals.{Verdict}
 use mathlib.Core.Bool.{not, ◌&&◌, ◌||◌}
 use mathlib.Core.List.{List, [], ◌∷◌}
 use Prim.Native.Nat.{ℕ, suc, ◌+◌, ◌*◌, ◌≤◌, ◌<◌}
@@ -8,11 +11,8 @@ use lib.Dec.{ltb, eqb}
 use lib.ListN.{length, take, length-drop, length-take}
 use Rattle.limits.specs.Ceilings.{colours_most, plan_most}
 use Rattle.walks.specs.declared.Step.{Step}
-use Rattle.walks.specs.declared.Step.TheVariants.{To, Impossible}
 use Rattle.walks.specs.BoundedStep.{stepped}
 use Rattle.refusals.specs.declared.Refusal.TheVariants.{PlanLength, ArcNumber, OtherMode, OpenCycle, ImpossibleStep, FallingCycle, MissingColour, BarredColour}
-use Rattle.refusals.specs.declared.Verdict.{Verdict}
-use Rattle.refusals.specs.declared.Verdict.TheVariants.{Yes, Refused}
 use Rattle.refusals.proofs.Each.{refuse-each, then-each, scan-each}
 use Rattle.model.specs.Automaton.{Automaton, arc_at, bit, meets, move_of}
 use Rattle.model.specs.Plans.{Plan}
@@ -25,15 +25,15 @@ use Rattle.judge.proofs.Shapes.{length-yes, shape-yes}
 
 -- P holds of yes, and of each refusal of a plan
 pub record OfPlans (P : Verdict → Type 0) : Type 0 where
-  pub of_yes : P Yes
-  pub of_length : P (Refused PlanLength)
-  pub of_number : (d : ℕ) → d < plan_most → P (Refused (ArcNumber d))
-  pub of_mode : (d : ℕ) → d < plan_most → P (Refused (OtherMode d))
-  pub of_open : P (Refused OpenCycle)
-  pub of_step : (d : ℕ) → d < 2 * plan_most → P (Refused (ImpossibleStep d))
-  pub of_falling : P (Refused FallingCycle)
-  pub of_barred : (d : ℕ) → d < plan_most → P (Refused (BarredColour d))
-  pub of_missing : (j : ℕ) → j < colours_most → P (Refused (MissingColour j))
+  pub of_yes : P (Ok tt)
+  pub of_length : P (Err PlanLength)
+  pub of_number : (d : ℕ) → d < plan_most → P (Err (ArcNumber d))
+  pub of_mode : (d : ℕ) → d < plan_most → P (Err (OtherMode d))
+  pub of_open : P (Err OpenCycle)
+  pub of_step : (d : ℕ) → d < 2 * plan_most → P (Err (ImpossibleStep d))
+  pub of_falling : P (Err FallingCycle)
+  pub of_barred : (d : ℕ) → d < plan_most → P (Err (BarredColour d))
+  pub of_missing : (j : ℕ) → j < colours_most → P (Err (MissingColour j))
 
 module _ (P : Verdict → Type 0) (h : OfPlans P) (g : Automaton) where
   -- 11
@@ -68,9 +68,9 @@ module _ (P : Verdict → Type 0) (h : OfPlans P) (g : Automaton) where
   ran-each b [] i e low after = after e
   ran-each b (a ∷ w) i e {f} low after = on (stepped b (move_of (arc_at g a)) e) λ y. ran-each b w (suc i) y (omega arith) after
     where
-      on : (s : Step) → ((y : ℕ) → P (after_ran (ran g b w (suc i) y) f)) → P (after_ran (ran_on s i (ran g b w (suc i))) f)
-      on (To y l) ih = ih y
-      on Impossible ih = h.of_step i (omega arith)
+      on : (s : Option Step) → ((y : ℕ) → P (after_ran (ran g b w (suc i) y) f)) → P (after_ran (ran_on s i (ran g b w (suc i))) f)
+      on (Some u) ih = ih u.charge
+      on None ih = h.of_step i (omega arith)
 
   -- 15 and 16
   charges-each : (b c : ℕ) (p : Plan) → length p.prefix + 2 * length p.cycle ≤ 2 * plan_most → P (charges g b c p)

@@ -1,5 +1,6 @@
 -- Document 01's examples A to L, from the definitions: one theorem over the table of specs/Examples; and what barred colours change in some of
 -- them. Assumes nothing.
+use Rattle.std.specs.Prelude.{Ok}
 use mathlib.Core.Path.{◌≡◌, refl, subst}
 use mathlib.Core.List.{List, [], ◌∷◌}
 use Prim.Native.Nat.{ℕ, zero, suc, ◌<◌}
@@ -8,7 +9,6 @@ use lib.Dec.{eqb}
 use lib.ListN.{length, get_or}
 use Rattle.walks.specs.BoundedStep.{stepped}
 use Rattle.refusals.specs.declared.Answer.{Answer}
-use Rattle.refusals.specs.declared.Verdict.TheVariants.{Yes}
 use Rattle.refusals.specs.Refusals.{answer, answer_of}
 use Rattle.refusals.proofs.Verdicts.{and-then-yes}
 use Rattle.model.specs.Automaton.{Automaton}
@@ -25,7 +25,7 @@ use Rattle.judge.proofs.NoPlan.{no-plan}
 
 -- a plan to which judging says yes is one
 judged-found : (x : Example) (p q : ℕ) (w : List ℕ)
-    → judged x.modes 0 x.colours x.arcs 0 x.bound x.credit p q w ≡ Yes → SomePlan (model_in x) 0 x.bound x.credit
+    → judged x.modes 0 x.colours x.arcs 0 x.bound x.credit p q w ≡ Ok tt → SomePlan (model_in x) 0 x.bound x.credit
 judged-found x p q w e = (plan_of p w, ((judged-yes x.modes 0 x.colours x.arcs 0 x.bound x.credit p q w).0 e).serves)
 
 -- one row after the other
@@ -80,7 +80,7 @@ module _ (x : Example) (stands : Stands x) where
 
   -- none of 1 to 6 applies
   abbrev Clear : Type 0
-  Clear = (fitness x.modes 0 x.colours x.arcs ≡ Yes) × (levels_of x.bound x.credit ≡ Yes)
+  Clear = (fitness x.modes 0 x.colours x.arcs ≡ Ok tt) × (levels_of x.bound x.credit ≡ Ok tt)
 
   clear : Admitted x → Clear
   clear a = (and-then-yes (fitness x.modes 0 x.colours x.arcs) (levels_of x.bound x.credit)).0 a

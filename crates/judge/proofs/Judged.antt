@@ -1,13 +1,14 @@
 -- What the yes of judging says: the model is fit, the levels are right, the plan has its lengths, and is feasible and accepted. And what the
 -- byte of barred colours does not change. Assumes nothing.
+use Rattle.std.specs.Prelude.{Ok}
 use mathlib.Core.Path.{◌≡◌, ap}
 use mathlib.Core.List.{List}
 use mathlib.Core.Logic.{◌↔◌}
 use Prim.Native.Nat.{ℕ, ◌≤◌, ◌<◌}
+use native.Mathlib.Omega.{arith}
 use lib.ListN.{drop}
-use Rattle.refusals.specs.declared.Verdict.{Verdict}
-use Rattle.refusals.specs.declared.Verdict.TheVariants.{Yes}
-use Rattle.refusals.specs.Refusals.{and_then}
+use Rattle.limits.specs.Ceilings.{bound_most}
+use Rattle.refusals.specs.Refusals.{Verdict, and_then}
 use Rattle.refusals.proofs.Verdicts.{and-then-yes}
 use Rattle.refusals.proofs.Numbers.{yes-number}
 use Rattle.model.specs.Automaton.{Automaton, bit, meets}
@@ -25,7 +26,7 @@ use Rattle.judge.proofs.Colours.{accepted-yes, accepted-unbarred, accepted-same}
 
 module _ (g : Automaton) (x b c : ℕ) where
   -- 15, 16, 24 and 17 do not apply exactly where the plan is feasible and accepted
-  pub serves-yes : (p : Plan) → c ≤ b → (serves_of g x b c p ≡ Yes) ↔ (Feasible g b c p × Accepted g x p)
+  pub serves-yes : (p : Plan) → c ≤ b → (serves_of g x b c p ≡ Ok tt) ↔ (Feasible g b c p × Accepted g x p)
   unfolding serves_of
   serves-yes p h =
       let both = and-then-yes (charges g b c p) (accepted_of g x p) in (
@@ -34,7 +35,7 @@ module _ (g : Automaton) (x b c : ℕ) where
       )
 
   -- 11 to 16, 24 and 17 do not apply exactly where the lengths are right and the bytes are a plan that serves
-  pub plan-yes : (p q : ℕ) (w : List ℕ) → c ≤ b → (judged_plan g x b c p q w ≡ Yes) ↔ (Lengths p q w × Serves g x b c (plan_of p w))
+  pub plan-yes : (p q : ℕ) (w : List ℕ) → c ≤ b → (judged_plan g x b c p q w ≡ Ok tt) ↔ (Lengths p q w × Serves g x b c (plan_of p w))
   unfolding judged_plan
   plan-yes p q w h =
       let both = and-then-yes (shape g p q w) (serves_of g x b c (plan_of p w)) in
@@ -46,8 +47,17 @@ module _ (g : Automaton) (x b c : ℕ) where
         λ (l, s). both.1 ((shape-yes g p q w).1 (l, s.plan), serves.1 (s.feasible, s.accepted)),
       )
 
+-- where 6 does not apply neither level is above the ceiling
+pub levels-bound : (b c : ℕ) → levels_of b c ≡ Ok tt → b ≤ bound_most
+levels-bound b c e = ((levels-yes b c).0 e).0
+
+pub levels-credit : (b c : ℕ) → levels_of b c ≡ Ok tt → c ≤ bound_most
+levels-credit b c e = let h = (levels-yes b c).0 e in omega (arith, h.0, h.1)
+
+pub ruleset levels = (levels-bound, levels-credit)
+
 -- judging says yes exactly for what is right
-pub judged-yes : (n s k : ℕ) (l : Lists) (x b c p q : ℕ) (w : List ℕ) → (judged n s k l x b c p q w ≡ Yes) ↔ Right n s k l x b c p q w
+pub judged-yes : (n s k : ℕ) (l : Lists) (x b c p q : ℕ) (w : List ℕ) → (judged n s k l x b c p q w ≡ Ok tt) ↔ Right n s k l x b c p q w
 unfolding judged judged_levels
 judged-yes n s k l x b c p q w =
     let g = automaton_of n s k l in

@@ -1,4 +1,5 @@
 -- Arcs lead on from one to the next exactly where refusals 12 and 13 let a list through. Assumes nothing.
+use Rattle.std.specs.Prelude.{Ok}
 use mathlib.Core.Path.{◌≡◌, refl}
 use mathlib.Core.Bool.{not}
 use mathlib.Core.List.{List, [], ◌∷◌}
@@ -7,7 +8,6 @@ use Prim.Native.Nat.{ℕ, suc}
 use lib.Dec.{leb, eqb}
 use lib.ListN.{length}
 use Rattle.refusals.specs.declared.Refusal.TheVariants.{ArcNumber, OtherMode}
-use Rattle.refusals.specs.declared.Verdict.TheVariants.{Yes}
 use Rattle.refusals.proofs.Verdicts.{refuse-yes}
 use Rattle.refusals.proofs.Tests.{le-no, differ-no}
 use Rattle.model.specs.Automaton.{Automaton, arc_at}
@@ -17,7 +17,7 @@ use Rattle.judge.specs.Shape.{numbers, chain, mode_after}
 module _ (g : Automaton) where
   -- arcs lead from s to t exactly where neither 12 nor 13 applies and t is the mode after them
   pub leads-chain : (w : List ℕ) (s t i : ℕ) → Leads g s w t
-      ↔ ((numbers (length g.arcs) w i ≡ Yes) × (chain g s w i ≡ Yes) × (mode_after g s w ≡ t))
+      ↔ ((numbers (length g.arcs) w i ≡ Ok tt) × (chain g s w i ≡ Ok tt) × (mode_after g s w ≡ t))
   unfolding numbers chain
   leads-chain [] s t i = (λ h. (refl, refl, h), λ h. h.2)
   leads-chain (a ∷ w) s t i =

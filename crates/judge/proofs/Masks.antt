@@ -1,4 +1,6 @@
 -- The mask of met colours: its bits are the colours met, and the lowest bit that it lacks is the lowest colour missing. Assumes nothing.
+use Rattle.std.specs.Prelude.{Ok, Err}
+use Rattle.refusals.specs.Refusals.{Verdict}
 use mathlib.Core.Path.{◌≡◌, refl, sym, ap, ◌∙◌}
 use mathlib.Core.Bool.{Bool, ◌||◌, or_assoc, or-false}
 use mathlib.Core.List.{List, [], ◌∷◌}
@@ -14,8 +16,6 @@ use lib.Dec.{eqb}
 use lib.ListN.{length, get_or}
 use lib.Pow.{pow_pos}
 use Rattle.refusals.specs.declared.Refusal.TheVariants.{MissingColour}
-use Rattle.refusals.specs.declared.Verdict.{Verdict}
-use Rattle.refusals.specs.declared.Verdict.TheVariants.{Yes, Refused}
 use Rattle.model.specs.Automaton.{Automaton, arc_at, bit, meets}
 use Rattle.model.proofs.Bits.{half-bit, or-bit}
 use Rattle.model.proofs.Barred.{mod-bit}
@@ -49,7 +49,7 @@ met-full g k (a ∷ w) h = rw (or-full k (arc_at g a).colours (h 0 (omega arith)
 
 -- what 17 says of f colours from i on, by the mask x of those that are missing
 abbrev missing_by : ℕ → ℕ → ℕ → Verdict → Type 0
-missing_by f i x v = ((x ≡ 0) × (v ≡ Yes)) ⊎ ((0 < x) × (v ≡ Refused (MissingColour (i + count_trailing_zeros f x))))
+missing_by f i x v = ((x ≡ 0) × (v ≡ Ok tt)) ⊎ ((0 < x) × (v ≡ Err (MissingColour (i + count_trailing_zeros f x))))
 
 -- one colour more, below the others, that is met
 missing-next : (f i x : ℕ) (v : Verdict) → x % 2 ≡ 0 → missing_by f (suc i) (x / 2) v → missing_by (suc f) i x v
@@ -58,7 +58,7 @@ missing-next f i x v even (inl (z, e)) = inl (omega arith, e)
 missing-next f i x v even (inr (z, e)) = inr (omega arith, rw (even, add-suc i (count_trailing_zeros f (x / 2)), ← suc-add i (count_trailing_zeros f (x / 2))) e)
 
 -- the lowest of them is missing
-missing-here : (f i x : ℕ) → x % 2 ≡ 1 → missing_by (suc f) i x (Refused (MissingColour i))
+missing-here : (f i x : ℕ) → x % 2 ≡ 1 → missing_by (suc f) i x (Err (MissingColour i))
 unfolding count_trailing_zeros
 missing-here f i x odd = inr (omega arith, rw (odd, add-zero i) refl)
 
@@ -101,20 +101,20 @@ module _ (g : Automaton) (x m : ℕ) (w : List ℕ) (few : g.colours ≤ 32) (pa
       (ap {B = Bool} (λ (t : Bool). t || some_arc (meets g j) w) (ap {B = Bool} (λ (z : ℕ). bit z j) passed ∙ mod-bit g.colours x j q)))
 
   -- it is empty: 17 does not apply
-  pub none-missing : y ≡ 0 → colours_of g x w ≡ Yes
+  pub none-missing : y ≡ 0 → colours_of g x w ≡ Ok tt
   none-missing z = go by_mask
     where
-      go : missing_by g.colours 0 y (colours_of g x w) → colours_of g x w ≡ Yes
+      go : missing_by g.colours 0 y (colours_of g x w) → colours_of g x w ≡ Ok tt
       go (inl (h, e)) = e
       go (inr (h, e)) = absurd (omega arith)
 
   -- it is not: its trailing zeros are the colour
-  pub some-missing : y ≢ 0 → colours_of g x w ≡ Refused (MissingColour (count_trailing_zeros 32 y))
+  pub some-missing : y ≢ 0 → colours_of g x w ≡ Err (MissingColour (count_trailing_zeros 32 y))
   some-missing z = go by_mask
     where
       wide : 0 < y → count_trailing_zeros 32 y ≡ count_trailing_zeros g.colours y
       wide h = rw (add-sub_of_le few) at (trail-wide g.colours (32 - g.colours) y h (omega (arith, pow_pos g.colours)))
 
-      go : missing_by g.colours 0 y (colours_of g x w) → colours_of g x w ≡ Refused (MissingColour (count_trailing_zeros 32 y))
+      go : missing_by g.colours 0 y (colours_of g x w) → colours_of g x w ≡ Err (MissingColour (count_trailing_zeros 32 y))
       go (inl (h, e)) = absurd (z h)
       go (inr (h, e)) = rw (wide h) (rw (zero-add (count_trailing_zeros g.colours y)) at e)

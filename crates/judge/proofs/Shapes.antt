@@ -1,16 +1,16 @@
 -- What the yes of refusals 11 to 14 says: the two lengths are right, and the bytes are a plan of the model. Assumes nothing.
+use Rattle.std.specs.Prelude.{Ok}
 use mathlib.Core.Path.{◌≡◌, refl, sym, ◌∙◌, subst}
 use mathlib.Core.Bool.{not, ◌||◌}
 use mathlib.Core.List.{List}
 use mathlib.Core.Logic.{◌↔◌}
-use Prim.Native.Nat.{ℕ, ◌+◌, ◌<◌}
+use Prim.Native.Nat.{ℕ, ◌+◌, ◌≤◌, ◌<◌}
 use native.Mathlib.Omega.{arith}
 use lib.Dec.{leb, ltb, eqb}
 use lib.ListN.{length, get_or, take, drop, length-drop}
 use borrow.Author.Tests.{eqb-false, ne_eqb}
 use Rattle.limits.specs.Ceilings.{plan_most}
 use Rattle.refusals.specs.declared.Refusal.TheVariants.{PlanLength, ArcNumber, OpenCycle}
-use Rattle.refusals.specs.declared.Verdict.TheVariants.{Yes}
 use Rattle.refusals.proofs.Verdicts.{refuse-yes, and-then-yes}
 use Rattle.model.specs.Automaton.{Automaton}
 use Rattle.model.specs.Plans.{Leads, IsPlan}
@@ -22,11 +22,11 @@ use Rattle.judge.proofs.Leads.{leads-chain, leads-mode}
 use Rattle.judge.proofs.Firsts.{numbers-scan}
 
 -- 11 does not apply exactly where the lengths are right
-pub length-yes : (p q : ℕ) (w : List ℕ) → (length_of p q (length w) ≡ Yes) ↔ Lengths p q w
+pub length-yes : (p q : ℕ) (w : List ℕ) → (length_of p q (length w) ≡ Ok tt) ↔ Lengths p q w
 unfolding length_of
 length-yes p q w =
     let n = length w in
-    let row = refuse-yes (eqb q 0 || not (eqb (p + q) n) || ltb plan_most n) PlanLength Yes in
+    let row = refuse-yes (eqb q 0 || not (eqb (p + q) n) || ltb plan_most n) PlanLength (Ok tt) in
     let outer = or_no (eqb q 0 || not (eqb (p + q) n)) (ltb plan_most n) in
     let inner = or_no (eqb q 0) (not (eqb (p + q) n)) in (
       λ e.
@@ -38,23 +38,32 @@ length-yes p q w =
           row.1 (outer.1 (inner.1 (none, (differ-no (p + q) n).1 h.parts), (lt_no plan_most n).1 h.short), refl),
     )
 
+-- .. so that the cycle begins within the plan, which is not too long
+pub length-begins : (p q : ℕ) (w : List ℕ) → length_of p q (length w) ≡ Ok tt → p < length w
+length-begins p q w e = let h = (length-yes p q w).0 e in omega (arith, h.parts, h.has_arc)
+
+pub length-short : (p q : ℕ) (w : List ℕ) → length_of p q (length w) ≡ Ok tt → length w ≤ plan_most
+length-short p q w e = ((length-yes p q w).0 e).short
+
+pub ruleset lengths = (length-begins, length-short)
+
 -- 12 does not apply exactly where every arc number is below m
-pub numbers-yes : (m : ℕ) (w : List ℕ) → (numbers m w 0 ≡ Yes) ↔ ((j : ℕ) → j < length w → get_or w j 0 < m)
+pub numbers-yes : (m : ℕ) (w : List ℕ) → (numbers m w 0 ≡ Ok tt) ↔ ((j : ℕ) → j < length w → get_or w j 0 < m)
 numbers-yes m w =
     let all = scan-yes (λ j. leb m (get_or w j 0)) ArcNumber (length w) (λ k. numbers m (drop k w) k) (numbers-scan m w) in
     (λ e j h. (le-no m (get_or w j 0)).0 (all.0 e j h), λ f. all.1 (λ j h. (le-no m (get_or w j 0)).1 (f j h)))
 
 module _ (g : Automaton) (p : ℕ) (w : List ℕ) where
   -- 14 does not apply exactly where the mode after the first p arcs is the mode after all
-  pub closing-yes : (closing g p w ≡ Yes) ↔ (mode_after g g.start (take p w) ≡ mode_after g g.start w)
+  pub closing-yes : (closing g p w ≡ Ok tt) ↔ (mode_after g g.start (take p w) ≡ mode_after g g.start w)
   unfolding closing
   closing-yes =
       let same = differ-no (mode_after g g.start (take p w)) (mode_after g g.start w) in
-      let row = refuse-yes _ OpenCycle Yes in
+      let row = refuse-yes _ OpenCycle (Ok tt) in
       (λ e. same.0 (row.0 e).0, λ e. row.1 (same.1 e, refl))
 
   -- 12 to 14 do not apply exactly where the bytes lead from the start mode to some mode, and from there back to it
-  pub path-yes : (path g p w ≡ Yes) ↔ ((m : ℕ) × Leads g g.start (take p w) m × Leads g m (drop p w) m)
+  pub path-yes : (path g p w ≡ Ok tt) ↔ ((m : ℕ) × Leads g g.start (take p w) m × Leads g m (drop p w) m)
   path-yes =
       let s = g.start in
       let last = mode_after g s w in
@@ -71,7 +80,7 @@ module _ (g : Automaton) (p : ℕ) (w : List ℕ) where
       )
 
 -- 11 to 14 do not apply exactly where the lengths are right and the bytes are a plan of the model
-pub shape-yes : (g : Automaton) (p q : ℕ) (w : List ℕ) → (shape g p q w ≡ Yes) ↔ (Lengths p q w × IsPlan g (plan_of p w))
+pub shape-yes : (g : Automaton) (p q : ℕ) (w : List ℕ) → (shape g p q w ≡ Ok tt) ↔ (Lengths p q w × IsPlan g (plan_of p w))
 unfolding shape
 shape-yes g p q w =
     let both = and-then-yes (length_of p q (length w)) (path g p w) in (

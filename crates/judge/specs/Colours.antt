@@ -1,11 +1,9 @@
 -- The colours of a cycle, refusals 24 and 17. Document 01, "Where each call stops", row "colours"; document 02, Ask 6: "A barred colour in the
 -- round is 24, after 16 and before 17".
-use Rattle.std.specs.Prelude.{ℕ, zero, suc, Bool, false, not, ◌||◌, List, [], ◌∷◌, length}
+use Rattle.std.specs.Prelude.{ℕ, zero, suc, Bool, false, not, ◌||◌, List, [], ◌∷◌, length, Ok}
 use Rattle.std.specs.Int.Bits.{bit_or}
 use Rattle.refusals.specs.declared.Refusal.TheVariants.{MissingColour, BarredColour}
-use Rattle.refusals.specs.declared.Verdict.{Verdict}
-use Rattle.refusals.specs.declared.Verdict.TheVariants.{Yes}
-use Rattle.refusals.specs.Refusals.{refuse, and_then}
+use Rattle.refusals.specs.Refusals.{Verdict, refuse, and_then}
 use Rattle.model.specs.Automaton.{Automaton, arc_at, bit, meets, has_barred}
 use Rattle.model.specs.Plans.{Plan}
 
@@ -16,12 +14,12 @@ some_arc test (a ∷ w) = test a || some_arc test w
 
 -- "a colour is missing", with the lowest-numbered; f colours are looked at, from j on
 unfoldable pub missing_from : (ℕ → Bool) → ℕ → ℕ → Verdict
-missing_from has zero j = Yes
+missing_from has zero j = Ok tt
 missing_from has (suc f) j = refuse (not (has j)) (MissingColour j) (missing_from has f (suc j))
 
 -- 24: a barred colour in the round, "with the plan position of the round's first arc that has one"; the list's first arc has the position i
 unfoldable pub barred_from : Automaton → ℕ → List ℕ → ℕ → Verdict
-barred_from g x [] i = Yes
+barred_from g x [] i = Ok tt
 barred_from g x (a ∷ w) i = refuse (has_barred g x a) (BarredColour i) (barred_from g x w (suc i))
 
 -- 17: "the lowest-numbered colour missing from the round"; "17 and its detail pass over" the barred colours

@@ -1,8 +1,7 @@
 -- Document 01, "Examples": A to L as the rows of one table. "Start mode 0." The theorem examples-hold says that every row holds. M and N
 -- "are left to a test program".
-use Rattle.std.specs.Prelude.{ℕ, ◌≡◌, List, [], ◌∷◌, ℤ, pos, negsuc, length, replicate}
+use Rattle.std.specs.Prelude.{ℕ, ◌≡◌, List, [], ◌∷◌, ℤ, pos, negsuc, length, replicate, Ok}
 use Rattle.refusals.specs.declared.Answer.{Answer}
-use Rattle.refusals.specs.declared.Verdict.TheVariants.{Yes}
 use Rattle.refusals.specs.Refusals.{answer, and_then}
 use Rattle.model.specs.Automaton.{Automaton}
 use Rattle.model.specs.Lists.{Lists, weighted, automaton_of}
@@ -32,7 +31,7 @@ model_in x = automaton_of x.modes 0 x.colours x.arcs
 
 -- none of 1 to 6 applies to a row
 abbrev pub Admitted : Example → Type 0
-Admitted x = and_then (fitness x.modes 0 x.colours x.arcs) (levels_of x.bound x.credit) ≡ Yes
+Admitted x = and_then (fitness x.modes 0 x.colours x.arcs) (levels_of x.bound x.credit) ≡ Ok tt
 
 -- the claim, made of a row; no colour is barred
 abbrev pub Says : Example → Claim → Type 0

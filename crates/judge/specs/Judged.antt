@@ -1,14 +1,14 @@
 -- Judging. Document 01, "What can be called" and "Where each call stops": "judging 1 to 6 and 11 to 17", top to bottom; document 02, Ask 6: 24
 -- stands "after 16 and before 17".
-use Rattle.std.specs.Prelude.{ℕ, ◌≤◌, ◌<◌, List, length, get_or}
+use Rattle.std.specs.Prelude.{ℕ, ◌≤◌, ◌<◌, List, length, get_or, Result, Ok}
 use Rattle.limits.specs.Ceilings.{arcs_most, bound_most}
 use Rattle.refusals.specs.declared.Answer.{Answer}
-use Rattle.refusals.specs.declared.Verdict.{Verdict}
-use Rattle.refusals.specs.Refusals.{and_then, answer_of}
+use Rattle.refusals.specs.declared.Refusal.{Refusal}
+use Rattle.refusals.specs.Refusals.{Verdict, and_then, answer_of}
 use Rattle.model.specs.declared.Model.{Model}
 use Rattle.model.specs.Automaton.{Automaton}
-use Rattle.model.specs.Lists.{Lists, automaton_of}
-use Rattle.model.specs.Fitness.{fitness, fitted_of, levels_of, EqualLists, Fit}
+use Rattle.model.specs.Lists.{Lists, automaton_of, model_of}
+use Rattle.model.specs.Fitness.{fitness, levels_of, EqualLists, Fit}
 use Rattle.model.specs.Plans.{Plan, Serves}
 use Rattle.judge.specs.declared.JudgedModel.{JudgedModel}
 use Rattle.judge.specs.Shape.{plan_of, shape, Lengths}
@@ -35,9 +35,10 @@ judged n s k l x b c p q w = and_then (fitness n s k l) (judged_levels (automato
 abbrev pub judged_answer : ℕ → ℕ → ℕ → Lists → ℕ → ℕ → ℕ → ℕ → ℕ → List ℕ → Answer
 judged_answer n s k l x b c p q w = answer_of (judged n s k l x b c p q w)
 
--- the verdict, with the model as the code holds it, for calls that go on with it
-unfoldable pub judged_model : ℕ → ℕ → ℕ → Lists → ℕ → ℕ → ℕ → ℕ → ℕ → List ℕ → JudgedModel
-judged_model n s k l x b c p q w = record { verdict = judged n s k l x b c p q w; model = (fitted_of n s k l).model }
+-- 1 to 5, and where none applies what judging says from 6 on, and the model as the code holds it, for calls that go on with it
+unfoldable pub judged_model : ℕ → ℕ → ℕ → Lists → ℕ → ℕ → ℕ → ℕ → ℕ → List ℕ → Result JudgedModel Refusal
+judged_model n s k l x b c p q w =
+    and_then (fitness n s k l) (Ok (record { verdict = judged_levels (automaton_of n s k l) x b c p q w; model = model_of n s k l }))
 
 -- What the yes says (theorem judged-yes): the model is fit, the levels are right, the plan has its lengths, and is feasible and accepted
 pub record Right (n s k : ℕ) (l : Lists) (x b c p q : ℕ) (w : List ℕ) : Type 0 where

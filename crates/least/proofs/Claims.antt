@@ -1,5 +1,6 @@
 -- What is claimed: how a call comes to its claim, that there is one least level and one answer, and that calls for which the same plans serve have the same.
 -- Assumes nothing.
+use Rattle.std.specs.Prelude.{Ok, Err}
 use mathlib.Core.Path.{◌≡◌, refl, sym, ap, subst, ◌∙◌}
 use mathlib.Core.List.{List}
 use mathlib.Core.Logic.{◌↔◌, inl, inr, ⊎_elim}
@@ -10,9 +11,7 @@ use lib.ListN.{length, replicate}
 use Rattle.limits.specs.Ceilings.{bound_most, product_most}
 use Rattle.refusals.specs.declared.Answer.{Answer}
 use Rattle.refusals.specs.declared.Refusal.{Refusal}
-use Rattle.refusals.specs.declared.Verdict.{Verdict}
-use Rattle.refusals.specs.declared.Verdict.TheVariants.{Yes, Refused}
-use Rattle.refusals.specs.Refusals.{answer, numbered}
+use Rattle.refusals.specs.Refusals.{Verdict, answer, numbered}
 use Rattle.refusals.proofs.Verdicts.{clash}
 use Rattle.model.specs.Automaton.{bit}
 use Rattle.model.specs.Lists.{Lists, automaton_of}
@@ -21,10 +20,8 @@ use Rattle.switches.specs.Switches.{SameBelow, AllBelow}
 use Rattle.switches.proofs.PlansOn.{some-plan-all-on, some-plan-ignored, some-plan-barred}
 use Rattle.least.specs.declared.Sought.{Sought}
 use Rattle.least.specs.declared.Sought.TheVariants.{Credit, Bound}
-use Rattle.least.specs.declared.LeastFound.{LeastFound}
-use Rattle.least.specs.declared.LeastFound.TheVariants as found
 use Rattle.least.specs.declared.LeastAnswer.{LeastAnswer}
-use Rattle.least.specs.Least.{bound_at, credit_at, Allowed, Least, NoneServes, least_answer, LeastClaim, LeastOf, seekable}
+use Rattle.least.specs.Least.{LeastFound, bound_at, credit_at, Allowed, Least, NoneServes, least_answer, LeastClaim, LeastOf, seekable}
 use Rattle.least.specs.Within.{Answered, value, none}
 use Rattle.least.proofs.Halving.{least-alike, none_alike}
 use Rattle.least.proofs.Levels.{factor-low}
@@ -71,7 +68,7 @@ module _ {Allow Serves : ℕ → Type 0} where
 
   module _ {v : Verdict} {work : List ℕ} where
     -- a refused call
-    pub claim-refused : {y : Refusal} → v ≡ Refused y → LeastClaim v Allow Serves work work (found.Refused y)
+    pub claim-refused : {y : Refusal} → v ≡ Err y → LeastClaim v Allow Serves work work (Err y)
     claim-refused {y} e =
         record {
           refused = λ z h. (cc, refl);
@@ -79,22 +76,22 @@ module _ {Allow Serves : ℕ → Type 0} where
           value = λ h. not-both h;
           no_plan_iff = λ h. not-both h;
           cleared = λ h. not-both h;
-          by_refusal = λ z h. ap {B = LeastAnswer} least_answer (let q : found.Refused y ≡ found.Refused z = cc in q);
+          by_refusal = λ z h. ap {B = LeastAnswer} least_answer (let q : ◌≡◌ {A = LeastFound} (Err y) (Err z) = cc in q);
           number = λ h. not-both h;
           ten = λ h. not-both h;
         }
       where
-        not-both : {X : Type 0} → v ≡ Yes → X
+        not-both : {X : Type 0} → v ≡ Ok tt → X
         not-both h = clash (cc)
 
     -- a call that is answered
-    pub claim-answered : {work' : List ℕ} {r : LeastFound} → v ≡ Yes → Answered Allow Serves r → work' ≡ replicate (length work) 0
+    pub claim-answered : {work' : List ℕ} {r : LeastFound} → v ≡ Ok tt → Answered Allow Serves r → work' ≡ replicate (length work) 0
         → LeastClaim v Allow Serves work work' r
     claim-answered e (value {m} k) z =
         record {
           refused = λ y q. clash (cc);
           verdict = λ q. inl (m, refl);
-          value = λ q i. (λ h. subst (Least Allow Serves) (ap value_in h) k, λ h. ap {B = LeastFound} found.Value (least-unique m i k h));
+          value = λ q i. (λ h. subst (Least Allow Serves) (ap value_in h) k, λ h. ap {B = LeastFound} (λ (j : ℕ). Ok j) (least-unique m i k h));
           no_plan_iff = λ q. (λ h. clash (cc), λ f. absurd (f m k.allowed k.serves));
           cleared = λ q. z;
           by_refusal = λ y q. clash (cc);
@@ -122,8 +119,8 @@ module _ {v : Verdict} {Allow Serves : ℕ → Type 0} {work work' work₂ work�
   least-one h h₂ = go v refl
     where
       go : (u : Verdict) → v ≡ u → r ≡ r₂
-      go (Refused y) e = (h.refused y e).0 ∙ sym (h₂.refused y e).0
-      go Yes e =
+      go (Err y) e = (h.refused y e).0 ∙ sym (h₂.refused y e).0
+      go (Ok _) e =
           ⊎_elim
           (λ (m, q). q ∙ sym ((h₂.value e m).1 ((h.value e m).0 q)))
           (λ q. q ∙ sym ((h₂.no_plan_iff e).1 ((h.no_plan_iff e).0 q)))
@@ -172,7 +169,7 @@ module _ (s : Sought) (n start k : ℕ) (l : Lists) (given : ℕ) {work work' : 
 
 -- the value is a bound within search's ceilings, or a credit up to one
 pub value_low : (s : Sought) (n start k : ℕ) (l : Lists) (x : ℕ) (on : List ℕ) (given : ℕ) {work work' : List ℕ} {r : LeastFound}
-    → LeastOf s n start k l x on given work work' r → seekable s n start k l given (length work) ≡ Yes → (m : ℕ) → r ≡ found.Value m → m ≤ bound_most
+    → LeastOf s n start k l x on given work work' r → seekable s n start k l given (length work) ≡ Ok tt → (m : ℕ) → r ≡ Ok m → m ≤ bound_most
 value_low s n start k l x on given {work} h e m q =
     let a = (seekable-yes s n start k l given (length work)).0 e in
     go s a.fit.some-mode a.product ((h.value e m).0 q).allowed
@@ -189,11 +186,11 @@ answer-parts a x m p q =
 
 -- the same by document 01's numbers: what the parts of an answer say
 module _ {v : Verdict} {Allow Serves : ℕ → Type 0} {work work' : List ℕ} {r : LeastFound} (h : LeastClaim v Allow Serves work work' r) where
-  pub least-refused : (y : Refusal) → v ≡ Refused y → ((least_answer r).answer ≡ numbered y) × ((least_answer r).value ≡ 0)
+  pub least-refused : (y : Refusal) → v ≡ Err y → ((least_answer r).answer ≡ numbered y) × ((least_answer r).value ≡ 0)
   least-refused y e = rw (h.by_refusal y e) (refl, refl)
 
-  pub least_zero : v ≡ Yes → (m : ℕ) → (((least_answer r).answer ≡ answer 0 0) × ((least_answer r).value ≡ m)) ↔ Least Allow Serves m
+  pub least_zero : v ≡ Ok tt → (m : ℕ) → (((least_answer r).answer ≡ answer 0 0) × ((least_answer r).value ≡ m)) ↔ Least Allow Serves m
   least_zero e m = (λ (p, q). (h.number e m).0 (answer-parts (least_answer r) (answer 0 0) m p q), λ k. rw ((h.number e m).1 k) (refl, refl))
 
-  pub least-ten : v ≡ Yes → (((least_answer r).answer ≡ answer 10 0) × ((least_answer r).value ≡ 0)) ↔ NoneServes Allow Serves
+  pub least-ten : v ≡ Ok tt → (((least_answer r).answer ≡ answer 10 0) × ((least_answer r).value ≡ 0)) ↔ NoneServes Allow Serves
   least-ten e = (λ (p, q). (h.ten e).0 (answer-parts (least_answer r) (answer 10 0) 0 p q), λ f. rw ((h.ten e).1 f) (refl, refl))

@@ -1,5 +1,5 @@
 -- The rows and groups of a value stand for the model that it holds: what halving asks and answers, in the words of the model. Assumes nothing.
-use mathlib.Core.Path.{◌≡◌, refl}
+use mathlib.Core.Path.{◌≡◌, sym}
 use mathlib.Core.List.{List}
 use mathlib.Core.Logic.{◌↔◌}
 use Prim.Native.Nat.{ℕ, ◌≤◌}
@@ -8,7 +8,6 @@ use Rattle.limits.specs.Ceilings.{decide_space}
 use Rattle.model.specs.declared.Model.{Model}
 use Rattle.model.specs.Required.{required}
 use Rattle.model.specs.Lists.{held}
-use Rattle.groups.specs.declared.Groups.{Groups}
 use Rattle.groups.specs.Groups.{groups_of}
 use Rattle.nets.proofs.Cycles.{lasso-wider}
 use Rattle.deciding.specs.Deciding.{asked_net}
@@ -17,17 +16,17 @@ use Rattle.decide.proofs.Standing.{answerable-decidable, asked-lasso}
 use Rattle.least.specs.declared.Sought.{Sought}
 use Rattle.least.specs.declared.Sought.TheVariants.{Credit, Bound}
 use Rattle.least.specs.declared.Problem.{Problem}
-use Rattle.least.specs.declared.LeastFound.{LeastFound}
-use Rattle.least.specs.Least.{bound_at, credit_at, Allowed, HasPlan, largest_tried}
+use Rattle.least.specs.Least.{LeastFound, bound_at, credit_at, Allowed, HasPlan, largest_tried}
 use Rattle.least.specs.Within.{Answerable, lowest_tried, question_at, LassoAt, InRange, Decidables, Answered, value, none}
 use Rattle.least.proofs.Halving.{Monotone, least-alike, none_alike}
 use Rattle.least.proofs.Levels.{bound-grows, credit-grows, factor-low, largest-bound, allowed-range}
 
 -- a lasso stays one at a higher level
-pub lasso-grows : (rows places : List ℕ) (p : Problem) → Monotone (LassoAt rows places p)
-lasso-grows rows places p y z h =
-    lasso-wider (asked_net rows places (question_at p y) p.modes) _ _ _ _ (bound-grows p.sought p.given y z h)
-    (credit-grows p.sought p.given y z h)
+pub lasso-grows : (p : Problem) → Monotone (LassoAt p)
+unfolding LassoAt
+lasso-grows p y z h =
+    lasso-wider (asked_net p.groups.now.rows p.groups.now.places (question_at p y) p.modes) _ _ _ _ (bound-grows p.sought p.known y z h)
+    (credit-grows p.sought p.known y z h)
 
 -- the same answer in other words for the levels and for what serves
 pub answered-alike : {Allow Allow' Serves Serves' : ℕ → Type 0} {r : LeastFound} → ((y : ℕ) → Allow y ↔ Allow' y)
@@ -35,10 +34,16 @@ pub answered-alike : {Allow Allow' Serves Serves' : ℕ → Type 0} {r : LeastFo
 answered-alike levels same (value k) = value (least-alike levels same k)
 answered-alike levels same (none f) = none (none_alike levels same f)
 
--- what is asked of a model with d duties, in the range from lo to hi
-abbrev pub model_problem : Model → ℕ → Sought → ℕ → ℕ → ℕ → Problem
-model_problem g d s given lo hi =
-    record { modes = g.modes; start = g.start; duties = d; sought = s; given = given; lowest = lo; highest = hi }
+-- the problem p asks of the model g for the least level of the kind s, where the other one is given
+pub record Asks (g : Model) (x : ℕ) (on : List ℕ) (s : Sought) (given : ℕ) (p : Problem) : Type 0 where
+  pub groups : p.groups.now ≡ groups_of g x on
+  pub modes : p.modes ≡ g.modes
+  pub start : p.start ≡ g.start
+  pub duties : p.duties ≡ required x g.colours
+  pub sought : p.sought ≡ s
+  pub known : p.known ≡ given
+  pub lowest : p.lowest ≡ lowest_tried s given
+  pub highest : p.highest ≡ largest_tried s g.modes given
 
 -- each level that is looked at can be decided
 level-answerable : {g : Model} (s : Sought) {given : ℕ} → Answerable g given → (y : ℕ) → Allowed s g.modes given y
@@ -64,25 +69,31 @@ range-order Credit able = omega arith
 range-order {g} Bound {given} able =
     (largest-bound g.modes given able.holds.fit.some-mode able.holds.fit.few_modes).0 able.product
 
-module _ {g : Model} (x : ℕ) (on : List ℕ) (s : Sought) {d given lo hi : ℕ} {groups : Groups} (able : Answerable g given)
-    (same : groups ≡ groups_of g x on) (duties : d ≡ required x g.colours) (low : lo ≡ lowest_tried s given)
-    (high : hi ≡ largest_tried s g.modes given) where
-  range : (y : ℕ) → InRange (model_problem g d s given lo hi) y ↔ Allowed s g.modes given y
+module _ {g : Model} (x : ℕ) (on : List ℕ) (s : Sought) {given : ℕ} {p : Problem} (able : Answerable g given) (asks : Asks g x on s given p) where
+  range : (y : ℕ) → InRange p y ↔ Allowed s g.modes given y
   range y =
-      let r = allowed-range s g.modes given y able.holds.fit.some-mode able.holds.fit.few_modes in
-      (λ h. r.1 (omega (arith, low, h.0), omega (arith, high, h.1)), λ h. let (u, v) = r.0 h in (omega (arith, low, u), omega (arith, high, v)))
+      let r = allowed-range s g.modes given y able.holds.fit.some-mode able.holds.fit.few_modes in (
+        λ h. r.1 (omega (arith, asks.lowest, h.0), omega (arith, asks.highest, h.1)),
+        λ h. let (u, v) = r.0 h in (omega (arith, asks.lowest, u), omega (arith, asks.highest, v)),
+      )
 
   -- what is asked of halving
-  pub model-decidables : Decidables groups.rows groups.places (model_problem g d s given lo hi)
+  pub model-decidables : Decidables p
   model-decidables =
       record {
-        order = omega (arith, low, high, range-order s able);
-        each = λ y h. answerable-decidable x on (level-answerable s able y ((range y).0 h)) same duties g.modes refl;
+        order = omega (arith, asks.lowest, asks.highest, range-order s able);
+        each = λ y h.
+            rw (asks.sought, asks.known, asks.start)
+            (answerable-decidable x on (level-answerable s able y ((range y).0 h)) asks.groups asks.duties p.modes (sym asks.modes));
       }
 
+  lasso-plan : (y : ℕ) → InRange p y → LassoAt p y ↔ HasPlan s (held g) x on given y
+  unfolding LassoAt
+  lasso-plan y h =
+      rw (asks.sought, asks.known, asks.start)
+      (asked-lasso x on (level-answerable s able y ((range y).0 h)) asks.groups asks.duties p.modes (sym asks.modes))
+
   -- what it answers, in the words of the model
-  pub model-answered : {r : LeastFound} → let p = model_problem g d s given lo hi in
-      Answered (InRange p) (LassoAt groups.rows groups.places p) r
+  pub model-answered : {r : LeastFound} → Answered (InRange p) (LassoAt p) r
       → Answered (λ y. Allowed s g.modes given y) (λ y. HasPlan s (held g) x on given y) r
-  model-answered =
-      answered-alike range (λ y h. asked-lasso x on (level-answerable s able y ((range y).0 h)) same duties g.modes refl)
+  model-answered = answered-alike range lasso-plan

@@ -1,24 +1,23 @@
 -- A refusal leaves the gauge: where a step's number is not 0, its gauge is the one it was given. And what a lent step says: it leaves nothing
 -- free. Assumes nothing.
+use Rattle.std.specs.Prelude.{Ok, Err}
 use mathlib.Core.Path.{◌≡◌, refl, sym, ap, ◌∙◌}
 use Prim.Native.Nat.{ℕ}
 use Rattle.refusals.specs.declared.Answer.{Answer}
-use Rattle.refusals.specs.declared.Verdict.{Verdict}
-use Rattle.refusals.specs.declared.Verdict.TheVariants.{Yes, Refused}
-use Rattle.refusals.specs.Refusals.{answer_of}
+use Rattle.refusals.specs.Refusals.{verdict_of, answer_of}
 use Rattle.model.specs.Lists.{Lists}
 use Rattle.gauge.specs.declared.Gauge.{Gauge}
-use Rattle.gauge.specs.Gauge.{stepped_of}
+use Rattle.gauge.specs.Gauge.{Gauged, gauge_or, stepped_of}
 use Rattle.gauge.proofs.Stops.{step-stops}
 use Rattle.lent_gauge.specs.Moved.{LentStep}
 
-pub stepped-keeps : (n s k : ℕ) (l : Lists) (b a : ℕ) (x : Gauge) → ((answer_of (stepped_of n s k l b a x).verdict).number ≡ 0 → ⊥)
-    → (stepped_of n s k l b a x).gauge ≡ x
-stepped-keeps n s k l b a x refused = go (stepped_of n s k l b a x).verdict refl
+pub stepped-keeps : (n s k : ℕ) (l : Lists) (b a : ℕ) (x : Gauge) → ((answer_of (verdict_of (stepped_of n s k l b a x))).number ≡ 0 → ⊥)
+    → gauge_or x (stepped_of n s k l b a x) ≡ x
+stepped-keeps n s k l b a x refused = go (stepped_of n s k l b a x) refl
   where
-    go : (v : Verdict) → (stepped_of n s k l b a x).verdict ≡ v → (stepped_of n s k l b a x).gauge ≡ x
-    go Yes e = absurd (refused (ap {B = ℕ} (λ (v : Verdict). (answer_of v).number) e))
-    go (Refused r) e = (step-stops n s k l b a x r e).0
+    go : (y : Gauged) → stepped_of n s k l b a x ≡ y → gauge_or x (stepped_of n s k l b a x) ≡ x
+    go (Ok y) e = absurd (refused (ap {B = ℕ} (λ (y : Gauged). (answer_of (verdict_of y)).number) e))
+    go (Err r) e = (step-stops n s k l b a x r e).0
 
 module _ {n s k : ℕ} {l : Lists} {b a : ℕ} {x y : Gauge} {r : Answer} (h : LentStep n s k l b a x y r) where
   -- "a refusal leaves the gauge as found"

@@ -1,4 +1,5 @@
 -- The arcs of six lists: as a list, as the array that is filled from it, and the verdict on them. Assumes nothing.
+use Rattle.std.specs.Prelude.{Ok, Err}
 use mathlib.Core.Path.{◌≡◌, refl, sym, ap, ◌∙◌}
 use mathlib.Core.Bool.{true, false}
 use mathlib.Core.List.{List, ◌∷◌}
@@ -11,13 +12,12 @@ use lib.ListN.{length, get_or, set, take, replicate, length-set, length-replicat
 use lib.Seq.{get_or-set_same, get_or-set_other, ext_get_or}
 use Rattle.limits.specs.Ceilings.{arcs_most}
 use Rattle.model.specs.declared.Arc.{Arc}
-use Rattle.refusals.specs.declared.Verdict.TheVariants.{Yes, Refused}
 use Rattle.refusals.specs.declared.Refusal.{Refusal}
 use Rattle.refusals.specs.declared.Refusal.TheVariants.{UnfitArc}
 use Rattle.model.specs.Automaton.{no_arc}
 use Rattle.refusals.specs.Refusals.{refuse}
-use Rattle.model.specs.Lists.{Lists, arc_of, arcs_from, blank_model}
-use Rattle.model.specs.Fitness.{unfit_arc, arcs_verdict, arcs_fitness, EqualLists, fitted_if, fitted_arcs}
+use Rattle.model.specs.Lists.{Lists, arc_of, arcs_from}
+use Rattle.model.specs.Fitness.{unfit_arc, arcs_verdict, arcs_fitness, EqualLists, fitted_arcs}
 
 module _ (l : Lists) where
   pub arcs-length : (m i : ℕ) → length (arcs_from l m i) ≡ m
@@ -102,7 +102,7 @@ module _ (l : Lists) where
         let e : m - i ≡ suc (m - (i + 1)) = omega arith in
         rw (e, add-one i) refl
 
-    pub verdict-none : (m i : ℕ) → m ≤ i → arcs_verdict n power (arcs_from l (m - i) i) i ≡ Yes
+    pub verdict-none : (m i : ℕ) → m ≤ i → arcs_verdict n power (arcs_from l (m - i) i) i ≡ Ok tt
     unfolding arcs_verdict
     verdict-none m i h = let e : m - i ≡ 0 = omega arith in rw e refl
 
@@ -131,20 +131,20 @@ module _ (n power : ℕ) (l : Lists) where
 
     -- the first that is unfit is the verdict
     pub copying-unfit : (x : Arc) → i < length l.sources → x ≡ arc_of l i → unfit_arc n power x ≡ true
-        → arcs_fitness n power l ≡ Refused (UnfitArc i)
+        → arcs_fitness n power l ≡ Err (UnfitArc i)
     copying-unfit x h e unfit = state.verdict ∙ verdict-more l n power (length l.sources) i h ∙ rw (sym e, unfit) refl
 
     -- past the last arc the verdict is yes, and the array has every arc
-    pub copying-done : length l.sources ≤ i → EqualLists l → (arcs_fitness n power l ≡ Yes) × (arcs ≡ arcs_from l arcs_most 0)
+    pub copying-done : length l.sources ≤ i → EqualLists l → (arcs_fitness n power l ≡ Ok tt) × (arcs ≡ arcs_from l arcs_most 0)
     copying-done h equal =
         let e : i ≡ length l.sources = omega (arith, state.within) in
         (state.verdict ∙ verdict-none l n power (length l.sources) i h, filled-all l arcs equal (rw e at state.filled))
 
 -- what the pass hands back is what the definition says
 module _ (n s k power : ℕ) (l : Lists) (two-to-k : power ≡ 2 ^ k) where
-  pub fitted-refused : (r : Refusal) → arcs_fitness n power l ≡ Refused r → fitted_if (Refused r) blank_model ≡ fitted_arcs n s k l
+  pub fitted-refused : (r : Refusal) → arcs_fitness n power l ≡ Err r → Err r ≡ fitted_arcs n s k l
   fitted-refused r e = rw (← two-to-k, e) refl
 
-  pub fitted-yes : (arcs : List Arc) → arcs_fitness n power l ≡ Yes → arcs ≡ arcs_from l arcs_most 0
-      → fitted_if Yes (record { modes = n; start = s; colours = k; count = length l.sources; arcs = arcs }) ≡ fitted_arcs n s k l
+  pub fitted-yes : (arcs : List Arc) → arcs_fitness n power l ≡ Ok tt → arcs ≡ arcs_from l arcs_most 0
+      → Ok (record { modes = n; start = s; colours = k; count = length l.sources; arcs = arcs }) ≡ fitted_arcs n s k l
   fitted-yes arcs e f = rw (← two-to-k, e, f) refl

@@ -1,5 +1,7 @@
 -- What the verdicts mean: fitness is yes exactly for six equal lists and a fit model, levels exactly for c ≤ b ≤ 8,191; and the model that
 -- the code holds is the model of the lists. Assumes nothing.
+use Rattle.std.specs.Prelude.{Ok, Err}
+use Rattle.refusals.specs.Refusals.{Verdict, and_then, verdict_of}
 use mathlib.Core.Path.{◌≡◌, refl, sym, ap, ◌∙◌, subst}
 use mathlib.Core.Bool.{Bool, false, not, ◌||◌}
 use mathlib.Core.List.{List}
@@ -14,14 +16,12 @@ use Rattle.limits.specs.Ceilings.{modes_most, arcs_most, colours_most, bound_mos
 use Rattle.model.specs.declared.Arc.{Arc}
 use Rattle.refusals.specs.declared.Refusal.{Refusal}
 use Rattle.refusals.specs.declared.Refusal.TheVariants.{UnfitArc, ModeCount, StartMode, ArcLists, ColourCount, Levels}
-use Rattle.refusals.specs.declared.Verdict.{Verdict}
-use Rattle.refusals.specs.declared.Verdict.TheVariants.{Yes, Refused}
 use Rattle.model.specs.Automaton.{Automaton, no_arc}
 use Rattle.refusals.proofs.Verdicts.{refuse-yes, and-then-yes}
 use Rattle.refusals.proofs.Scan.{FirstOf, Scan, scan-yes, scan-first}
 use Rattle.refusals.proofs.Tests.{or_no, or6-no, lt_no, le-no, differ-no}
-use Rattle.model.specs.Lists.{Lists, arcs_of, automaton_of, model_of, blank_model, held}
-use Rattle.model.specs.Fitness.{unfit_lists, header, header_of, arcs_fitness, unfit_arc, arcs_verdict, fitness, fitted_if, fitted_arcs, fitted_of, levels_within, levels_of, EqualLists, Header, ArcFits, Fit, Holds}
+use Rattle.model.specs.Lists.{Lists, arcs_of, automaton_of, model_of, held}
+use Rattle.model.specs.Fitness.{unfit_lists, header, header_of, arcs_fitness, unfit_arc, arcs_verdict, fitness, fitted_arcs, fitted_of, levels_within, levels_of, EqualLists, Header, ArcFits, Fit, Holds}
 use Rattle.model.proofs.Bits.{colours-below}
 use Rattle.model.proofs.Arcs.{arcs-length, arcs-take}
 
@@ -56,7 +56,7 @@ unfit-no n k a =
 
 -- none of 1 to 4 applies: by the numbers and whether 3 does
 pub numbers-yes : (n s k : ℕ) (unfit : Bool)
-    → (header n s k unfit ≡ Yes) ↔ ((0 < n) × (n ≤ modes_most) × (s < n) × (unfit ≡ false) × (k ≤ colours_most))
+    → (header n s k unfit ≡ Ok tt) ↔ ((0 < n) × (n ≤ modes_most) × (s < n) × (unfit ≡ false) × (k ≤ colours_most))
 unfolding header
 numbers-yes n s k unfit = (
   λ e.
@@ -76,13 +76,13 @@ numbers-yes n s k unfit = (
         (or_no (eqb n 0) (ltb modes_most n)).1 (ne_eqb n 0 (λ z. omega (arith, some)), (lt_no modes_most n).1 few),
         (refuse-yes (leb n s) StartMode _).1 (
           (le-no n s).1 starts,
-          (refuse-yes unfit ArcLists _).1 (fits, (refuse-yes (ltb colours_most k) ColourCount Yes).1 ((lt_no colours_most k).1 colours, refl)),
+          (refuse-yes unfit ArcLists _).1 (fits, (refuse-yes (ltb colours_most k) ColourCount (Ok tt)).1 ((lt_no colours_most k).1 colours, refl)),
         ),
       ),
 )
 
 -- of the lists
-pub header-yes : (n s k : ℕ) (l : Lists) → (header_of n s k l ≡ Yes) ↔ Header n s k l
+pub header-yes : (n s k : ℕ) (l : Lists) → (header_of n s k l ≡ Ok tt) ↔ Header n s k l
 unfolding unfit_lists
 header-yes n s k l =
     let m = length l.sources in
@@ -133,17 +133,17 @@ unfolding arcs_verdict
 arcs-scan n power l = record { turn = λ k h. rw (drop-cons l k no_arc h) refl; ends = rw (drop-length l) refl; tells = λ x y e. cc }
 
 -- it does not apply exactly where no arc is unfit ..
-pub arcs-yes : (n power : ℕ) (l : List Arc) → (arcs_verdict n power l 0 ≡ Yes)
+pub arcs-yes : (n power : ℕ) (l : List Arc) → (arcs_verdict n power l 0 ≡ Ok tt)
     ↔ ((a : ℕ) → a < length l → unfit_arc n power (get_or l a no_arc) ≡ false)
 arcs-yes n power l = scan-yes _ UnfitArc (length l) (λ k. arcs_verdict n power (drop k l) k) (arcs-scan n power l)
 
 -- .. and is answered with the "lowest such arc"
-pub arcs-first : (n power : ℕ) (l : List Arc) (d : ℕ) → (arcs_verdict n power l 0 ≡ Refused (UnfitArc d))
+pub arcs-first : (n power : ℕ) (l : List Arc) (d : ℕ) → (arcs_verdict n power l 0 ≡ Err (UnfitArc d))
     ↔ FirstOf (λ j. unfit_arc n power (get_or l j no_arc)) (length l) d
 arcs-first n power l = scan-first _ UnfitArc (length l) (λ k. arcs_verdict n power (drop k l) k) (arcs-scan n power l)
 
 -- the verdict is yes exactly for six equal lists and a fit model
-pub fitness-yes : (n s k : ℕ) (l : Lists) → (fitness n s k l ≡ Yes) ↔ (EqualLists l × Fit (automaton_of n s k l))
+pub fitness-yes : (n s k : ℕ) (l : Lists) → (fitness n s k l ≡ Ok tt) ↔ (EqualLists l × Fit (automaton_of n s k l))
 unfolding fitness
 fitness-yes n s k l =
     let arcs = arcs_of l in
@@ -183,48 +183,54 @@ held-model n s k l h =
     ap {B = Automaton} (λ x. record { modes = n; start = s; colours = k; arcs = x }) (rw e at q)
 
 -- 6 does not apply exactly where c is at most b, and b at most the ceiling, ..
-pub levels-within-yes : (most b c : ℕ) → (levels_within most b c ≡ Yes) ↔ ((b ≤ most) × (c ≤ b))
+pub levels-within-yes : (most b c : ℕ) → (levels_within most b c ≡ Ok tt) ↔ ((b ≤ most) × (c ≤ b))
 levels-within-yes most b c =
-    let row = refuse-yes (ltb most b || ltb b c) Levels Yes in
+    let row = refuse-yes (ltb most b || ltb b c) Levels (Ok tt) in
     let two = or_no (ltb most b) (ltb b c) in (
       λ e. let t = two.0 (row.0 e).0 in ((lt_no most b).0 t.0, (lt_no b c).0 t.1),
       λ h. row.1 (two.1 ((lt_no most b).1 h.0, (lt_no b c).1 h.1), refl),
     )
 
 -- .. which is 8,191
-pub levels-yes : (b c : ℕ) → (levels_of b c ≡ Yes) ↔ ((b ≤ bound_most) × (c ≤ b))
+pub levels-yes : (b c : ℕ) → (levels_of b c ≡ Ok tt) ↔ ((b ≤ bound_most) × (c ≤ b))
 unfolding levels_of
 levels-yes b c = levels-within-yes bound_most b c
 
 -- what is handed back, by the verdict on 1 to 4
 module _ (n s k : ℕ) (l : Lists) where
-  pub fitted-through : header_of n s k l ≡ Yes → fitted_arcs n s k l ≡ fitted_of n s k l
+  pub fitted-through : header_of n s k l ≡ Ok tt → fitted_arcs n s k l ≡ fitted_of n s k l
   unfolding fitted_of fitness
   fitted-through e = rw e refl
 
-  pub fitted-stopped : (r : Refusal) → header_of n s k l ≡ Refused r → fitted_if (Refused r) blank_model ≡ fitted_of n s k l
+  pub fitted-stopped : (r : Refusal) → header_of n s k l ≡ Err r → Err r ≡ fitted_of n s k l
   unfolding fitted_of fitness
   fitted-stopped r e = rw e refl
 
--- What a caller of check_model learns: its verdict is fitness, and where that is yes, the model that it holds is the model of the lists.
-pub fitted-verdict : (n s k : ℕ) (l : Lists) → (fitted_of n s k l).verdict ≡ fitness n s k l
+-- What a caller of check_model learns: its verdict is fitness, ..
+pub fitted-verdict : (n s k : ℕ) (l : Lists) → verdict_of (fitted_of n s k l) ≡ fitness n s k l
 unfolding fitted_of
 fitted-verdict n s k l = go (fitness n s k l)
   where
-    go : (v : Verdict) → (fitted_if v (model_of n s k l)).verdict ≡ v
-    go Yes = refl
-    go (Refused r) = refl
+    go : (v : Verdict) → verdict_of (and_then v (Ok (model_of n s k l))) ≡ v
+    go (Ok _) = refl
+    go (Err r) = refl
 
-pub fitted-held : (n s k : ℕ) (l : Lists) → fitness n s k l ≡ Yes → held (fitted_of n s k l).model ≡ automaton_of n s k l
+-- .. where that is yes, it hands back the model of the lists, which is theirs
+pub fitted-model : (n s k : ℕ) (l : Lists) → fitness n s k l ≡ Ok tt → fitted_of n s k l ≡ Ok (model_of n s k l)
 unfolding fitted_of
-fitted-held n s k l e =
-    rw e (held-model n s k l (omega (arith, ((fitness-yes n s k l).0 e).1.few_arcs, arcs-length l (length l.sources) 0)))
+fitted-model n s k l e = rw e refl
+
+pub fitted-held : (n s k : ℕ) (l : Lists) → fitness n s k l ≡ Ok tt
+    → (fitted_of n s k l ≡ Ok (model_of n s k l)) × (held (model_of n s k l) ≡ automaton_of n s k l)
+fitted-held n s k l e = (
+  fitted-model n s k l e,
+  held-model n s k l (omega (arith, ((fitness-yes n s k l).0 e).1.few_arcs, arcs-length l (length l.sources) 0)),
+)
 
 -- and that value holds a fit model
-pub fitted-holds : (n s k : ℕ) (l : Lists) → fitness n s k l ≡ Yes → Holds (fitted_of n s k l).model
-unfolding fitted_of
+pub fitted-holds : (n s k : ℕ) (l : Lists) → fitness n s k l ≡ Ok tt → Holds (model_of n s k l)
 fitted-holds n s k l e =
     let fit = ((fitness-yes n s k l).0 e).1 in
     let long = arcs-length l (length l.sources) 0 in
     let same = held-model n s k l (omega (arith, fit.few_arcs, long)) in
-    rw e (record { count = ap {B = ℕ} (λ (g : Automaton). length g.arcs) same ∙ long; fit = subst Fit (sym same) fit })
+    record { count = ap {B = ℕ} (λ (g : Automaton). length g.arcs) same ∙ long; fit = subst Fit (sym same) fit }

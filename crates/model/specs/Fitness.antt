@@ -1,15 +1,13 @@
 -- Fitness, refusals 1 to 5, and levels, refusal 6. Document 01, "Where each call stops", rows "model" and "levels".
-use Rattle.std.specs.Prelude.{ℕ, suc, ◌≤◌, ◌<◌, ◌^◌, Bool, false, not, ◌||◌, List, [], ◌∷◌, ◌≡◌, leb, ltb, eqb, length}
+use Rattle.std.specs.Prelude.{ℕ, suc, ◌≤◌, ◌<◌, ◌^◌, Bool, false, not, ◌||◌, List, [], ◌∷◌, ◌≡◌, leb, ltb, eqb, length, Result, Ok}
 use Rattle.limits.specs.Ceilings.{modes_most, arcs_most, colours_most, bound_most, draw_most, gain_most, action_most}
 use Rattle.model.specs.declared.Arc.{Arc}
 use Rattle.model.specs.declared.Model.{Model}
-use Rattle.model.specs.declared.Fitted.{Fitted}
 use Rattle.refusals.specs.declared.Refusal.TheVariants.{ModeCount, StartMode, ArcLists, ColourCount, UnfitArc, Levels}
-use Rattle.refusals.specs.declared.Verdict.{Verdict}
-use Rattle.refusals.specs.declared.Verdict.TheVariants.{Yes, Refused}
-use Rattle.refusals.specs.Refusals.{refuse, and_then}
+use Rattle.refusals.specs.declared.Refusal.{Refusal}
+use Rattle.refusals.specs.Refusals.{Verdict, refuse, and_then}
 use Rattle.model.specs.Automaton.{Automaton, arc_at, bit}
-use Rattle.model.specs.Lists.{Lists, arcs_of, model_of, blank_model, held}
+use Rattle.model.specs.Lists.{Lists, arcs_of, model_of, held}
 
 -- "arc lists unequal or longer than 255", by the lengths of the six
 unfoldable pub unfit_lists : ℕ → ℕ → ℕ → ℕ → ℕ → ℕ → Bool
@@ -24,7 +22,7 @@ header n s k unfit =
     (refuse (leb n s) StartMode
     (refuse unfit ArcLists
     (refuse (ltb colours_most k) ColourCount
-    Yes)))
+    (Ok tt))))
 
 -- "an arc's source or target not below n, weight outside its range, or a colour bit at or above k"; document 02, Ask 4: "refusal 5 checks the
 -- two ranges in place of the weight's"; Ask 5: "an action above 15 falls under 5 in every call". A byte has a bit at or above k where it is
@@ -36,7 +34,7 @@ unfit_arc n power a =
 
 -- 5, with the lowest such arc; the list's first arc has the number i
 unfoldable pub arcs_verdict : ℕ → ℕ → List Arc → ℕ → Verdict
-arcs_verdict n power [] i = Yes
+arcs_verdict n power [] i = Ok tt
 arcs_verdict n power (a ∷ l) i = refuse (unfit_arc n power a) (UnfitArc i) (arcs_verdict n power l (suc i))
 
 -- 1 to 4, of the lists
@@ -53,21 +51,17 @@ arcs_fitness n power l = arcs_verdict n power (arcs_of l) 0
 unfoldable pub fitness : ℕ → ℕ → ℕ → Lists → Verdict
 fitness n s k l = and_then (header_of n s k l) (arcs_fitness n (2 ^ k) l)
 
--- what the code hands back: the verdict, with the model where it is yes and a blank one where it is not
-abbrev pub fitted_if : Verdict → Model → Fitted
-fitted_if Yes g = record { verdict = Yes; model = g }
-fitted_if (Refused r) g = record { verdict = Refused r; model = blank_model }
-
-unfoldable pub fitted_of : ℕ → ℕ → ℕ → Lists → Fitted
-fitted_of n s k l = fitted_if (fitness n s k l) (model_of n s k l)
+-- what the code hands back: the model where the verdict is yes
+unfoldable pub fitted_of : ℕ → ℕ → ℕ → Lists → Result Model Refusal
+fitted_of n s k l = and_then (fitness n s k l) (Ok (model_of n s k l))
 
 -- the same where 1 to 4 let the model through
-abbrev pub fitted_arcs : ℕ → ℕ → ℕ → Lists → Fitted
-fitted_arcs n s k l = fitted_if (arcs_fitness n (2 ^ k) l) (model_of n s k l)
+abbrev pub fitted_arcs : ℕ → ℕ → ℕ → Lists → Result Model Refusal
+fitted_arcs n s k l = and_then (arcs_fitness n (2 ^ k) l) (Ok (model_of n s k l))
 
 -- 6, with the highest bound that a call takes; as everywhere in the definitions, the bound stands before the credit
 abbrev pub levels_within : ℕ → ℕ → ℕ → Verdict
-levels_within most b c = refuse (ltb most b || ltb b c) Levels Yes
+levels_within most b c = refuse (ltb most b || ltb b c) Levels (Ok tt)
 
 -- 6: "b above 8,191, or c above b"
 unfoldable pub levels_of : ℕ → ℕ → Verdict

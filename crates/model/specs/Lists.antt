@@ -5,6 +5,7 @@ use Rattle.limits.specs.Ceilings.{arcs_most}
 use Rattle.walks.specs.Weights.{draw_of, gain_of}
 use Rattle.model.specs.declared.Arc.{Arc}
 use Rattle.model.specs.declared.Model.{Model}
+use Rattle.model.specs.declared.Lists as lent
 use Rattle.model.specs.Automaton.{Automaton}
 
 pub record Lists : Type 0 where
@@ -17,6 +18,10 @@ pub record Lists : Type 0 where
 
 abbrev pub lists : List ℕ → List ℕ → List ℕ → List ℕ → List ℕ → List ℕ → Lists
 lists ss ts ds gs cs xs = record { sources = ss; targets = ts; draws = ds; gains = gs; colours = cs; actions = xs }
+
+-- the lists that the code is lent
+abbrev pub lists_of : lent.Lists → Lists
+lists_of l = lists l.sources.now l.targets.now l.draws.now l.gains.now l.colours.now l.actions.now
 
 -- the lists of a model with one weight for each arc, as they were before Ask 4: "An old weight w means draw −w, gain 0 where w is negative,
 -- else draw 0, gain w"
@@ -51,13 +56,6 @@ automaton_of n s k l = record { modes = n; start = s; colours = k; arcs = arcs_o
 -- the same as the code holds it: all places of the array are there, and those past the last arc are blank
 abbrev pub model_of : ℕ → ℕ → ℕ → Lists → Model
 model_of n s k l = record { modes = n; start = s; colours = k; count = length l.sources; arcs = arcs_from l arcs_most 0 }
-
-abbrev pub no_lists : Lists
-no_lists = lists [] [] [] [] [] []
-
--- what is handed back where a model is refused
-abbrev pub blank_model : Model
-blank_model = model_of 0 0 0 no_lists
 
 -- the model that the code's value stands for
 abbrev pub held : Model → Automaton

@@ -1,13 +1,14 @@
 // The model as one value, and the checks that every call begins with: fitness (1 to 5) and levels (6).
 #![tactic(auto)]
 
-ghost use Rattle.std.specs.Prelude.{◌≡◌, ◌≤◌, ◌^◌};
+ghost use Rattle.std.specs.Prelude.{◌≡◌, ◌≤◌, ◌<◌, ◌^◌, length};
 ghost use Rattle.limits.specs.Ceilings.{colours_most};
-ghost use Rattle.model.specs.Lists.{lists, blank_model};
-ghost use Rattle.model.specs.Fitness.{unfit_lists, header, unfit_arc, Header, fitted_if, fitted_arcs, fitted_of, levels_within, levels_of};
+ghost use Rattle.model.specs.Automaton.{bit};
+ghost use Rattle.model.specs.Lists.{lists_of, arc_of};
+ghost use Rattle.model.specs.Fitness.{unfit_lists, header, unfit_arc, EqualLists, Header, fitted_arcs, fitted_of, levels_within, levels_of};
 
 use limits::Limits;
-use refusals::{Refusal, Verdict};
+use refusals::Refusal;
 
 // An arc: its two modes, its draw and its gain, its colour byte, whose bit j says that the arc meets colour j, and its action.
 #[derive(Clone, Copy)]
@@ -30,7 +31,8 @@ const NO_ARC: Arc = Arc {
     action: 0,
 };
 
-// A model by value. The first `count` arcs are the model's; the others are blank.
+// A model by value. The first `count` arcs are the model's; the others are blank: an array of fixed length, since there is no heap. That it is fit
+// (`Holds`) stands in contracts and not in a ghost field, since `groups::group` and its theorems speak of models that are not.
 #[derive(Clone, Copy)]
 pub struct Model {
     pub modes: u8,
@@ -40,104 +42,103 @@ pub struct Model {
     pub arcs: [Arc; Limits::ARCS],
 }
 
-// The verdict of fitness, and the model where it is yes; else a blank model.
+// The six lists of a model's arcs, as C lends them: an arc stands at one place of each. Nothing is known of their lengths.
 #[derive(Clone, Copy)]
-pub struct Fitted {
-    pub verdict: Verdict,
-    pub model: Model,
+pub struct Lists<'a> {
+    pub sources: &'a [u8],
+    pub targets: &'a [u8],
+    pub draws: &'a [u16],
+    pub gains: &'a [u16],
+    pub colours: &'a [u8],
+    pub actions: &'a [u8],
+}
+
+// A model as it is given: numbers of modes, start mode and colours, and the lists of its arcs. Nothing is known of them. The other arguments of
+// calls, c and b, the barred colours and the switches, stay apart: README and the documents name the calls with each of them in this order, and
+// judging, gauge, reach and the least levels take different ones.
+#[derive(Clone, Copy)]
+pub struct Given<'a> {
+    pub n: u32,
+    pub start: u32,
+    pub k: u32,
+    pub lists: Lists<'a>,
+}
+
+// Whether a word has bit i.
+pub fn has_bit(word: u64, i: usize) -> bool
+    requires { i < 64 }
+    ensures { result ≡ bit word i }
+{
+    (word >> i) % 2 == 1
 }
 
 // Refusal 3, from the lengths of the six lists.
-fn unfit_lists(
-    sources: usize,
-    targets: usize,
-    draws: usize,
-    gains: usize,
-    colours: usize,
-    actions: usize,
-) -> bool
-    ensures { result ≡ unfit_lists sources targets draws gains colours actions }
+#[tactic(auto, unfolding(crate::specs::Fitness::unfit_lists))]
+fn unfit_lists(lists: &Lists) -> bool
+    ensures { result ≡ unfit_lists (length lists.now.sources.now) (length lists.now.targets.now) (length lists.now.draws.now) (length lists.now.gains.now) (length lists.now.colours.now) (length lists.now.actions.now) }
 {
-    if targets != sources {
-        return true;
-    }
-    if draws != sources {
-        return true;
-    }
-    if gains != sources {
-        return true;
-    }
-    if colours != sources {
-        return true;
-    }
-    if actions != sources {
-        return true;
-    }
-    sources > Limits::ARCS
+    let arcs = lists.sources.len();
+    lists.targets.len() != arcs
+        || lists.draws.len() != arcs
+        || lists.gains.len() != arcs
+        || lists.colours.len() != arcs
+        || lists.actions.len() != arcs
+        || arcs > Limits::ARCS
 }
 
 // Refusals 1 to 4, from the numbers and whether 3 applies to the lists.
-pub fn check_header(n: u32, start: u32, k: u32, unfit: bool) -> Verdict
+pub fn check_header(n: u32, start: u32, k: u32, unfit: bool) -> Result<(), Refusal>
     ensures { result ≡ header n start k unfit }
 {
     if n == 0 {
-        return Verdict::Refused(Refusal::ModeCount);
+        return Err(Refusal::ModeCount);
     }
     if n > Limits::MODES {
-        return Verdict::Refused(Refusal::ModeCount);
+        return Err(Refusal::ModeCount);
     }
     if start >= n {
-        return Verdict::Refused(Refusal::StartMode);
+        return Err(Refusal::StartMode);
     }
     if unfit {
-        return Verdict::Refused(Refusal::ArcLists);
+        return Err(Refusal::ArcLists);
     }
     if k > Limits::COLOURS {
-        return Verdict::Refused(Refusal::ColourCount);
+        return Err(Refusal::ColourCount);
     }
-    Verdict::Yes
+    Ok(())
 }
 
 // Refusal 6 of a call with this ceiling: the bound is above it, or the credit above the bound.
-pub fn check_levels_within(c: u32, b: u32, most: u32) -> Verdict
+pub fn check_levels_within(c: u32, b: u32, most: u32) -> Result<(), Refusal>
     ensures { result ≡ levels_within most b c }
 {
     if b > most {
-        return Verdict::Refused(Refusal::Levels);
+        return Err(Refusal::Levels);
     }
     if c > b {
-        return Verdict::Refused(Refusal::Levels);
+        return Err(Refusal::Levels);
     }
-    Verdict::Yes
+    Ok(())
 }
 
 // Refusal 6.
-pub fn check_levels(c: u32, b: u32) -> Verdict
+pub fn check_levels(c: u32, b: u32) -> Result<(), Refusal>
     ensures { result ≡ levels_of b c }
 {
     check_levels_within(c, b, Limits::BOUND)
 }
 
 // Whether an arc is unfit for n modes and k colours, where `power` is 2 to the k.
+#[tactic(auto, unfolding(crate::specs::Fitness::unfit_arc))]
 fn unfit_arc(arc: Arc, n: u32, power: u32) -> bool
     ensures { result ≡ unfit_arc n power arc }
 {
-    if (arc.source as u32) >= n {
-        return true;
-    }
-    if (arc.target as u32) >= n {
-        return true;
-    }
-    if arc.draw > Limits::DRAW {
-        return true;
-    }
-    if arc.gain > Limits::GAIN {
-        return true;
-    }
-    if (arc.colours as u32) >= power {
-        return true;
-    }
-    arc.action > Limits::ACTION
+    u32::from(arc.source) >= n
+        || u32::from(arc.target) >= n
+        || arc.draw > Limits::DRAW
+        || arc.gain > Limits::GAIN
+        || u32::from(arc.colours) >= power
+        || arc.action > Limits::ACTION
 }
 
 // 2 to the k: the least number that has a bit at or above k.
@@ -148,107 +149,52 @@ fn two_to(k: u32) -> u32
     1u32 << k
 }
 
-// A refused model: the refusal, and a blank model.
-fn refused(refusal: Refusal) -> Fitted
-    ensures { result ≡ fitted_if (Verdict.Refused refusal) blank_model }
+// The arc at a place of lists that are equally long.
+fn arc_at(lists: &Lists, i: usize) -> Arc
+    requires equal { EqualLists (lists_of lists.now) }
+    requires within { i < length lists.now.sources.now }
+    ensures { result ≡ arc_of (lists_of lists.now) i }
 {
-    let model = Model {
-        modes: 0,
-        start: 0,
-        colours: 0,
-        count: 0,
-        arcs: [NO_ARC; Limits::ARCS],
-    };
-    Fitted {
-        verdict: Verdict::Refused(refusal),
-        model,
+    Arc {
+        source: lists.sources[i],
+        target: lists.targets[i],
+        draw: lists.draws[i],
+        gain: lists.gains[i],
+        colours: lists.colours[i],
+        action: lists.actions[i],
     }
 }
 
 // Refusal 5, and the model, from numbers and lists that 1 to 4 let through: one pass that checks each arc and copies it.
-fn check_arcs(
-    n: u32,
-    start: u32,
-    k: u32,
-    sources: &[u8],
-    targets: &[u8],
-    draws: &[u16],
-    gains: &[u16],
-    colours: &[u8],
-    actions: &[u8],
-) -> Fitted
-    requires { Header n start k (lists sources.now targets.now draws.now gains.now colours.now actions.now) }
-    ensures { result ≡ fitted_arcs n start k (lists sources.now targets.now draws.now gains.now colours.now actions.now) }
+fn check_arcs(given: &Given) -> Result<Model, Refusal>
+    requires { Header given.now.n given.now.start given.now.k (lists_of given.now.lists) }
+    ensures { result ≡ fitted_arcs given.now.n given.now.start given.now.k (lists_of given.now.lists) }
 {
-    let power = two_to(k);
+    let lists = given.lists;
+    let count = lists.sources.len();
+    let power = two_to(given.k);
     let mut arcs = [NO_ARC; Limits::ARCS];
-    let mut i = 0;
-    while i < sources.len() {
-        let source = sources[i];
-        let target = targets[i];
-        let draw = draws[i];
-        let gain = gains[i];
-        let met = colours[i];
-        let action = actions[i];
-        let arc = Arc {
-            source,
-            target,
-            draw,
-            gain,
-            colours: met,
-            action,
-        };
-        if unfit_arc(arc, n, power) {
-            let number = i as u32;
-            return refused(Refusal::UnfitArc(number));
+    for i in 0..count {
+        let arc = arc_at(&lists, i);
+        if unfit_arc(arc, given.n, power) {
+            return Err(Refusal::UnfitArc(i as u32));
         }
         arcs[i] = arc;
-        i += 1;
     }
-    let modes = n as u8;
-    let start = start as u8;
-    let k = k as u8;
-    let count = sources.len() as u8;
-    let model = Model {
-        modes,
-        start,
-        colours: k,
-        count,
+    Ok(Model {
+        modes: given.n as u8,
+        start: given.start as u8,
+        colours: given.k as u8,
+        count: count as u8,
         arcs,
-    };
-    Fitted {
-        verdict: Verdict::Yes,
-        model,
-    }
+    })
 }
 
-// Fitness of a model that comes as numbers and six lists: the first of 1 to 5 that applies, or the model. For all numbers and lists.
-pub fn check_model(
-    n: u32,
-    start: u32,
-    k: u32,
-    sources: &[u8],
-    targets: &[u8],
-    draws: &[u16],
-    gains: &[u16],
-    colours: &[u8],
-    actions: &[u8],
-) -> Fitted
-    ensures { result ≡ fitted_of n start k (lists sources.now targets.now draws.now gains.now colours.now actions.now) }
+// Fitness of a model: the first of 1 to 5 that applies, or the model. For all numbers and lists.
+pub fn check_model(given: &Given) -> Result<Model, Refusal>
+    ensures { result ≡ fitted_of given.now.n given.now.start given.now.k (lists_of given.now.lists) }
 {
-    let unfit = unfit_lists(
-        sources.len(),
-        targets.len(),
-        draws.len(),
-        gains.len(),
-        colours.len(),
-        actions.len(),
-    );
-    let header = check_header(n, start, k, unfit);
-    match header {
-        Verdict::Yes => check_arcs(
-            n, start, k, sources, targets, draws, gains, colours, actions,
-        ),
-        Verdict::Refused(refusal) => refused(refusal),
-    }
+    let unfit = unfit_lists(&given.lists);
+    check_header(given.n, given.start, given.k, unfit)?;
+    check_arcs(given)
 }

@@ -1,4 +1,5 @@
 -- What a C caller learns from what each of the calls answers. Assumes nothing.
+use Rattle.std.specs.Prelude.{Ok, Err}
 use mathlib.Core.Path.{◌≡◌, refl, sym, ap, ◌∙◌}
 use mathlib.Core.Bool.{Bool, cond}
 use mathlib.Core.List.{List}
@@ -9,10 +10,9 @@ use lib.ListN.{length, get_or, take, replicate}
 use Rattle.limits.specs.Ceilings.{decide_space}
 use Rattle.refusals.specs.declared.Answer.{Answer}
 use Rattle.refusals.specs.declared.Refusal.{Refusal}
-use Rattle.refusals.specs.declared.Verdict.{Verdict}
-use Rattle.refusals.specs.declared.Verdict.TheVariants.{Yes, Refused}
-use Rattle.refusals.specs.Refusals.{answer, numbered, answer_of}
+use Rattle.refusals.specs.Refusals.{answer, numbered, answer_of, verdict_of}
 use Rattle.refusals.proofs.Numbers.{refusal-number, yes-number}
+use Rattle.refusals.proofs.Verdicts.{clash}
 use Rattle.model.specs.Automaton.{Automaton}
 use Rattle.model.specs.Lists.{Lists, automaton_of}
 use Rattle.model.specs.Fitness.{fitness, levels_of}
@@ -23,23 +23,18 @@ use Rattle.switches.proofs.PlansOn.{some-plan-all-on}
 use Rattle.judge.specs.Judged.{judged, Right}
 use Rattle.judge.proofs.Judged.{judged-zero}
 use Rattle.gauge.specs.declared.Gauge.{Gauge}
-use Rattle.gauge.specs.declared.Gauged.{Gauged}
-use Rattle.gauge.specs.Gauge.{new_gauge, gauged, started_of, stepped_of}
+use Rattle.gauge.specs.Gauge.{Gauged, no_gauge, gauge_or, new_gauge, started_of, stepped_of}
 use Rattle.gauge.proofs.Follows.{started-yes}
 use Rattle.lent_gauge.proofs.Refused.{stepped-keeps}
 use Rattle.planwalk.specs.Walked.{walk_answer, walk_of}
-use Rattle.search.specs.declared.Searched.{Searched}
-use Rattle.search.specs.declared.Searched.TheVariants as outcome
-use Rattle.search.specs.Search.{search_answer, searchable, Found, Answered, none, found, SearchOf}
+use Rattle.search.specs.Search.{Searched, planned, search_answer, searchable, Found, Answered, none, found, SearchOf}
 use Rattle.search.proofs.Demand3.{answered-found, plan-searchable, search-judged, search-ten, search-plan-kept}
 use Rattle.search.proofs.Agreed.{search-agrees, agreed-answer}
 use Rattle.search.proofs.Switched.{search-on}
 use Rattle.decide.specs.Decide.{decidable}
 use Rattle.decide.proofs.Agrees.{decide-same}
 use Rattle.least.specs.declared.Sought.{Sought}
-use Rattle.least.specs.declared.LeastFound.{LeastFound}
-use Rattle.least.specs.declared.LeastFound.TheVariants as least
-use Rattle.least.specs.Least.{bound_at, credit_at, Allowed, HasPlan, Least, NoneServes, least_answer, seekable}
+use Rattle.least.specs.Least.{LeastFound, bound_at, credit_at, Allowed, HasPlan, Least, NoneServes, least_answer, seekable}
 use Rattle.least.proofs.Agrees.{least-search-ten}
 use Rattle.reach.specs.declared.Reach.{Reach}
 use Rattle.reach.specs.Table.{IsTable}
@@ -73,9 +68,9 @@ abbrev SearchParts : ℕ → Searched → Type 0
 SearchParts r x = Parts r (search_answer x).answer (search_answer x).p (search_answer x).q
 
 -- 0 is in search the number of a plan alone, and the word has its two lengths
-plan-parts : (x : Searched) {r : ℕ} → SearchParts r x → number_in r ≡ 0 → x ≡ outcome.Plan (first_in r) (second_in r)
-plan-parts (outcome.Plan p q) parts e = cc
-plan-parts (outcome.Refused y) parts e = absurd (omega (arith, refusal-number y))
+plan-parts : (x : Searched) {r : ℕ} → SearchParts r x → number_in r ≡ 0 → x ≡ planned (first_in r) (second_in r)
+plan-parts (Ok y) parts e = rw (parts.first, parts.second) refl
+plan-parts (Err y) parts e = absurd (omega (arith, refusal-number y))
 
 -- where none of 1 to 9 applies, the number is 0 or 10
 answered-number : {g : Automaton} {x : ℕ} {on : List ℕ} {b c : ℕ} {plan plan' : List ℕ} {y : Searched} → Answered g x on b c plan plan' y
@@ -100,7 +95,7 @@ module _ {n s k : ℕ} {l : Lists} {x : ℕ} {on : List ℕ} {b c : ℕ} {work p
       rw h.word (unpacked y.answer y.p y.q (search-fields n s k l x on b c h.claim))
 
   -- where the number is 0, a plan is answered, with the two lengths in the word
-  desk-answer : number_in r ≡ 0 → SearchOf n s k l x on b c work plan work' plan' (outcome.Plan (first_in r) (second_in r))
+  desk-answer : number_in r ≡ 0 → SearchOf n s k l x on b c work plan work' plan' (planned (first_in r) (second_in r))
   desk-answer e = rw (plan-parts h.searched desk-search-parts e) at h.claim
 
   -- it is in the plan buffer,
@@ -122,14 +117,14 @@ module _ {n s k : ℕ} {l : Lists} {x : ℕ} {on : List ℕ} {b c : ℕ} {work p
       ∙ (yes-number (judged n s k l x b c (first_in r) (second_in r) w)).1 (search-judged n s k l x on b c (desk-answer e))
 
   -- where one of 1 to 9 applies, the word is its number and detail, and both buffers are untouched
-  pub desk-refused : (y : Refusal) → searchable n s k l b c (length work) (length plan) ≡ Refused y
+  pub desk-refused : (y : Refusal) → searchable n s k l b c (length work) (length plan) ≡ Err y
       → (number_in r ≡ (numbered y).number) × (detail_in r ≡ (numbered y).detail) × (first_in r ≡ 0) × (second_in r ≡ 0) × (work' ≡ work) × (plan' ≡ plan)
   desk-refused y e =
       let (answer, works, plans) = h.claim.refused y e in
       let parts = rw answer at desk-search-parts in
       (parts.number, parts.detail, parts.first, parts.second, works, plans)
 
-  module _ (through : searchable n s k l b c (length work) (length plan) ≡ Yes) where
+  module _ (through : searchable n s k l b c (length work) (length plan) ≡ Ok tt) where
     -- where none of them applies, the number is 10 exactly where no plan of any length, of arcs that are on, is feasible and accepted
     pub desk-ten : (number_in r ≡ 10) ↔ (SomePlanOn (automaton_of n s k l) x on b c → ⊥)
     desk-ten = rw desk-search-parts.number (search-ten n s k l x on b c h.claim through)
@@ -151,13 +146,13 @@ module _ {n s k : ℕ} {l : Lists} {x : ℕ} {on : List ℕ} {b c : ℕ} {work w
   desk-decide-parts = rw h.word (unpacked (answer_of h.decided) 0 0 (decide-fields n s k l x on b c h.claim))
 
   -- where one of 1 to 6 and 8 applies, the word is its number and detail, and the space is untouched
-  pub desk-decide-refused : (y : Refusal) → decidable n s k l b c (length work) ≡ Refused y
+  pub desk-decide-refused : (y : Refusal) → decidable n s k l b c (length work) ≡ Err y
       → (number_in r ≡ (numbered y).number) × (detail_in r ≡ (numbered y).detail) × (work' ≡ work)
   desk-decide-refused y e =
       let parts = rw (h.claim.refused y e).0 at desk-decide-parts in
       (parts.number, parts.detail, (h.claim.refused y e).1)
 
-  module _ (through : decidable n s k l b c (length work) ≡ Yes) where
+  module _ (through : decidable n s k l b c (length work) ≡ Ok tt) where
     -- where none of them applies, the number is 0 exactly where some plan of any length, of arcs that are on, is feasible and accepted, ..
     pub desk-decide-zero : (number_in r ≡ 0) ↔ SomePlanOn (automaton_of n s k l) x on b c
     desk-decide-zero =
@@ -175,7 +170,7 @@ module _ {n s k : ℕ} {l : Lists} {x : ℕ} {on : List ℕ} {b c : ℕ} {work w
 -- inside the ceilings of search the two calls answer the same number and detail
 pub desk-decide-agrees : {n s k : ℕ} {l : Lists} {x : ℕ} {on : List ℕ} {b c : ℕ} {work plan work' plan' space space' : List ℕ} {r r₂ : ℕ}
     → (h : DeskSearched n s k l x on b c work plan work' plan' r) → (h₂ : DeskDecided n s k l x on b c space space' r₂)
-    → searchable n s k l b c (length work) (length plan) ≡ Yes → decide_space k n ≤ length space
+    → searchable n s k l b c (length work) (length plan) ≡ Ok tt → decide_space k n ≤ length space
     → (number_in r ≡ number_in r₂) × (detail_in r ≡ detail_in r₂)
 desk-decide-agrees {n} {s} {k} {l} {x} {on} {b} {c} h h₂ inside room =
     let one = desk-search-parts h in
@@ -186,9 +181,9 @@ desk-decide-agrees {n} {s} {k} {l} {x} {on} {b} {c} h h₂ inside room =
     )
 
 -- 0 is the number of a value alone
-value-zero : (x : LeastFound) → (least_answer x).answer.number ≡ 0 → x ≡ least.Value (least_answer x).value
-value-zero (least.Value m) e = refl
-value-zero (least.Refused y) e = absurd (omega (arith, refusal-number y))
+value-zero : (x : LeastFound) → (least_answer x).answer.number ≡ 0 → x ≡ Ok (least_answer x).value
+value-zero (Ok m) e = refl
+value-zero (Err y) e = absurd (omega (arith, refusal-number y))
 
 -- the least credit and the least bound
 module _ {sought : Sought} {n s k : ℕ} {l : Lists} {x : ℕ} {on : List ℕ} {given : ℕ} {work work' : List ℕ} {r : ℕ}
@@ -205,25 +200,25 @@ module _ {sought : Sought} {n s k : ℕ} {l : Lists} {x : ℕ} {on : List ℕ} {
       ap {B = ℕ} value_in h.word ∙ unpacked-value y.answer y.value (least-fields sought n s k l x on given h.claim)
 
   -- where the number is 0, that value is answered
-  desk-least-found : number_in r ≡ 0 → h.found ≡ least.Value (value_in r)
-  desk-least-found e = value-zero h.found (sym desk-least-parts.number ∙ e) ∙ ap {B = LeastFound} least.Value (sym desk-least-value)
+  desk-least-found : number_in r ≡ 0 → h.found ≡ Ok (value_in r)
+  desk-least-found e = value-zero h.found (sym desk-least-parts.number ∙ e) ∙ ap {B = LeastFound} (λ (m : ℕ). Ok m) (sym desk-least-value)
 
   -- where one of 1 to 8 applies, the word is its number and detail, the value is 0, and the space is untouched
-  pub desk-least-refused : (y : Refusal) → seekable sought n s k l given (length work) ≡ Refused y
+  pub desk-least-refused : (y : Refusal) → seekable sought n s k l given (length work) ≡ Err y
       → (number_in r ≡ (numbered y).number) × (detail_in r ≡ (numbered y).detail) × (value_in r ≡ 0) × (work' ≡ work)
   desk-least-refused y e =
       let (answer, works) = h.claim.refused y e in
       let parts = rw answer at desk-least-parts in
       (parts.number, parts.detail, desk-least-value ∙ ap {B = ℕ} (λ (z : LeastFound). (least_answer z).value) answer, works)
 
-  module _ (through : seekable sought n s k l given (length work) ≡ Yes) where
+  module _ (through : seekable sought n s k l given (length work) ≡ Ok tt) where
     -- where none of them applies, the number is 0, with the value m, exactly where m is the least level: it serves, each smaller one fails, each larger
     -- one allowed serves too; ..
     pub desk-least-zero : (m : ℕ) → ((number_in r ≡ 0) × (value_in r ≡ m))
         ↔ Least (λ y. Allowed sought n given y) (λ y. HasPlan sought (automaton_of n s k l) x on given y) m
     desk-least-zero m =
         let value = h.claim.value through m in (
-          λ (e, v). value.0 (desk-least-found e ∙ ap {B = LeastFound} least.Value v),
+          λ (e, v). value.0 (desk-least-found e ∙ ap {B = LeastFound} (λ (m : ℕ). Ok m) v),
           λ k.
               let q = value.1 k in (
                 desk-least-parts.number ∙ ap {B = ℕ} (λ (z : LeastFound). (least_answer z).answer.number) q,
@@ -254,7 +249,7 @@ module _ {sought : Sought} {n s k : ℕ} {l : Lists} {x : ℕ} {on : List ℕ} {
     -- a search with a level that is looked at answers 10 exactly below the value
     pub desk-least-search : number_in r ≡ 0 → (y : ℕ) → Allowed sought n given y → {space plan space' plan' : List ℕ} {word : ℕ}
         → let b = bound_at sought given y in let c = credit_at sought given y in
-        DeskSearched n s k l x on b c space plan space' plan' word → searchable n s k l b c (length space) (length plan) ≡ Yes
+        DeskSearched n s k l x on b c space plan space' plan' word → searchable n s k l b c (length space) (length plan) ≡ Ok tt
         → (number_in word ≡ 10) ↔ (y < value_in r)
     desk-least-search e y allowed searched inside =
         let ten = least-search-ten sought n s k l x on given h.claim through y allowed searched.claim inside (desk-least-found e) in
@@ -274,23 +269,27 @@ desk-agrees {n} {s} {k} {l} {x} {on} {b} {c} ew ep h h₂ =
 
 module _ (n s k : ℕ) (l : Lists) (b c : ℕ) where
   -- starting a gauge: number and detail are those of the verdict
-  pub desk-start-parts : Parts (desk_started n s k l b c).answer (answer_of (started_of n s k l b c).verdict) 0 0
-  desk-start-parts = unpacked (answer_of (started_of n s k l b c).verdict) 0 0 (start-fields n s k l b c)
+  pub desk-start-parts : Parts (desk_started n s k l b c).answer (answer_of (verdict_of (started_of n s k l b c))) 0 0
+  desk-start-parts = unpacked (answer_of (verdict_of (started_of n s k l b c))) 0 0 (start-fields n s k l b c)
 
   -- where none of 1 to 6 applies, the gauge is a new one, with the start mode and the credit; this pins gauge
-  pub desk-start-gauge : fitness n s k l ≡ Yes → levels_of b c ≡ Yes → (desk_started n s k l b c).gauge ≡ new_gauge (automaton_of n s k l) b c
-  desk-start-gauge fit levels = ap {B = Gauge} (λ (y : Gauged). y.gauge) (started-yes n s k l b c fit levels)
+  pub desk-start-gauge : fitness n s k l ≡ Ok tt → levels_of b c ≡ Ok tt → (desk_started n s k l b c).gauge ≡ new_gauge (automaton_of n s k l) b c
+  desk-start-gauge fit levels = ap {B = Gauge} (gauge_or no_gauge) (started-yes n s k l b c fit levels)
 
 module _ {n s k : ℕ} {l : Lists} {b a : ℕ} {x y : Gauge} {r : ℕ} (h : DeskStepped n s k l b a x y r) where
   -- a step of a gauge: number and detail are those of the verdict
-  pub desk-step-parts : Parts r (answer_of (stepped_of n s k l b a x).verdict) 0 0
-  desk-step-parts = rw h.word (unpacked (answer_of (stepped_of n s k l b a x).verdict) 0 0 (step-fields n s k l b a x))
+  pub desk-step-parts : Parts r (answer_of (verdict_of (stepped_of n s k l b a x))) 0 0
+  desk-step-parts = rw h.word (unpacked (answer_of (verdict_of (stepped_of n s k l b a x))) 0 0 (step-fields n s k l b a x))
 
   -- where the number is 0, the step is accepted, and its gauge is the lent one as the call leaves it; this pins moved_on
-  pub desk-step-moved : number_in r ≡ 0 → stepped_of n s k l b a x ≡ gauged Yes y
+  pub desk-step-moved : number_in r ≡ 0 → stepped_of n s k l b a x ≡ Ok y
   desk-step-moved e =
-      let yes = (yes-number (stepped_of n s k l b a x).verdict).0 (sym desk-step-parts.number ∙ e) in
-      ap {B = Gauged} (λ (v : Verdict). gauged v (stepped_of n s k l b a x).gauge) yes ∙ ap {B = Gauged} (gauged Yes) (sym h.moved_on)
+      go (stepped_of n s k l b a x) ((yes-number (verdict_of (stepped_of n s k l b a x))).0 (sym desk-step-parts.number ∙ e))
+      ∙ ap {B = Gauged} (λ (z : Gauge). Ok z) (sym h.moved_on)
+    where
+      go : (z : Gauged) → verdict_of z ≡ Ok tt → z ≡ Ok (gauge_or x z)
+      go (Ok u) q = refl
+      go (Err q) p = clash (cc)
 
   -- "a refusal leaves the gauge as found"
   pub desk-step-kept : (number_in r ≡ 0 → ⊥) → y ≡ x
@@ -305,13 +304,13 @@ desk-walk-parts n s k l x b c p q w j t low =
 
 module _ (hoa dimacs : List ℕ) (l : Lists) where
   -- reading: the number is 0 exactly where none of 19 to 21 and 1 to 5 applies
-  pub desk-read-zero : ((desk_read hoa dimacs l).number ≡ 0) ↔ (read_verdict hoa dimacs l ≡ Yes)
+  pub desk-read-zero : ((desk_read hoa dimacs l).number ≡ 0) ↔ (read_verdict hoa dimacs l ≡ Ok tt)
   desk-read-zero = yes-number (read_verdict hoa dimacs l)
 
   -- then n, the start mode, k and the first m places of the lists, as the call leaves them, are the model of the two texts, fit for every call,
   pub desk-read-model : (desk_read hoa dimacs l).number ≡ 0 → let r = desk_read hoa dimacs l in
       let places = first_places r.m (lists_read hoa dimacs l) in
-      (automaton_of r.n r.start r.k places ≡ model_read hoa dimacs) × (fitness r.n r.start r.k places ≡ Yes)
+      (automaton_of r.n r.start r.k places ≡ model_read hoa dimacs) × (fitness r.n r.start r.k places ≡ Ok tt)
   desk-read-model e = let yes = desk-read-zero.0 e in (read-model hoa dimacs l yes, read-fitness hoa dimacs l yes)
 
   -- and the later places are as they were
@@ -345,7 +344,7 @@ module _ (x y : Given) (l : Lists) where
 
   -- then the model that is left is the joined model, fit for every call; it has a plan that serves exactly where the two have plans that serve together,
   pub desk-join-model : r.number ≡ 0
-      → (model-left ≡ joined_given x y) × (fitness r.n r.start r.k (first_places r.m (lists_joined x y l)) ≡ Yes)
+      → (model-left ≡ joined_given x y) × (fitness r.n r.start r.k (first_places r.m (lists_joined x y l)) ≡ Ok tt)
       × ((z b c : ℕ) → SomePlan model-left z b c ↔ SomeTogether (model_given x) (model_given y) z b c)
   desk-join-model e =
       let yes = (yes-number (join_verdict x y (room_in l))).0 e in
@@ -360,13 +359,13 @@ module _ (x y : Given) (l : Lists) where
   desk-join-refused refused = filled-refused (join_verdict x y (room_in l)) (joined_given x y) l refused
 
   -- "Either model unfit gives its own number from 1 to 5, the knee's first", with its detail; 23 is "looked at last"
-  pub desk-join-knee : (q : Refusal) → fitness_given x ≡ Refused q → answer r.number r.detail ≡ numbered q
+  pub desk-join-knee : (q : Refusal) → fitness_given x ≡ Err q → answer r.number r.detail ≡ numbered q
   desk-join-knee q e = ap {B = Answer} answer_of (join-knee x y (room_in l) q e)
 
-  pub desk-join-habit : (q : Refusal) → fitness_given x ≡ Yes → fitness_given y ≡ Refused q → answer r.number r.detail ≡ numbered q
+  pub desk-join-habit : (q : Refusal) → fitness_given x ≡ Ok tt → fitness_given y ≡ Err q → answer r.number r.detail ≡ numbered q
   desk-join-habit q e f = ap {B = Answer} answer_of (join-habit x y (room_in l) q e f)
 
-  pub desk-join-size : fitness_given x ≡ Yes → fitness_given y ≡ Yes → (SizeFits (joined_given x y) (room_in l) → ⊥)
+  pub desk-join-size : fitness_given x ≡ Ok tt → fitness_given y ≡ Ok tt → (SizeFits (joined_given x y) (room_in l) → ⊥)
       → answer r.number r.detail ≡ answer 23 0
   desk-join-size e f misfit = ap {B = Answer} answer_of ((join-size x y (room_in l) e f).1 misfit)
 
@@ -374,7 +373,7 @@ module _ (x y : Given) (l : Lists) where
   -- barred colours
   pub desk-join-ten : r.number ≡ 0 → {z b c : ℕ} {on work plan work' plan' : List ℕ} {word : ℕ} → AllBelow (length model-left.arcs) on
       → DeskSearched r.n r.start r.k (first_places r.m (lists_joined x y l)) z on b c work plan work' plan' word
-      → searchable r.n r.start r.k (first_places r.m (lists_joined x y l)) b c (length work) (length plan) ≡ Yes
+      → searchable r.n r.start r.k (first_places r.m (lists_joined x y l)) b c (length work) (length plan) ≡ Ok tt
       → (number_in word ≡ 10) ↔ (SomeTogether (model_given x) (model_given y) z b c → ⊥)
   desk-join-ten e {z} {b} {c} {on} all searched through =
       let ten = desk-ten searched through in
@@ -388,14 +387,14 @@ module _ {n k : ℕ} {l : Lists} {x p q : ℕ} {w : List ℕ} {ys zs : List Wear
   WordFor y = desk_judged n y.start k l x y.b y.c p q w
 
   -- a ward, where the model is fit: each verdict is the number that judging answers for that wearer, and the other fields are as they were
-  pub desk-ward-verdict : ward_fitness n k l ≡ Yes → (j : ℕ) → j < length ys
+  pub desk-ward-verdict : ward_fitness n k l ≡ Ok tt → (j : ℕ) → j < length ys
       → get_or zs j no_wearer ≡ with_verdict (get_or ys j no_wearer) (number_in (WordFor (get_or ys j no_wearer)))
   desk-ward-verdict fit j i =
       let y = get_or ys j no_wearer in
       ward-verdict h fit j i ∙ ap (λ (v : ℕ). with_verdict y v) (sym (desk-judge-parts n y.start k l x y.b y.c p q w).number)
 
   -- where the model is fit and the number is not 0: the detail is the place of a wearer, and the number is the one that judging answers for that wearer
-  pub desk-ward-place : ward_fitness n k l ≡ Yes → (r.number ≡ 0 → ⊥)
+  pub desk-ward-place : ward_fitness n k l ≡ Ok tt → (r.number ≡ 0 → ⊥)
       → (r.detail < length ys) × (number_in (WordFor (get_or ys r.detail no_wearer)) ≡ r.number)
   desk-ward-place fit other =
       let (i, e) = ward-place h fit other in
@@ -423,7 +422,7 @@ module _ (n s k : ℕ) (l : Lists) (on : List ℕ) (b c : ℕ) {r : Reached} (h 
   desk-reach-table e = rw h.table (h.claim.table ((yes-number (levelled n s k l b c)).0 (sym desk-reach-parts.number ∙ e)))
 
   -- .. and otherwise all are unreached
-  pub desk-reach-refused : (y : Refusal) → levelled n s k l b c ≡ Refused y → r.reach.charges ≡ all_unreached
+  pub desk-reach-refused : (y : Refusal) → levelled n s k l b c ≡ Err y → r.reach.charges ≡ all_unreached
   desk-reach-refused y e = rw h.table (h.claim.refused y e)
 
 module _ (n s k : ℕ) (l : Lists) (b c a : ℕ) (told : Bool) (y : Reach) {r : Reached} (h : DeskReached (SwitchOf n s k l b c a told y) r) where
@@ -434,12 +433,12 @@ module _ (n s k : ℕ) (l : Lists) (b c a : ℕ) (told : Bool) (y : Reach) {r : 
       rw same (unpacked (answer_of (switchable n s k l b c a)) 0 0 (rw h.claim.verdict at (reach-switch-fields n s k l b c a told y h.claim)))
 
   -- "a refused switching changes nothing"
-  pub desk-switch-refused : (z : Refusal) → switchable n s k l b c a ≡ Refused z → r.reach ≡ y
+  pub desk-switch-refused : (z : Refusal) → switchable n s k l b c a ≡ Err z → r.reach ≡ y
   desk-switch-refused z e = rw h.table (h.claim.refused z e)
 
   -- where the number is 0: the table as it was, where the arc is so already, and else the table of the arcs then on
   module _ (zero : number_in r.answer ≡ 0) where
-    through : switchable n s k l b c a ≡ Yes
+    through : switchable n s k l b c a ≡ Ok tt
     through = (yes-number (switchable n s k l b c a)).0 (sym desk-switch-parts.number ∙ zero)
 
     pub desk-switch-already : is_on y.on a ≡ told → r.reach ≡ y

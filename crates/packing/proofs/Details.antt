@@ -1,5 +1,6 @@
 -- How large the details of refusals are: a detail of judging or of the walk is at most twice the longest plan that judging takes, one of the gauge, of 1
 -- to 9 of search, of the decision, of the least credit and the least bound or of the table of greatest charges at most 255. Assumes nothing.
+use Rattle.std.specs.Prelude.{Ok, Err}
 use mathlib.Core.Path.{◌≡◌, refl}
 use mathlib.Core.Bool.{Bool, ◌||◌}
 use mathlib.Core.List.{List}
@@ -11,9 +12,7 @@ use lib.ListN.{length}
 use Rattle.limits.specs.Ceilings.{modes_most, arcs_most, colours_most, bound_most, product_most, plan_most, work_space, plan_buffer, decide_bound_most, decide_space}
 use Rattle.refusals.specs.declared.Refusal.{Refusal}
 use Rattle.refusals.specs.declared.Refusal.TheVariants.{ModeCount, StartMode, ArcLists, ColourCount, Levels, Product, WorkingSpace, PlanBuffer, ArcNumber}
-use Rattle.refusals.specs.declared.Verdict.{Verdict}
-use Rattle.refusals.specs.declared.Verdict.TheVariants.{Yes, Refused}
-use Rattle.refusals.specs.Refusals.{answer_of, and_then}
+use Rattle.refusals.specs.Refusals.{Verdict, answer_of, and_then, verdict_of}
 use Rattle.refusals.proofs.Each.{refuse-each, then-each, scan-each}
 use Rattle.model.specs.declared.Arc.{Arc}
 use Rattle.model.specs.Lists.{Lists, arcs_of, automaton_of}
@@ -23,9 +22,8 @@ use Rattle.model.proofs.Fitness.{arcs-scan, header-yes, fitness-yes}
 use Rattle.judge.specs.Judged.{judged_levels, judged}
 use Rattle.judge.proofs.Each.{OfPlans, plan-each}
 use Rattle.gauge.specs.declared.Gauge.{Gauge}
-use Rattle.gauge.specs.Gauge.{new_gauge, gauged, no_gauge, stop_at, started_of, stepped_of}
+use Rattle.gauge.specs.Gauge.{Gauged, new_gauge, started_of, stepped_of}
 use Rattle.gauge.proofs.Stops.{StepRefusal, step-stops}
-use Rattle.planwalk.specs.declared.Walked.TheVariants as outcome
 use Rattle.planwalk.specs.Walked.{walk_of}
 use Rattle.planwalk.proofs.Least.{walk-refused-by}
 use Rattle.search.specs.Search.{spaces, searchable}
@@ -41,7 +39,7 @@ pub record Within (d : ℕ) (v : Verdict) : Type 0 where
   pub detail : (answer_of v).detail ≤ d
 
 module _ {d : ℕ} where
-  yes-within : Within d Yes
+  yes-within : Within d (Ok tt)
   yes-within = omega arith
 
   -- 1 to 4
@@ -108,25 +106,26 @@ judged-within n s k l x b c p q w =
 
 -- the walk: what judging refuses, and 18
 pub walked-within : (n s k : ℕ) (l : Lists) (x b c p q : ℕ) (w : List ℕ) (j t : ℕ) → t < 2 ^ 16 → (r : Refusal)
-    → walk_of n s k l x b c p q w j t ≡ outcome.Refused r → Within (2 * plan_most) (Refused r)
+    → walk_of n s k l x b c p q w j t ≡ Err r → Within (2 * plan_most) (Err r)
 walked-within n s k l x b c p q w j t low r e =
     ⊎_elim (λ z. rw z at (judged-within n s k l x b c p q w)) (λ (_, _, z). rw z (omega arith)) ((walk-refused-by n s k l x b c p q w j t low r).0 e)
 
 -- a gauge: the largest are those of 5, an arc
-pub started-within : (n s k : ℕ) (l : Lists) (b c : ℕ) → Within arcs_most (started_of n s k l b c).verdict
+pub started-within : (n s k : ℕ) (l : Lists) (b c : ℕ) → Within arcs_most (verdict_of (started_of n s k l b c))
 unfolding started_of
 started-within n s k l b c =
-    go (and_then (fitness n s k l) (levels_of b c)) (then-each (Within arcs_most) (fitness n s k l) (fitness-within n s k l (omega arith)) λ _. levels-within b c)
+    go (fitness n s k l) (levels_of b c) (new_gauge (automaton_of n s k l) b c) (fitness-within n s k l (omega arith)) (levels-within b c)
   where
-    go : (v : Verdict) → Within arcs_most v → Within arcs_most (stop_at v no_gauge (gauged Yes (new_gauge (automaton_of n s k l) b c))).verdict
-    go Yes within = yes-within
-    go (Refused r) within = within
+    go : (u v : Verdict) (z : Gauge) → Within arcs_most u → Within arcs_most v → Within arcs_most (verdict_of {T = Gauge} (and_then u (and_then v (Ok z))))
+    go (Ok _) (Ok _) z first second = yes-within
+    go (Ok _) (Err r) z first second = second
+    go (Err r) v z first second = first
 
 -- 22, 12, 13 and 15 of a step have detail 0
-pub stepped_within : (n s k : ℕ) (l : Lists) (b a : ℕ) (x : Gauge) → Within arcs_most (stepped_of n s k l b a x).verdict
-stepped_within n s k l b a x = go (stepped_of n s k l b a x).verdict refl
+pub stepped_within : (n s k : ℕ) (l : Lists) (b a : ℕ) (x : Gauge) → Within arcs_most (verdict_of (stepped_of n s k l b a x))
+stepped_within n s k l b a x = go (stepped_of n s k l b a x) refl
   where
-    by : (r : Refusal) → StepRefusal n s k l b x r → Within arcs_most (Refused r)
+    by : (r : Refusal) → StepRefusal n s k l b x r → Within arcs_most (Err r)
     by r (inl e) = rw e at (fitness-within {d = arcs_most} n s k l (omega arith))
     by r (inr (_, inl e)) = rw e at (levels-within {d = arcs_most} b x.charge)
     by r (inr (_, inr (_, inl (_, e)))) = rw e (omega arith)
@@ -134,9 +133,9 @@ stepped_within n s k l b a x = go (stepped_of n s k l b a x).verdict refl
     by r (inr (_, inr (_, inr (_, inr (inl e))))) = rw e (omega arith)
     by r (inr (_, inr (_, inr (_, inr (inr e))))) = rw e (omega arith)
 
-    go : (v : Verdict) → (stepped_of n s k l b a x).verdict ≡ v → Within arcs_most (stepped_of n s k l b a x).verdict
-    go Yes e = rw e yes-within
-    go (Refused r) e = rw e (by r (step-stops n s k l b a x r e).1)
+    go : (y : Gauged) → stepped_of n s k l b a x ≡ y → Within arcs_most (verdict_of y)
+    go (Ok _) e = yes-within
+    go (Err r) e = by r (step-stops n s k l b a x r e).1
 
 -- 1 to 9 of search: the largest are those of 5, an arc
 pub searchable-within : (n s k : ℕ) (l : Lists) (b c words bytes : ℕ) → Within arcs_most (searchable n s k l b c words bytes)

@@ -1,5 +1,6 @@
 -- Each part of an answer is within its bits: of judging, search, the decision, the least credit and the least bound, gauge, walk and the table of greatest charges.
 -- Assumes nothing.
+use Rattle.std.specs.Prelude.{Result, Ok, Err}
 use mathlib.Core.Path.{◌≡◌, refl}
 use mathlib.Core.Bool.{Bool, true, false, cond}
 use mathlib.Core.List.{List}
@@ -8,9 +9,8 @@ use Prim.Native.Nat.{ℕ, ◌<◌, ◌^◌}
 use native.Mathlib.Omega.{arith}
 use lib.ListN.{length}
 use mir.Val.{bool_byte}
-use Rattle.refusals.specs.declared.Verdict.{Verdict}
-use Rattle.refusals.specs.declared.Verdict.TheVariants.{Yes, Refused}
-use Rattle.refusals.specs.Refusals.{answer_of}
+use Rattle.refusals.specs.declared.Refusal.{Refusal}
+use Rattle.refusals.specs.Refusals.{Verdict, answer_of, verdict_of}
 use Rattle.refusals.proofs.Numbers.{refusal-number}
 use Rattle.model.specs.Automaton.{Automaton}
 use Rattle.model.specs.Lists.{Lists}
@@ -21,14 +21,12 @@ use Rattle.planwalk.specs.declared.Walked.{Walked}
 use Rattle.planwalk.specs.declared.Walked.TheVariants as outcome
 use Rattle.planwalk.specs.Walked.{walk_answer, walk_of}
 use Rattle.planwalk.proofs.Least.{walk-met, walk-spent}
-use Rattle.search.specs.declared.Searched.{Searched}
-use Rattle.search.specs.Search.{search_answer, searchable, Answered, none, found, SearchOf}
+use Rattle.search.specs.Search.{Searched, search_answer, searchable, Answered, none, found, SearchOf}
 use Rattle.decide.specs.Decide.{decidable, DecideOf}
 use Rattle.least.specs.declared.Sought.{Sought}
-use Rattle.least.specs.declared.LeastFound.{LeastFound}
-use Rattle.least.specs.Least.{least_answer, seekable, LeastOf}
+use Rattle.least.specs.Least.{LeastFound, least_answer, seekable, LeastOf}
 use Rattle.least.proofs.Claims.{value_low}
-use Rattle.reach.specs.declared.Reached as reach
+use Rattle.reach.specs.Reach as reach
 use Rattle.reach.specs.Reach.{levelled, switchable, StartOf, SwitchOf}
 use Rattle.reach.specs.declared.Reach.{Reach}
 use Rattle.packing.specs.Packing.{Fields}
@@ -36,8 +34,8 @@ use Rattle.packing.proofs.Details.{Within, judged-within, walked-within, started
 
 -- the numbers of answers fit a byte
 answer-number : (v : Verdict) → (answer_of v).number < 2 ^ 8
-answer-number Yes = omega arith
-answer-number (Refused r) = (refusal-number r).1
+answer-number (Ok _) = omega arith
+answer-number (Err r) = (refusal-number r).1
 
 -- a verdict alone, whose detail is small
 verdict-fields : {d : ℕ} (v : Verdict) → d < 2 ^ 24 → Within d v → Fields (answer_of v) 0 0
@@ -49,11 +47,11 @@ pub judge-fields : (n s k : ℕ) (l : Lists) (x b c p q : ℕ) (w : List ℕ) �
 judge-fields n s k l x b c p q w = verdict-fields (judged n s k l x b c p q w) (omega arith) (judged-within n s k l x b c p q w)
 
 -- what starting and stepping a gauge answer
-pub start-fields : (n s k : ℕ) (l : Lists) (b c : ℕ) → Fields (answer_of (started_of n s k l b c).verdict) 0 0
-start-fields n s k l b c = verdict-fields (started_of n s k l b c).verdict (omega arith) (started-within n s k l b c)
+pub start-fields : (n s k : ℕ) (l : Lists) (b c : ℕ) → Fields (answer_of (verdict_of (started_of n s k l b c))) 0 0
+start-fields n s k l b c = verdict-fields (verdict_of (started_of n s k l b c)) (omega arith) (started-within n s k l b c)
 
-pub step-fields : (n s k : ℕ) (l : Lists) (b a : ℕ) (x : Gauge) → Fields (answer_of (stepped_of n s k l b a x).verdict) 0 0
-step-fields n s k l b a x = verdict-fields (stepped_of n s k l b a x).verdict (omega arith) (stepped_within n s k l b a x)
+pub step-fields : (n s k : ℕ) (l : Lists) (b a : ℕ) (x : Gauge) → Fields (answer_of (verdict_of (stepped_of n s k l b a x))) 0 0
+step-fields n s k l b a x = verdict-fields (verdict_of (stepped_of n s k l b a x)) (omega arith) (stepped_within n s k l b a x)
 
 -- a truth value as the code casts it
 pub bit-met : (m : Bool) → bool_byte m ≡ cond m 1 0
@@ -61,16 +59,16 @@ bit-met true = refl
 bit-met false = refl
 
 -- what the walk answers, with an allowance of 16 bits
-abbrev WalkFields : Walked → Type 0
+abbrev WalkFields : Result Walked Refusal → Type 0
 WalkFields y = Fields (walk_answer y).answer (walk_answer y).steps (cond (walk_answer y).met 1 0)
 
 pub walk-fields : (n s k : ℕ) (l : Lists) (x b c p q : ℕ) (w : List ℕ) (j t : ℕ) → t < 2 ^ 16 → WalkFields (walk_of n s k l x b c p q w j t)
 walk-fields n s k l x b c p q w j t low = go (walk_of n s k l x b c p q w j t) refl
   where
-    go : (y : Walked) → walk_of n s k l x b c p q w j t ≡ y → WalkFields y
-    go (outcome.Met u) e = let (_, _, (a, z, f)) = (walk-met n s k l x b c p q w j t low u).0 e in omega (arith, f.within)
-    go (outcome.Spent u) e = let (_, _, z, _) = (walk-spent n s k l x b c p q w j t low u).0 e in omega arith
-    go (outcome.Refused r) e = omega (arith, refusal-number r, (walked-within n s k l x b c p q w j t low r e).detail)
+    go : (y : Result Walked Refusal) → walk_of n s k l x b c p q w j t ≡ y → WalkFields y
+    go (Ok (outcome.Met u)) e = let (_, _, (a, z, f)) = (walk-met n s k l x b c p q w j t low u).0 e in omega (arith, f.within)
+    go (Ok (outcome.Spent u)) e = let (_, _, z, _) = (walk-spent n s k l x b c p q w j t low u).0 e in omega arith
+    go (Err r) e = omega (arith, refusal-number r, (walked-within n s k l x b c p q w j t low r e).detail)
 
 -- what search answers
 abbrev SearchFields : Searched → Type 0
@@ -87,8 +85,8 @@ pub search-fields : (n s k : ℕ) (l : Lists) (x : ℕ) (on : List ℕ) (b c : �
 search-fields n s k l x on b c {work} {plan} {r = r} h = go (searchable n s k l b c (length work) (length plan)) refl
   where
     go : (v : Verdict) → searchable n s k l b c (length work) (length plan) ≡ v → SearchFields r
-    go Yes e = answered-fields (h.decided e).answered
-    go (Refused y) e =
+    go (Ok _) e = answered-fields (h.decided e).answered
+    go (Err y) e =
         let small = rw e at (searchable-within n s k l b c (length work) (length plan)) in
         rw (h.refused y e).0 (omega (arith, refusal-number y, small.detail))
 
@@ -98,10 +96,10 @@ pub decide-fields : (n s k : ℕ) (l : Lists) (x : ℕ) (on : List ℕ) (b c : �
 decide-fields n s k l x on b c {work} {r = r} h = go (decidable n s k l b c (length work)) refl
   where
     go : (v : Verdict) → decidable n s k l b c (length work) ≡ v → Fields (answer_of r) 0 0
-    go Yes e = ⊎_elim (λ q. rw q (omega arith)) (λ q. rw q (omega arith)) (h.verdict e)
-    go (Refused y) e =
+    go (Ok _) e = ⊎_elim (λ q. rw q (omega arith)) (λ q. rw q (omega arith)) (h.verdict e)
+    go (Err y) e =
         let small = rw e at (decidable-within n s k l b c (length work)) in
-        rw (h.refused y e).0 (verdict-fields (Refused y) (omega arith) small)
+        rw (h.refused y e).0 (verdict-fields (Err y) (omega arith) small)
 
 -- what the least credit and the least bound answer, on all inputs
 abbrev LeastFields : LeastFound → Type 0
@@ -112,14 +110,14 @@ pub least-fields : (sought : Sought) (n s k : ℕ) (l : Lists) (x : ℕ) (on : L
 least-fields sought n s k l x on given {work} {r = r} h = go (seekable sought n s k l given (length work)) refl
   where
     go : (v : Verdict) → seekable sought n s k l given (length work) ≡ v → LeastFields r
-    go Yes e =
+    go (Ok _) e =
         ⊎_elim
         (λ (m, q). let low = value_low sought n s k l x on given h e m q in rw q (omega (arith, low)))
         (λ q. rw q (omega arith))
         (h.verdict e)
-    go (Refused y) e =
+    go (Err y) e =
         let small = rw e at (seekable-within sought n s k l given (length work)) in
-        rw (h.refused y e).0 (verdict-fields (Refused y) (omega arith) small)
+        rw (h.refused y e).0 (verdict-fields (Err y) (omega arith) small)
 
 -- what making a table of greatest charges answers, and switching an arc
 pub reach-start-fields : (n s k : ℕ) (l : Lists) (on : List ℕ) (b c : ℕ) {r : reach.Reached} → StartOf n s k l on b c r → Fields (answer_of r.verdict) 0 0

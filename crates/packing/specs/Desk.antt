@@ -6,20 +6,19 @@ use Rattle.std.specs.Prelude.{ℕ, ◌≡◌, List, [], ◌∷◌}
 use Rattle.model.specs.Lists.{Lists}
 use Rattle.judge.specs.Judged.{judged}
 use Rattle.gauge.specs.declared.Gauge.{Gauge}
-use Rattle.gauge.specs.Gauge.{started_of, stepped_of}
+use Rattle.gauge.specs.Gauge.{Gauged, no_gauge, gauge_or, started_of, stepped_of}
 use Rattle.planwalk.specs.Walked.{walk_of}
-use Rattle.search.specs.declared.Searched.{Searched}
-use Rattle.search.specs.Search.{SearchOf}
+use Rattle.search.specs.Search.{Searched, SearchOf}
 use Rattle.decide.specs.Decide.{DecideOf}
 use Rattle.least.specs.declared.Sought.{Sought}
-use Rattle.least.specs.declared.LeastFound.{LeastFound}
-use Rattle.least.specs.Least.{LeastOf}
+use Rattle.least.specs.Least.{LeastFound, LeastOf}
 use Rattle.refusals.specs.declared.Answer.{Answer}
-use Rattle.refusals.specs.declared.Verdict.{Verdict}
-use Rattle.filling.specs.declared.Reading.{Reading}
+use Rattle.refusals.specs.Refusals.{Verdict, verdict_of}
+use Rattle.filling.specs.declared.Numbers.{Numbers}
+use Rattle.filling.specs.Filling.{numbers_in}
 use Rattle.reading.specs.Reading.{read_of, read_answer}
 use Rattle.join.specs.Joining.{Given, join_of, join_answer}
-use Rattle.reach.specs.declared.Reached as reach
+use Rattle.reach.specs.Reach as reach
 use Rattle.packing.specs.declared.Started.{Started}
 use Rattle.packing.specs.declared.Reached.{Reached}
 use Rattle.packing.specs.declared.Read.{Read}
@@ -54,27 +53,34 @@ pub record DeskLeast (sought : Sought) (n s k : ℕ) (l : Lists) (x : ℕ) (on :
   pub word : r ≡ least_word found
 
 -- what starting a gauge answers: its verdict in one word, and the gauge; "a refusal hands back .. 0 in every field"
+abbrev pub started_with : Gauged → Started
+started_with y = record { answer = verdict_word (verdict_of y); gauge = gauge_or no_gauge y }
+
 abbrev pub desk_started : ℕ → ℕ → ℕ → Lists → ℕ → ℕ → Started
-desk_started n s k l b c = record { answer = verdict_word (started_of n s k l b c).verdict; gauge = (started_of n s k l b c).gauge }
+desk_started n s k l b c = started_with (started_of n s k l b c)
 
 -- A step of a lent gauge on arc a. x: the gauge at entry, y: the gauge at exit, r: the word.
 pub record DeskStepped (n s k : ℕ) (l : Lists) (b a : ℕ) (x y : Gauge) (r : ℕ) : Type 0 where
-  pub word : r ≡ verdict_word (stepped_of n s k l b a x).verdict
-  pub moved_on : y ≡ (stepped_of n s k l b a x).gauge
+  pub word : r ≡ verdict_word (verdict_of (stepped_of n s k l b a x))
+  pub moved_on : y ≡ gauge_or x (stepped_of n s k l b a x)
 
 -- what the walk answers, in one word
 abbrev pub desk_walked : ℕ → ℕ → ℕ → Lists → ℕ → ℕ → ℕ → ℕ → ℕ → List ℕ → ℕ → ℕ → ℕ
 desk_walked n s k l x b c p q w j t = walk_word (walk_of n s k l x b c p q w j t)
 
 -- what reading and the join answer: number and detail, and the numbers of the model written, "0 for n, start mode, k and m" where they are refused
-abbrev pub read_with : Answer → Reading → Read
+abbrev pub read_with : Answer → Numbers → Read
 read_with a x = record { number = a.number; detail = a.detail; n = x.modes; start = x.start; k = x.colours; m = x.count }
 
 abbrev pub desk_read : List ℕ → List ℕ → Lists → Read
-desk_read hoa dimacs l = read_with (read_answer hoa dimacs l) (read_of hoa dimacs l)
+desk_read hoa dimacs l = read_with (read_answer hoa dimacs l) (numbers_in (read_of hoa dimacs l))
 
 abbrev pub desk_joined : Given → Given → Lists → Read
-desk_joined x y l = read_with (join_answer x y l) (join_of x y l)
+desk_joined x y l = read_with (join_answer x y l) (numbers_in (join_of x y l))
+
+-- the verdict in one word, and the table
+abbrev pub reached_with : reach.Reached → Reached
+reached_with t = record { answer = verdict_word t.verdict; reach = t.reach }
 
 -- What making a table of greatest charges and switching an arc answer: the verdict in one word, and the table, of an answer of which all holds that the
 -- call promises (`StartOf`, `SwitchOf`). There is one such answer (theorems start-one, switch-one).

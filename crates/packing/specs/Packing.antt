@@ -1,13 +1,11 @@
 -- An answer in one word of 64 bits, as it crosses to C. Document 01, "What can be called": "The way number, detail, p and q come back to it is
 -- entered under docs/": docs/C-API.md has this layout.
-use Rattle.std.specs.Prelude.{ℕ, ◌+◌, ◌*◌, ◌/◌, ◌%◌, ◌^◌, ◌<◌, cond}
+use Rattle.std.specs.Prelude.{ℕ, ◌+◌, ◌*◌, ◌/◌, ◌%◌, ◌^◌, ◌<◌, cond, Result}
 use Rattle.refusals.specs.declared.Answer.{Answer}
-use Rattle.refusals.specs.declared.Verdict.{Verdict}
-use Rattle.refusals.specs.Refusals.{answer_of}
-use Rattle.search.specs.declared.Searched.{Searched}
-use Rattle.search.specs.Search.{search_answer}
-use Rattle.least.specs.declared.LeastFound.{LeastFound}
-use Rattle.least.specs.Least.{least_answer}
+use Rattle.refusals.specs.declared.Refusal.{Refusal}
+use Rattle.refusals.specs.Refusals.{Verdict, answer_of}
+use Rattle.search.specs.Search.{Searched, search_answer}
+use Rattle.least.specs.Least.{LeastFound, least_answer}
 use Rattle.planwalk.specs.declared.Walked.{Walked}
 use Rattle.planwalk.specs.Walked.{walk_answer}
 
@@ -31,7 +29,7 @@ abbrev pub search_word : Searched → ℕ
 search_word x = packed (search_answer x).answer (search_answer x).p (search_answer x).q
 
 -- what the walk answers: with the steps made, and 1 where the colour was met, else 0
-abbrev pub walk_word : Walked → ℕ
+abbrev pub walk_word : Result Walked Refusal → ℕ
 walk_word x = packed (walk_answer x).answer (walk_answer x).steps (cond (walk_answer x).met 1 0)
 
 -- what the least credit and the least bound answer: with the value, which is below 2^16 (theorem least-fields), so that bits 48 to 63 are 0

@@ -1,7 +1,9 @@
 -- What the pass from a mode with a charge leaves, in the words of nets: it says whether a cycle keeps the charge, and the arcs read back are that cycle. Assumes
 -- nothing.
+use Rattle.std.specs.Prelude.{Option, Some, None}
+use Rattle.std.proofs.lemmas.Option.{none-some}
 use mathlib.Core.Path.{◌≡◌, refl, sym, ap, subst, ◌∙◌}
-use mathlib.Core.Bool.{Bool, true, ◌&&◌, and-eq-true_iff}
+use mathlib.Core.Bool.{true, ◌&&◌, and-eq-true_iff}
 use mathlib.Core.Logic.{◌↔◌}
 use mathlib.Core.List.{List, [], ◌∷◌, ◌++◌}
 use Prim.Native.Nat.{ℕ, suc, ◌+◌, ◌/◌, ◌<◌}
@@ -11,6 +13,7 @@ use Rattle.walks.specs.BoundedStep.{after}
 use Rattle.nets.specs.Net.{Net, Usable, Lasts, Fits}
 use Rattle.nets.specs.Table.{next, ClosingArc, KeptCycle}
 use Rattle.nets.proofs.Decides.{kept-closed, closed-kept}
+use Rattle.passes.specs.declared.pass.Closing.{Closing}
 use Rattle.passes.specs.Pass.{Pass, Ready, node, room}
 use Rattle.passes.specs.Queue.{node_at, charge_at, Covers, Closes, Begun, Passed}
 use Rattle.passes.specs.Trace.{Traced}
@@ -95,15 +98,20 @@ module _ (net : Net) (places : List ℕ) (b : ℕ) (fits : Fits net) where
         record { cycle = closed-kept net b m e high closing z.0; same = ap {B = List ℕ} (λ (y : List ℕ). y ++ (a ∷ [])) z.1 }
 
   -- the pass from mode m with charge e finds a cycle that keeps e, or there is none
-  pub passed-cycle : (m e : ℕ) {best w : List ℕ} {found : Bool} {head a tail : ℕ} → m < net.modes
-      → Ready (cycle_pass net places b m e) (length best) (length w) → Passed (cycle_pass net places b m e) m e best w found head a tail
-      → CyclePassed net b m e w found head a
-  passed-cycle m e {best} {w} {head = head} {a = a} {tail = tail} hm r p =
+  pub passed-cycle : (m e : ℕ) {best w : List ℕ} {found : Option Closing} {tail : ℕ} → m < net.modes
+      → Ready (cycle_pass net places b m e) (length best) (length w) → Passed (cycle_pass net places b m e) m e best w found tail
+      → CyclePassed net b m e w found
+  passed-cycle m e {best} {w} {found = None} {tail = tail} hm r p =
+      record { none = λ f. cycle-none m e best w tail hm p.from (p.covers f); some = tt }
+  passed-cycle m e {best} {w} {found = Some k} {tail = tail} hm r p =
       let q = p.from.queue in
       record {
-        none = λ f. cycle-none m e best w tail hm p.from (p.covers f);
-        few = λ f. subst (λ (y : ℕ). head < room y b) r.table (omega (arith, p.before f, queue-room q));
-        linked = λ f. queue-linked r q (p.before f);
-        byte = λ f. omega (arith, (p.closing f).step.known, r.few_arcs);
-        arcs = λ f. cycle-arcs m e best w tail hm p.from head a r (p.before f) (p.closing f);
+        none = λ f. absurd (none-some _ (sym f));
+        some =
+            record {
+              few = subst (λ (y : ℕ). k.head < room y b) r.table (omega (arith, p.before, queue-room q));
+              linked = queue-linked r q p.before;
+              byte = omega (arith, p.closing.step.known, r.few_arcs);
+              arcs = cycle-arcs m e best w tail hm p.from k.head k.arc r p.before p.closing;
+            };
       }

@@ -1,6 +1,9 @@
 -- Laws of a pass over its queue: arcs that are tried, entries that are visited, and what the pass leaves. Assumes nothing.
 use mathlib.Core.Path.{◌≡◌, refl, sym, ap, subst, subst₂, ◌∙◌}
-use mathlib.Core.Bool.{Bool, true, false, true≢false, false≢true}
+use Rattle.std.specs.Prelude.{Option, Some, None}
+use Rattle.std.specs.Option.{IfSome, is_some}
+use Rattle.std.proofs.lemmas.Option.{none-some}
+use mathlib.Core.Bool.{true, false, true≢false, false≢true}
 use mathlib.Core.List.{List}
 use Prim.Native.Nat.{ℕ, ◌+◌, ◌*◌, ◌%◌, ◌≤◌, ◌<◌}
 use native.Mathlib.Omega.{arith}
@@ -10,10 +13,20 @@ use lib.Seq.{get_or-set_same, get_or-set_other}
 use borrow.Author.Count.{below_more}
 use Rattle.limits.specs.Ceilings.{work_words}
 use Rattle.groups.specs.Grouped.{first_place, arc_placed, InGroup}
+use Rattle.passes.specs.declared.pass.Closing.{Closing}
 use Rattle.passes.specs.Pass.{Pass, Along, Ready, closes_at}
-use Rattle.passes.specs.Queue.{node_at, charge_at, SomeEntry, Queue, Pushed, Arrived, closed, knows, rises, Grown, Covers, Closes}
+use Rattle.passes.specs.Queue.{node_at, charge_at, SomeEntry, Queue, Pushed, Arrived, closed, knows, rises, Grown, Covers}
 use Rattle.passes.specs.Queue.{Tried, Visited, Begun, Treated, Passed}
 use Rattle.passes.proofs.Queue.{along-unique, sum-set, set-low, push-queue, push-grown}
+
+-- what the test of an option says
+pub some-there : {A : Type 0} (r : Option A) → is_some r ≡ true → r ≡ None → ⊥
+some-there None t e = false≢true t
+some-there (Some x) t e = none-some x (sym e)
+
+pub none-there : {A : Type 0} (r : Option A) → is_some r ≡ false → r ≡ None
+none-there None t = refl
+none-there (Some x) t = absurd (true≢false t)
 
 -- a state is a later state of itself ..
 grown-refl : (best w : List ℕ) (tail : ℕ) → Grown best w tail best w tail
@@ -54,27 +67,27 @@ covers-step {P} {a} {v} {e} {u} {x} best s h c =
 
 -- an arc that is covered, in a later state
 tried-covered : {P : Pass} {best w best' w' : List ℕ} {tail i v e tail' : ℕ} → Queue P best' w' tail' → Grown best w tail best' w' tail'
-    → Covers P best' (arc_placed P.places i) v e → Tried P best w tail i (i + 1) v e best' w' false (arc_placed P.places i) tail'
+    → Covers P best' (arc_placed P.places i) v e → Tried P best w tail i (i + 1) v e best' w' None tail'
 tried-covered {P} {best' = best'} {i = i} {v = v} {e = e} q g c =
     record {
       queue = q;
       grown = g;
       covers = λ off j lo hi. subst (λ n. Covers P best' (arc_placed P.places n) v e) {x = i} {y = j} (omega arith) c;
-      closing = λ on. absurd (false≢true on);
+      closing = tt;
     }
 
 -- what is done where an arc arrives is what trying it asks
-pub arrived-tried : {P : Pass} {best w best' w' : List ℕ} {tail h i u x tail' : ℕ} {closes : Bool} → Queue P best w tail → h < tail
+pub arrived-tried : {P : Pass} {best w best' w' : List ℕ} {tail h i u x tail' : ℕ} {found : Option Closing} → Queue P best w tail → h < tail
     → Along P (arc_placed P.places i) (node_at w h) (charge_at w h) u x → u < length best
-    → Arrived P.goal P.least best w tail u x h (arc_placed P.places i) best' w' closes tail'
-    → Tried P best w tail i (i + 1) (node_at w h) (charge_at w h) best' w' closes (arc_placed P.places i) tail'
+    → Arrived P.goal P.least best w tail u x h (arc_placed P.places i) best' w' found tail'
+    → Tried P best w tail i (i + 1) (node_at w h) (charge_at w h) best' w' found tail'
 arrived-tried {P} {best} {w} {tail = tail} {u = u} {x = x} q hh s hu (closed c eb ew eh et) =
     rw (eb, ew, eh, et)
     (record {
       queue = q;
       grown = grown-refl best w tail;
-      covers = λ off. absurd (true≢false off);
-      closing = λ on. record { node = u; charge = x; step = s; at_goal = c };
+      covers = λ off. absurd (none-some _ (sym off));
+      closing = record { node = u; charge = x; step = s; at_goal = c };
     })
 arrived-tried {P} {best} {w} {tail = tail} q hh s hu (knows c known eb ew eh et) =
     rw (eb, ew, eh, et) (tried-covered q (grown-refl best w tail) (covers-step best s known c))
@@ -84,29 +97,25 @@ arrived-tried {P} {best} {w} {best'} {w'} {tail} {h} {i} {u} {x} q hh s hu (rise
     (tried-covered (push-queue P best w w' tail u x h a q p hh s hu up) (push-grown P best w w' tail u x h a q p hh s hu up)
     (covers-step (set best u (x + 1)) s (omega (arith, get_or-set_same best u (x + 1) 0 hu)) c))
 
+-- the arc that is found was tried at that entry
+pub arrived-entry : {goal least : ℕ} {best w best' w' : List ℕ} {tail u x h a tail' : ℕ} {found : Option Closing}
+    → Arrived goal least best w tail u x h a best' w' found tail' → IfSome found (λ k. k.head ≡ h)
+arrived-entry (closed c eb ew e et) = rw e refl
+arrived-entry (knows c known eb ew e et) = rw e tt
+arrived-entry (rises c up eb p e et) = rw e tt
+
 -- an arc that is not possible asks nothing
 pub tried-impossible : {P : Pass} {best w : List ℕ} {tail i v e : ℕ} → Queue P best w tail
     → ((u x : ℕ) → Along P (arc_placed P.places i) v e u x → ⊥)
-    → Tried P best w tail i (i + 1) v e best w false (arc_placed P.places i) tail
+    → Tried P best w tail i (i + 1) v e best w None tail
 tried-impossible {P} {best} {w} {tail} q n =
     tried-covered q (grown-refl best w tail) (record { knows = λ u x s. absurd (n u x s); passes = λ u x s. absurd (n u x s) })
 
--- no arc is tried
-pub tried-none : {P : Pass} {best w : List ℕ} {tail : ℕ} (lo v e a : ℕ) → Queue P best w tail
-    → Tried P best w tail lo lo v e best w false a tail
-tried-none {P} {best} {w} {tail} lo v e a q =
-    record {
-      queue = q;
-      grown = grown-refl best w tail;
-      covers = λ off i l h. absurd (omega arith);
-      closing = λ on. absurd (false≢true on);
-    }
-
 -- some arcs and then some more
-pub tried-more : {P : Pass} {best w b1 w1 b2 w2 : List ℕ} {tail lo mid hi v e a1 a2 t1 t2 : ℕ} {closes : Bool}
-    → Tried P best w tail lo mid v e b1 w1 false a1 t1 → Tried P b1 w1 t1 mid hi v e b2 w2 closes a2 t2
-    → Tried P best w tail lo hi v e b2 w2 closes a2 t2
-tried-more {P} {b1 = b1} {b2 = b2} {lo = lo} {mid = mid} {hi = hi} {v = v} {e = e} {closes = closes} s r =
+pub tried-more : {P : Pass} {best w b1 w1 b2 w2 : List ℕ} {tail lo mid hi v e t1 t2 : ℕ} {found : Option Closing}
+    → Tried P best w tail lo mid v e b1 w1 None t1 → Tried P b1 w1 t1 mid hi v e b2 w2 found t2
+    → Tried P best w tail lo hi v e b2 w2 found t2
+tried-more {P} {b1 = b1} {b2 = b2} {lo = lo} {mid = mid} {hi = hi} {v = v} {e = e} {found = found} s r =
     record {
       queue = r.queue;
       grown = grown-trans s.grown r.grown;
@@ -114,32 +123,26 @@ tried-more {P} {b1 = b1} {b2 = b2} {lo = lo} {mid = mid} {hi = hi} {v = v} {e = 
       closing = r.closing;
     }
   where
-    go : closes ≡ false → (i : ℕ) → lo ≤ i → i < hi → Dec (i < mid) → Covers P b2 (arc_placed P.places i) v e
+    go : found ≡ None → (i : ℕ) → lo ≤ i → i < hi → Dec (i < mid) → Covers P b2 (arc_placed P.places i) v e
     go off i l h (yes lt) = covers_up b1 b2 r.grown.up (s.covers refl i l lt)
     go off i l h (no ge) = r.covers off i (omega arith) h
 
--- where no arc closes the cycle, the number of the arc is free
-pub tried-free : {P : Pass} {best w best' w' : List ℕ} {tail lo hi v e a tail' : ℕ} {closes : Bool} (a' : ℕ) → closes ≡ false
-    → Tried P best w tail lo hi v e best' w' closes a tail' → Tried P best w tail lo hi v e best' w' false a' tail'
-tried-free a' off t = record { queue = t.queue; grown = t.grown; covers = λ e. t.covers off; closing = λ on. absurd (false≢true on) }
-
 -- where an arc closes the cycle, the arcs after it need not be tried
-pub tried-closed : {P : Pass} {best w best' w' : List ℕ} {tail lo hi v e a tail' : ℕ} {closes : Bool} (hi' : ℕ) → closes ≡ true
-    → Tried P best w tail lo hi v e best' w' closes a tail' → Tried P best w tail lo hi' v e best' w' closes a tail'
-tried-closed hi' on t =
-    record { queue = t.queue; grown = t.grown; covers = λ off. absurd (true≢false (sym on ∙ off)); closing = t.closing }
+pub tried-closed : {P : Pass} {best w best' w' : List ℕ} {tail lo hi v e tail' : ℕ} {found : Option Closing} (hi' : ℕ) → (found ≡ None → ⊥)
+    → Tried P best w tail lo hi v e best' w' found tail' → Tried P best w tail lo hi' v e best' w' found tail'
+tried-closed hi' on t = record { queue = t.queue; grown = t.grown; covers = λ off. absurd (on off); closing = t.closing }
 
 -- fewer places
-pub tried-less : {P : Pass} {best w best' w' : List ℕ} {tail lo hi hi' v e a tail' : ℕ} {closes : Bool} → hi' ≤ hi
-    → Tried P best w tail lo hi v e best' w' closes a tail' → Tried P best w tail lo hi' v e best' w' closes a tail'
+pub tried-less : {P : Pass} {best w best' w' : List ℕ} {tail lo hi hi' v e tail' : ℕ} {found : Option Closing} → hi' ≤ hi
+    → Tried P best w tail lo hi v e best' w' found tail' → Tried P best w tail lo hi' v e best' w' found tail'
 tried-less h t = record { queue = t.queue; grown = t.grown; covers = λ off i l q. t.covers off i l (omega arith); closing = t.closing }
 
 -- where the places of an entry's mode are tried, every arc is: an arc that leaves another mode asks nothing
-pub visited-tried : {P : Pass} {best w best' w' : List ℕ} {head tail a tail' m size : ℕ} {closes : Bool} → Ready P m size
+pub visited-tried : {P : Pass} {best w best' w' : List ℕ} {head tail tail' m size : ℕ} {found : Option Closing} → Ready P m size
     → Tried P best w tail (first_place P.places (node_at w head % P.net.modes)) (first_place P.places (node_at w head % P.net.modes + 1))
-    (node_at w head) (charge_at w head) best' w' closes a tail'
-    → Visited P best w tail head best' w' closes a tail'
-visited-tried {P} {w = w} {best' = best'} {head = head} {closes = closes} ready t =
+    (node_at w head) (charge_at w head) best' w' found tail'
+    → Visited P best w tail head best' w' found tail'
+visited-tried {P} {w = w} {best' = best'} {head = head} {found = found} ready t =
     record {
       queue = t.queue;
       grown = t.grown;
@@ -152,23 +155,12 @@ visited-tried {P} {w = w} {best' = best'} {head = head} {closes = closes} ready 
       closing = t.closing;
     }
   where
-    covered : closes ≡ false → (i : ℕ) → i < P.net.count → P.ok i ≡ true → P.net.graph.source i ≡ node_at w head % P.net.modes
+    covered : found ≡ None → (i : ℕ) → i < P.net.count → P.ok i ≡ true → P.net.graph.source i ≡ node_at w head % P.net.modes
         → Covers P best' i (node_at w head) (charge_at w head)
     covered off i known allowed leaves =
         let (j, p, e) = ready.grouped.placed i known (ready.allows i allowed) in
         let q : InGroup P.places (node_at w head % P.net.modes) j = rw leaves at p in
         rw e at (t.covers off j q.from q.below)
-
--- an entry whose charge is no longer the greatest of its node asks nothing
-pub visited-stale : {P : Pass} {best w : List ℕ} {head tail : ℕ} (a : ℕ) → Queue P best w tail
-    → (get_or best (node_at w head) 0 ≡ charge_at w head + 1 → ⊥) → Visited P best w tail head best w false a tail
-visited-stale {P} {best} {w} {head} {tail} a q n =
-    record {
-      queue = q;
-      grown = grown-refl best w tail;
-      covers = λ off e. absurd (n e);
-      closing = λ on. absurd (false≢true on);
-    }
 
 -- a table of zeros has 0 everywhere
 zeros : (best : List ℕ) → best ≡ replicate (length best) 0 → (v : ℕ) → get_or best v 0 ≡ 0
@@ -229,8 +221,8 @@ begun-grown {s = s} b q g =
     }
 
 -- one entry more is treated
-pub treated-more : {P : Pass} {s c head tail a tail' : ℕ} {best w best' w' : List ℕ} {closes : Bool} → closes ≡ false
-    → Treated P s c best w head tail → head < tail → Visited P best w tail head best' w' closes a tail'
+pub treated-more : {P : Pass} {s c head tail tail' : ℕ} {best w best' w' : List ℕ} {found : Option Closing} → found ≡ None
+    → Treated P s c best w head tail → head < tail → Visited P best w tail head best' w' found tail'
     → Treated P s c best' w' (head + 1) tail'
 treated-more {P} {head = head} {tail} {best = best} {w} {best'} {w'} off t h r =
     record {
@@ -254,14 +246,14 @@ treated-more {P} {head = head} {tail} {best = best} {w} {best'} {w'} off t h r =
     old i hi e n = move i (omega arith) n (covers_up best best' r.grown.up (t.treated i hi (was i (omega arith) e) n))
 
 -- every entry is treated
-pub passed-covered : {P : Pass} {s c head tail : ℕ} {best w : List ℕ} (a : ℕ) → Treated P s c best w head tail → tail ≤ head
-    → Passed P s c best w false head a tail
-passed-covered {P} {s} {c} {head} {tail} {best} {w} a t h =
+pub passed-covered : {P : Pass} {s c head tail : ℕ} {best w : List ℕ} → Treated P s c best w head tail → tail ≤ head
+    → Passed P s c best w None tail
+passed-covered {P} {s} {c} {head} {tail} {best} {w} t h =
     record {
       from = t.from;
       covers = λ off. covers;
-      before = λ on. absurd (false≢true on);
-      closing = λ on. absurd (false≢true on);
+      before = tt;
+      closing = tt;
     }
   where
     covers : (v x : ℕ) → get_or best v 0 ≡ x + 1 → (i : ℕ) → Covers P best i v x
@@ -271,16 +263,3 @@ passed-covered {P} {s} {c} {head} {tail} {best} {w} a t h =
         let nc = n.charge in
         subst₂ (λ v e. Covers P best i v e) n.node (omega arith)
         (t.treated n.index (omega arith) (ap (λ k. get_or best k 0) n.node ∙ sym n.charge) i)
-
--- an arc closes the cycle at entry i, the one that is visited
-pub passed-closed : {P : Pass} {s c i head tail a tail' : ℕ} {best w best' w' : List ℕ} {closes : Bool} → closes ≡ true → i ≡ head
-    → Treated P s c best w head tail → head < tail → Visited P best w tail head best' w' closes a tail'
-    → Passed P s c best' w' closes i a tail'
-passed-closed {P} {head = head} {a = a} on here t h r =
-    rw here
-    (record {
-      from = begun-grown t.from r.queue r.grown;
-      covers = λ off. absurd (true≢false (sym on ∙ off));
-      before = λ e. omega (arith, r.grown.more);
-      closing = λ e. let (n, c) = entry-same head r.grown h in subst₂ (λ v e. Closes P a v e) (sym n) (sym c) (r.closing on);
-    })

@@ -1,5 +1,4 @@
 -- Laws of the queue of a pass: it never overflows, and an entry that is added keeps its invariant. Assumes nothing.
-use mathlib.Core.Logic.{◌≢◌}
 use mathlib.Core.Path.{◌≡◌, refl, sym, ap, subst, ◌∙◌}
 use mathlib.Core.Bool.{Bool, true, false, ◌&&◌}
 use mathlib.Core.List.{List, [], ◌∷◌}
@@ -134,44 +133,6 @@ queue-arrives {P} {best} {w} {tail} {h} {a} {v} {e} {u} {x} r q hh hu s =
       parent = omega (arith, r.small, queue-room q);
       number = omega (arith, r.few_arcs, s.known);
       room = λ up. omega (arith, r.space, next-room u x q hu up low);
-    }
-
--- four stores from a word on keep the words before it
-sets-kept : (w : List ℕ) (at v x h a j : ℕ) → j < at
-    → get_or (set (set (set (set w at v) (at + 1) x) (at + 2) h) (at + 3) a) j 0 ≡ get_or w j 0
-sets-kept w at v x h a j l =
-    let n0 : j ≢ at = omega arith in
-    let n1 : j ≢ at + 1 = omega arith in
-    let n2 : j ≢ at + 2 = omega arith in
-    let n3 : j ≢ at + 3 = omega arith in
-    simp get_or-set_other
-
--- the four stores of a push
-pub push-sets : (w : List ℕ) (tail v x h a : ℕ) → work_words * tail + work_words ≤ length w
-    → Pushed w tail v x h a
-    (set (set (set (set w (work_words * tail) v) (work_words * tail + 1) x) (work_words * tail + 2) h) (work_words * tail + 3) a)
-push-sets w tail v x h a fits =
-    let at = work_words * tail in
-    let n01 : at ≢ at + 1 = omega arith in
-    let n02 : at ≢ at + 2 = omega arith in
-    let n03 : at ≢ at + 3 = omega arith in
-    let n12 : at + 1 ≢ at + 2 = omega arith in
-    let n13 : at + 1 ≢ at + 3 = omega arith in
-    let n23 : at + 2 ≢ at + 3 = omega arith in
-    let w1 = set w at v in
-    let w2 = set w1 (at + 1) x in
-    let w3 = set w2 (at + 2) h in
-    record {
-      size = simp length-set;
-      kept = sets-kept w at v x h a;
-      node =
-          get_or-set_other w3 (at + 3) at a 0 n03 ∙ get_or-set_other w2 (at + 2) at h 0 n02 ∙ get_or-set_other w1 (at + 1) at x 0 n01
-          ∙ get_or-set_same w at v 0 (omega arith);
-      charge =
-          get_or-set_other w3 (at + 3) (at + 1) a 0 n13 ∙ get_or-set_other w2 (at + 2) (at + 1) h 0 n12
-          ∙ get_or-set_same w1 (at + 1) x 0 (simp length-set (omega arith));
-      parent = get_or-set_other w3 (at + 3) (at + 2) a 0 n23 ∙ get_or-set_same w2 (at + 2) h 0 (simp length-set (omega arith));
-      number = get_or-set_same w3 (at + 3) a 0 (simp length-set (omega arith));
     }
 
 -- where the entries before tail are kept, one that follows from an earlier one still does ..

@@ -1,76 +1,71 @@
 -- The rows and groups of a value stand for the model that it holds: the net read from the rows is the net of the model. Assumes nothing.
 use mathlib.Core.Path.{◌≡◌, sym, ap, subst, fun_ext, ◌∙◌}
 use mathlib.Core.Bool.{Bool, false, not, ◌&&◌}
-use mathlib.Core.List.{List, [], ◌∷◌}
-use Prim.Native.Nat.{ℕ, ◌+◌, ◌*◌, ◌/◌, ◌%◌, ◌^◌, ◌<◌}
+use mathlib.Core.List.{List}
+use Prim.Native.Nat.{ℕ, ◌^◌, ◌<◌}
 use native.Mathlib.Omega.{arith}
 use native.Mathlib.Decide.{dec_lt}
 use lib.Bits.{and_zero_l}
 use lib.Dec.{eqb, ltb}
-use lib.ListN.{length, get_or, get_or-replicate, get_or-eq_default}
+use lib.ListN.{length, get_or, get_or-eq_default}
 use lib.Pow.{pow_pos}
 use borrow.Author.Tests.{lt-ltb, le-ltb}
 use Rattle.limits.specs.Ceilings.{colours_most}
 use Rattle.model.specs.declared.Arc.{Arc}
 use Rattle.model.specs.declared.Model.{Model}
 use Rattle.model.specs.Automaton.{no_arc, arc_at, has_barred}
-use Rattle.model.specs.Required.{digit, required, compressed}
+use Rattle.model.specs.Required.{required, compressed}
 use Rattle.model.specs.Lists.{held}
 use Rattle.model.specs.Fitness.{Holds}
 use Rattle.model.proofs.Bits.{colours-below}
 use Rattle.model.proofs.Barred.{common-mask}
-use Rattle.model.proofs.Required.{digit-half, digit-odd, compressed-zero}
+use Rattle.model.proofs.Required.{compressed-zero}
 use Rattle.model.proofs.Held.{held-arc}
 use Rattle.switches.specs.Switches.{is_on}
 use Rattle.nets.specs.Net.{Net, Fits}
 use Rattle.nets.specs.Whole.{whole}
 use Rattle.nets.proofs.Whole.{whole-fits}
 use Rattle.groups.specs.Groups.{places_of}
-use Rattle.groups.specs.Rows.{row_words, barred_in, colour_word, row_of, rows_of, arc_in, source_at, target_at, draw_at, gain_at, colours_at, barred_at, on_at}
+use Rattle.groups.specs.declared.Row.{Row}
+use Rattle.groups.specs.Rows.{no_row, barred_in, row_of, rows_of, arc_in, source_at, target_at, draw_at, gain_at, colours_at, barred_at, on_at}
 use Rattle.groups.specs.Grouped.{arc_count, Grouped}
 use Rattle.groups.proofs.Rows.{row_at, row-none}
-use Rattle.groups.proofs.Grouping.{digit-one, given-numbers, holds-grouped, all-counted, grouped-same}
+use Rattle.groups.proofs.Grouping.{given-numbers, holds-grouped, all-counted, grouped-same}
 use Rattle.passes.specs.RowsNet.{fields_net, rows_net}
 
 module _ (g : Model) (x : ℕ) (on : List ℕ) (h : Holds g) where
-  -- no colour, no word
-  word_none : colour_word x 0 ≡ 0
-  word_none =
-      ap {B = ℕ} (λ (w : ℕ). 2 * w + digit (barred_in x 0)) (compressed-zero x colours_most)
-      ∙ ap {B = ℕ} (λ (w : ℕ). 2 * 0 + digit (not (eqb w 0))) (and_zero_l x)
+  -- no arc, no row
+  row_none : row_of x false no_arc ≡ no_row
+  row_none =
+      ap {B = Row} (λ (w : ℕ). record no_row { colours = w; barred = barred_in x 0 }) (compressed-zero x colours_most)
+      ∙ ap {B = Row} (λ (w : ℕ). record no_row { barred = not (eqb w 0) }) (and_zero_l x)
 
   -- arc a is there and on
   abbrev stands : ℕ → Bool
   stands a = ltb a (length (held g).arcs) && is_on on a
 
-  -- a word of the row of arc a is what is read of the model's arc, for every number a: past the last arc both are blank
-  row_word : (a j : ℕ) → j < row_words → get_or (rows_of g x on) (row_words * a + j) 0 ≡ get_or (row_of x (stands a) (arc_at (held g) a)) j 0
-  row_word a j hj = go (dec_lt a g.count)
+  -- the row of arc a is what is read of the model's arc, for every number a: past the last arc both are blank
+  row-arc : (a : ℕ) → get_or (rows_of g x on) a no_row ≡ row_of x (stands a) (arc_at (held g) a)
+  row-arc a = go (dec_lt a g.count)
     where
-      blank : (j : ℕ) → j < row_words → get_or (row_of x false no_arc) j 0 ≡ 0
-      blank j q = ap {B = ℕ} (λ (w : ℕ). get_or (0 ∷ 0 ∷ 0 ∷ 0 ∷ w ∷ 0 ∷ []) j 0) word_none ∙ get_or-replicate {A = ℕ} row_words j 0 0 q
-
-      go : Dec (a < g.count) → get_or (rows_of g x on) (row_words * a + j) 0 ≡ get_or (row_of x (stands a) (arc_at (held g) a)) j 0
+      go : Dec (a < g.count) → get_or (rows_of g x on) a no_row ≡ row_of x (stands a) (arc_at (held g) a)
       go (yes l) =
           let there : stands a ≡ is_on on a =
           ap {B = Bool} (λ (t : Bool). t && is_on on a) (lt-ltb a (length (held g).arcs) (omega (arith, h.count))) in
-          row_at x on (arc_in g) g.count a j l hj
-          ∙ ap {B = ℕ} (λ (y : Arc). get_or (row_of x (is_on on a) y) j 0) (sym (held-arc g a l))
-          ∙ ap {B = ℕ} (λ (o : Bool). get_or (row_of x o (arc_at (held g) a)) j 0) (sym there)
+          row_at x on (arc_in g) g.count a l
+          ∙ ap {B = Row} (row_of x (is_on on a)) (sym (held-arc g a l))
+          ∙ ap {B = Row} (λ (o : Bool). row_of x o (arc_at (held g) a)) (sym there)
       go (no l) =
           let none : arc_at (held g) a ≡ no_arc = get_or-eq_default (held g).arcs no_arc {n = a} (omega (arith, h.count)) in
           let off : stands a ≡ false =
           ap {B = Bool} (λ (t : Bool). t && is_on on a) (le-ltb a (length (held g).arcs) (omega (arith, h.count))) in
-          row-none x on (arc_in g) g.count (row_words * a + j) (omega arith)
+          row-none x on (arc_in g) g.count a (omega arith)
           ∙ sym (
-          ap {B = ℕ} (λ (y : Arc). get_or (row_of x (stands a) y) j 0) none ∙ ap {B = ℕ} (λ (o : Bool). get_or (row_of x o no_arc) j 0) off
-          ∙ blank j hj
+          ap {B = Row} (row_of x (stands a)) none ∙ ap {B = Row} (λ (o : Bool). row_of x o no_arc) off ∙ row_none
           )
 
   row-source : (a : ℕ) → source_at (rows_of g x on) a ≡ (arc_at (held g) a).source
-  row-source a =
-      let e : row_words * a + 0 ≡ row_words * a = omega arith in
-      ap {B = ℕ} (λ k. get_or (rows_of g x on) k 0) (sym e) ∙ row_word a 0 (omega arith)
+  row-source a = ap {B = ℕ} (λ (r : Row). r.source) (row-arc a)
 
   -- the colours of every arc are below 2 ^ k, past the last arc too
   colours-low : (a : ℕ) → (arc_at (held g) a).colours < 2 ^ g.colours
@@ -82,21 +77,17 @@ module _ (g : Model) (x : ℕ) (on : List ℕ) (h : Holds g) where
           let none : arc_at (held g) a ≡ no_arc = get_or-eq_default (held g).arcs no_arc {n = a} (omega arith) in
           subst (λ (y : Arc). y.colours < 2 ^ g.colours) (sym none) (pow_pos g.colours)
 
-  -- what is read of the word of the colours
+  -- what is read of the colours
   row-colours : (a : ℕ) → colours_at (rows_of g x on) a ≡ compressed x (arc_at (held g) a).colours
-  row-colours a =
-      let y = (arc_at (held g) a).colours in
-      ap {B = ℕ} (λ (w : ℕ). w / 2) (row_word a 4 (omega arith)) ∙ digit-half (compressed x y) (barred_in x y)
+  row-colours a = ap {B = ℕ} (λ (r : Row). r.colours) (row-arc a)
 
   pub row-barred : (a : ℕ) → barred_at (rows_of g x on) a ≡ has_barred (held g) x a
   row-barred a =
-      let y = (arc_at (held g) a).colours in
-      ap {B = Bool} (λ (w : ℕ). eqb (w % 2) 1) (row_word a 4 (omega arith)) ∙ digit-odd (compressed x y) (barred_in x y)
-      ∙ sym (common-mask x y g.colours (colours-low a))
+      ap {B = Bool} (λ (r : Row). r.barred) (row-arc a) ∙ sym (common-mask x (arc_at (held g) a).colours g.colours (colours-low a))
 
-  -- and of the word of the switch
+  -- and of the switch
   row_on : (a : ℕ) → on_at (rows_of g x on) a ≡ stands a
-  row_on a = ap {B = Bool} (λ (w : ℕ). eqb w 1) (row_word a 5 (omega arith)) ∙ digit-one (stands a)
+  row_on a = ap {B = Bool} (λ (r : Row). r.on) (row-arc a)
 
   -- the number of arcs that the groups have is the model's
   pub count_same : arc_count (places_of g on) g.modes ≡ g.count
@@ -119,11 +110,11 @@ module _ (g : Model) (x : ℕ) (on : List ℕ) (h : Holds g) where
       let m = arc_count (places_of g on) g.modes in
       ap {B = Net} (λ (f : ℕ → ℕ). fields_net f (target_at w) (draw_at w) (gain_at w) (colours_at w) (barred_at w) (on_at w) n s k m) (fun_ext row-source)
       ∙ ap {B = Net} (λ (f : ℕ → ℕ). fields_net source f (draw_at w) (gain_at w) (colours_at w) (barred_at w) (on_at w) n s k m)
-      (fun_ext (λ a. row_word a 1 (omega arith)))
+      (fun_ext (λ a. ap {B = ℕ} (λ (r : Row). r.target) (row-arc a)))
       ∙ ap {B = Net} (λ (f : ℕ → ℕ). fields_net source target f (gain_at w) (colours_at w) (barred_at w) (on_at w) n s k m)
-      (fun_ext (λ a. row_word a 2 (omega arith)))
+      (fun_ext (λ a. ap {B = ℕ} (λ (r : Row). r.draw) (row-arc a)))
       ∙ ap {B = Net} (λ (f : ℕ → ℕ). fields_net source target draw f (colours_at w) (barred_at w) (on_at w) n s k m)
-      (fun_ext (λ a. row_word a 3 (omega arith)))
+      (fun_ext (λ a. ap {B = ℕ} (λ (r : Row). r.gain) (row-arc a)))
       ∙ ap {B = Net} (λ (f : ℕ → ℕ). fields_net source target draw gain f (barred_at w) (on_at w) n s k m) (fun_ext row-colours)
       ∙ ap {B = Net} (λ (f : ℕ → Bool). fields_net source target draw gain colours f (on_at w) n s k m) (fun_ext row-barred)
       ∙ ap {B = Net} (λ (f : ℕ → Bool). fields_net source target draw gain colours barred f n s k m) (fun_ext row_on)

@@ -20,10 +20,14 @@ chain-le {j = j} l (link {p = p} {d = d} pos e k) h =
     let r = chain-le l k (omega arith) in
     omega arith
 
--- the first entry has no parent
-chain-zero : {w : List ℕ} {j d : ℕ} → Chain w j d → j ≡ 0 → d ≡ 0
+-- the first entry alone has no parent
+chain-zero : {w : List ℕ} {j d : ℕ} → Chain w j d → d ≡ 0 → j ≡ 0
 chain-zero root e = refl
 chain-zero (link pos e k) z = absurd (omega arith)
+
+chain-some : {w : List ℕ} {j d : ℕ} → Chain w j d → 0 < d → 0 < j
+chain-some root h = absurd (omega arith)
+chain-some (link pos e k) h = pos
 
 -- one parent fewer from the parent
 chain_next : {w : List ℕ} {j d : ℕ} → Chain w j d → 0 < j → (k : ℕ) × (d ≡ k + 1) × Chain w (parent_at w j) k
@@ -92,20 +96,19 @@ tracing-more {w} {i} {len} {j} {at} {plan₀} {plan} v p l fits t pos ev ep = go
         })
 
 -- every arc is stored
-pub tracing-all : {w : List ℕ} {i len j at : ℕ} {plan₀ plan : List ℕ} → Linked w i → Chain w i len → Tracing w i len plan₀ plan j at → j ≤ 0
+pub tracing-all : {w : List ℕ} {i len j at : ℕ} {plan₀ plan : List ℕ} → Linked w i → Chain w i len → Tracing w i len plan₀ plan j at → at ≡ 0
     → Wrote w i plan₀ plan len
-tracing-all {w} {i} {len} {j} {at} {plan₀} {plan} l c t h =
-    let e : j ≡ 0 = omega arith in
-    let z : at ≡ 0 = chain-zero t.chain e in
+tracing-all {w} {i} {len} {j} {at} {plan₀} {plan} l c t z =
+    let e : j ≡ 0 = chain-zero t.chain z in
     record {
       few = chain-le l c (omega arith);
       arcs = subst₂ (λ a b. Traced w i a (slice b len plan)) e z t.arcs;
       later = t.later;
     }
 
--- while an entry has a parent, a byte is left
-pub tracing-some : {w : List ℕ} {i len j at : ℕ} {plan₀ plan : List ℕ} → Tracing w i len plan₀ plan j at → 0 < j → 0 < at
-tracing-some t pos = omega (arith, (chain_next t.chain pos).1)
+-- while a byte is left, the entry has a parent
+pub tracing-some : {w : List ℕ} {i len j at : ℕ} {plan₀ plan : List ℕ} → Tracing w i len plan₀ plan j at → 0 < at → 0 < j
+tracing-some t h = chain-some t.chain h
 
 -- the entries of a queue can be read back
 pub queue-linked : {P : Pass} {best w : List ℕ} {tail i : ℕ} → Ready P (length best) (length w) → Queue P best w tail → i < tail

@@ -1,4 +1,4 @@
--- What the contracts of the pass and of search's inner functions say: the net of rows of words, the pass, its queue, the arcs read back, what the passes
+-- What the contracts of the pass and of search's inner functions say: the net of rows, the pass, its queue, the arcs read back, what the passes
 -- of a search come to, and what the functions of a pass are given (Tasks). No public promise rests on these words.
 pub mod RowsNet
 pub mod Pass

@@ -1,8 +1,11 @@
 -- The queue of a pass in the working space, four words for each entry, and the table of the greatest charges. Document 01, "Ceilings":
 -- "Working space: 4 × (k+1) × n × (b+1) words."
-use Rattle.std.specs.Prelude.{◌≡◌, Bool, true, false, List, [], ◌∷◌, ℕ, ◌+◌, ◌*◌, ◌≤◌, ◌<◌, length, get_or, set}
+use Rattle.std.specs.Prelude.{◌≡◌, true, false, Option, Some, None, List, [], ◌∷◌, ℕ, ◌+◌, ◌*◌, ◌≤◌, ◌<◌, length, get_or, set}
+use Rattle.std.specs.Option.{IfSome}
 use Rattle.limits.specs.Ceilings.{work_words}
 use Rattle.groups.specs.Grouped.{arc_placed}
+use Rattle.passes.specs.declared.entries.EntryWords.{EntryWords}
+use Rattle.passes.specs.declared.pass.Closing.{Closing}
 use Rattle.passes.specs.Pass.{Pass, Along, Ready, closes_at}
 
 -- the numbers that a word holds, and a byte
@@ -12,7 +15,7 @@ word_count = 65536
 abbrev pub byte_count : ℕ
 byte_count = 256
 
--- SomeEntry i: a node, the charge with which it was reached, the entry that it was reached from, and the arc.
+-- Entry i: a node, the charge with which it was reached, the entry that it was reached from, and the arc.
 abbrev pub node_at : List ℕ → ℕ → ℕ
 node_at w i = get_or w (work_words * i) 0
 
@@ -24,6 +27,9 @@ parent_at w i = get_or w (work_words * i + 2) 0
 
 abbrev pub number_at : List ℕ → ℕ → ℕ
 number_at w i = get_or w (work_words * i + 3) 0
+
+abbrev pub words_at : List ℕ → ℕ → EntryWords
+words_at w i = record { node = node_at w i; charge = charge_at w i; parent = parent_at w i; arc = number_at w i }
 
 -- what the words of a list add up to
 unfoldable pub sum : List ℕ → ℕ
@@ -78,13 +84,13 @@ pub record Arrives (best w : List ℕ) (tail u x h a : ℕ) : Type 0 where
 
 -- What is done there: nothing where the arc closes the cycle, nothing where the table knows as much, and else the table rises and an entry is
 -- added.
-pub data Arrived (goal least : ℕ) (best w : List ℕ) (tail u x h a : ℕ) (best' w' : List ℕ) (closes : Bool) (tail' : ℕ) : Type 0 where
-  closed : closes_at goal least u x ≡ true → best' ≡ best → w' ≡ w → closes ≡ true → tail' ≡ tail
-      → Arrived goal least best w tail u x h a best' w' closes tail'
-  knows : closes_at goal least u x ≡ false → x + 1 ≤ get_or best u 0 → best' ≡ best → w' ≡ w → closes ≡ false → tail' ≡ tail
-      → Arrived goal least best w tail u x h a best' w' closes tail'
-  rises : closes_at goal least u x ≡ false → get_or best u 0 < x + 1 → best' ≡ set best u (x + 1) → Pushed w tail u x h a w' → closes ≡ false
-      → tail' ≡ tail + 1 → Arrived goal least best w tail u x h a best' w' closes tail'
+pub data Arrived (goal least : ℕ) (best w : List ℕ) (tail u x h a : ℕ) (best' w' : List ℕ) (found : Option Closing) (tail' : ℕ) : Type 0 where
+  closed : closes_at goal least u x ≡ true → best' ≡ best → w' ≡ w → found ≡ Some (record { head = h; arc = a }) → tail' ≡ tail
+      → Arrived goal least best w tail u x h a best' w' found tail'
+  knows : closes_at goal least u x ≡ false → x + 1 ≤ get_or best u 0 → best' ≡ best → w' ≡ w → found ≡ None → tail' ≡ tail
+      → Arrived goal least best w tail u x h a best' w' found tail'
+  rises : closes_at goal least u x ≡ false → get_or best u 0 < x + 1 → best' ≡ set best u (x + 1) → Pushed w tail u x h a w' → found ≡ None
+      → tail' ≡ tail + 1 → Arrived goal least best w tail u x h a best' w' found tail'
 
 -- a later state: entries are only added, and no word of the table falls
 pub record Grown (best w : List ℕ) (tail : ℕ) (best' w' : List ℕ) (tail' : ℕ) : Type 0 where
@@ -106,19 +112,19 @@ pub record Closes (P : Pass) (a v e : ℕ) : Type 0 where
   pub step : Along P a v e node charge
   pub at_goal : closes_at P.goal P.least node charge ≡ true
 
--- what trying the arcs at the places from lo on and below hi at (v, e) gives: all are covered, or arc a closes the cycle
-pub record Tried (P : Pass) (best w : List ℕ) (tail lo hi v e : ℕ) (best' w' : List ℕ) (closes : Bool) (a tail' : ℕ) : Type 0 where
+-- what trying the arcs at the places from lo on and below hi at (v, e) gives: all are covered, or the arc that is found closes the cycle
+pub record Tried (P : Pass) (best w : List ℕ) (tail lo hi v e : ℕ) (best' w' : List ℕ) (found : Option Closing) (tail' : ℕ) : Type 0 where
   pub queue : Queue P best' w' tail'
   pub grown : Grown best w tail best' w' tail'
-  pub covers : closes ≡ false → (i : ℕ) → lo ≤ i → i < hi → Covers P best' (arc_placed P.places i) v e
-  pub closing : closes ≡ true → Closes P a v e
+  pub covers : found ≡ None → (i : ℕ) → lo ≤ i → i < hi → Covers P best' (arc_placed P.places i) v e
+  pub closing : IfSome found (λ k. Closes P k.arc v e)
 
 -- what a visit of entry head gives: the same for every arc, or nothing where the entry's charge is no longer the greatest of its node
-pub record Visited (P : Pass) (best w : List ℕ) (tail head : ℕ) (best' w' : List ℕ) (closes : Bool) (a tail' : ℕ) : Type 0 where
+pub record Visited (P : Pass) (best w : List ℕ) (tail head : ℕ) (best' w' : List ℕ) (found : Option Closing) (tail' : ℕ) : Type 0 where
   pub queue : Queue P best' w' tail'
   pub grown : Grown best w tail best' w' tail'
-  pub covers : closes ≡ false → get_or best (node_at w head) 0 ≡ charge_at w head + 1 → (i : ℕ) → Covers P best' i (node_at w head) (charge_at w head)
-  pub closing : closes ≡ true → Closes P a (node_at w head) (charge_at w head)
+  pub covers : found ≡ None → get_or best (node_at w head) 0 ≡ charge_at w head + 1 → (i : ℕ) → Covers P best' i (node_at w head) (charge_at w head)
+  pub closing : IfSome found (λ k. Closes P k.arc (node_at w head) (charge_at w head))
 
 -- a queue from the first entry (s, c)
 pub record Begun (P : Pass) (s c : ℕ) (best w : List ℕ) (tail : ℕ) : Type 0 where
@@ -132,9 +138,9 @@ pub record Treated (P : Pass) (s c : ℕ) (best w : List ℕ) (head tail : ℕ) 
   pub from : Begun P s c best w tail
   pub treated : (i : ℕ) → i < head → get_or best (node_at w i) 0 ≡ charge_at w i + 1 → (a : ℕ) → Covers P best a (node_at w i) (charge_at w i)
 
--- what a pass leaves: every greatest charge is covered, or arc a closes the cycle at entry head
-pub record Passed (P : Pass) (s c : ℕ) (best w : List ℕ) (found : Bool) (head a tail : ℕ) : Type 0 where
+-- what a pass leaves: every greatest charge is covered, or the arc that is found closes the cycle at its entry
+pub record Passed (P : Pass) (s c : ℕ) (best w : List ℕ) (found : Option Closing) (tail : ℕ) : Type 0 where
   pub from : Begun P s c best w tail
-  pub covers : found ≡ false → (v x : ℕ) → get_or best v 0 ≡ x + 1 → (i : ℕ) → Covers P best i v x
-  pub before : found ≡ true → head < tail
-  pub closing : found ≡ true → Closes P a (node_at w head) (charge_at w head)
+  pub covers : found ≡ None → (v x : ℕ) → get_or best v 0 ≡ x + 1 → (i : ℕ) → Covers P best i v x
+  pub before : IfSome found (λ k. k.head < tail)
+  pub closing : IfSome found (λ k. Closes P k.arc (node_at w k.head) (charge_at w k.head))

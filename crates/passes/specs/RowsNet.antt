@@ -1,8 +1,9 @@
--- The net of arcs that stand in rows of words (groups Rows): what a pass, or the closing of a table, knows of a model.
+-- The net of arcs that stand in rows (groups Rows): what a pass, or the closing of a table, knows of a model.
 use Rattle.std.specs.Prelude.{ℕ, Bool, not, List}
 use Rattle.model.specs.Automaton.{bit}
 use Rattle.nets.specs.Graph.{Graph}
 use Rattle.nets.specs.Net.{Net}
+use Rattle.groups.specs.declared.Row.{Row}
 use Rattle.groups.specs.Rows.{source_at, target_at, draw_at, gain_at, colours_at, barred_at, on_at}
 
 -- the graph of arcs by their fields
@@ -24,8 +25,8 @@ fields_net source target draw gain colours barred on n s k m =
     }
 
 -- the graph, and the net, of arcs that stand in rows
-abbrev pub rows_graph : List ℕ → Graph
+abbrev pub rows_graph : List Row → Graph
 rows_graph rows = fields_graph (source_at rows) (target_at rows) (draw_at rows) (gain_at rows)
 
-abbrev pub rows_net : List ℕ → ℕ → ℕ → ℕ → ℕ → Net
+abbrev pub rows_net : List Row → ℕ → ℕ → ℕ → ℕ → Net
 rows_net rows = fields_net (source_at rows) (target_at rows) (draw_at rows) (gain_at rows) (colours_at rows) (barred_at rows) (on_at rows)

@@ -1,84 +1,45 @@
-// The entries of the queue in the working space: four words each, for the node, the charge, the entry that it was reached from and the arc.
-// Writing them, and reading the arcs back.
-ghost use Rattle.std.specs.Prelude.{◌≡◌, ◌+◌, ◌*◌, ◌≤◌, ◌<◌, length, replicate};
+// The entries of the queue in the working space, four words each: writing them, and reading the arcs back. C lends the space as words, so that the
+// entries are no array of structs.
+ghost use Rattle.std.specs.Prelude.{◌≡◌, ◌+◌, ◌*◌, ◌≤◌, ◌<◌, length};
 ghost use Rattle.limits.specs.Ceilings.{work_words};
-ghost use Rattle.passes.specs.Queue.{byte_count, node_at, charge_at, parent_at, number_at, Pushed};
+ghost use Rattle.passes.specs.Queue.{words_at, Pushed};
 ghost use Rattle.passes.specs.Trace.{Linked, Chain, Wrote};
 
 use limits::Limits;
 
-// A word as an index.
-pub fn index(x: u16) -> usize
-    ensures { result ≡ x }
-{
-    x as usize
-}
-
-// Sets every word to 0.
-pub fn clear(words: &mut [u16])
-    ensures { words.new ≡ replicate (length words.old) 0 }
-{
-    let mut i = 0;
-    while i < words.len() {
-        words[i] = 0;
-        i += 1;
-    }
+// The four words of an entry: the node, the charge with which it was reached, the entry that it was reached from and the arc.
+#[derive(Clone, Copy)]
+pub struct EntryWords {
+    pub node: u16,
+    pub charge: u16,
+    pub parent: u16,
+    pub arc: u16,
 }
 
 // Writes the entry with number tail.
-pub fn push(work: &mut [u16], tail: usize, node: u16, charge: u16, parent: u16, arc: u16)
+pub fn push(work: &mut [u16], tail: usize, words: EntryWords)
     requires { work_words * tail + work_words ≤ length work.old }
-    ensures { Pushed work.old tail node charge parent arc work.new }
+    ensures { Pushed work.old tail words.node words.charge words.parent words.arc work.new }
 {
     let at = Limits::WORK_WORDS * tail;
-    work[at] = node;
-    work[at + 1] = charge;
-    work[at + 2] = parent;
-    work[at + 3] = arc;
+    work[at] = words.node;
+    work[at + 1] = words.charge;
+    work[at + 2] = words.parent;
+    work[at + 3] = words.arc;
 }
 
-// The node of an entry.
-pub fn node_of(work: &[u16], i: usize) -> usize
+// The words of entry i.
+pub fn words_of(work: &[u16], i: usize) -> EntryWords
     requires { work_words * i + work_words ≤ length work.now }
-    ensures { result ≡ node_at work.now i }
+    ensures { result ≡ words_at work.now i }
 {
     let at = Limits::WORK_WORDS * i;
-    index(work[at])
-}
-
-// The charge of an entry.
-pub fn charge_of(work: &[u16], i: usize) -> u16
-    requires { work_words * i + work_words ≤ length work.now }
-    ensures { result ≡ charge_at work.now i }
-{
-    let at = Limits::WORK_WORDS * i + 1;
-    work[at]
-}
-
-// The entry that an entry was reached from.
-fn parent_of(work: &[u16], i: usize) -> usize
-    requires { work_words * i + work_words ≤ length work.now }
-    ensures { result ≡ parent_at work.now i }
-{
-    let at = Limits::WORK_WORDS * i + 2;
-    index(work[at])
-}
-
-// A word that is a byte.
-fn narrow(x: u16) -> u8
-    requires { x < byte_count }
-    ensures { result ≡ x }
-{
-    x as u8
-}
-
-// The arc that an entry was reached by.
-fn arc_of(work: &[u16], i: usize) -> u8
-    requires { (work_words * i + work_words ≤ length work.now) × (number_at work.now i < byte_count) }
-    ensures { result ≡ number_at work.now i }
-{
-    let at = Limits::WORK_WORDS * i + 3;
-    narrow(work[at])
+    EntryWords {
+        node: work[at],
+        charge: work[at + 1],
+        parent: work[at + 2],
+        arc: work[at + 3],
+    }
 }
 
 // The number of arcs from the first entry to an entry.
@@ -86,10 +47,11 @@ fn depth(work: &[u16], i: usize) -> usize
     requires { Linked work.now i }
     ensures { Chain work.now i result }
 {
+    // Not a `for`: it follows parents until the first entry, and their number is what is asked.
     let mut j = i;
     let mut steps: usize = 0;
     while 0 < j {
-        j = parent_of(work, j);
+        j = usize::from(words_of(work, j).parent);
         steps += 1;
     }
     steps
@@ -102,11 +64,10 @@ pub fn trace(work: &[u16], i: usize, plan: &mut [u8]) -> usize
 {
     let steps = depth(work, i);
     let mut entry = i;
-    let mut at = steps;
-    while 0 < entry {
-        at -= 1;
-        plan[at] = arc_of(work, entry);
-        entry = parent_of(work, entry);
+    for at in (0..steps).rev() {
+        let words = words_of(work, entry);
+        plan[at] = words.arc as u8;
+        entry = usize::from(words.parent);
     }
     steps
 }

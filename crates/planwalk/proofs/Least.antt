@@ -1,4 +1,6 @@
 -- What "met" and "spent" say, of any list of arcs and of the call on all inputs. Assumes nothing.
+use Rattle.std.specs.Prelude.{Result, Ok, Err}
+use Rattle.refusals.specs.Refusals.{Verdict}
 use mathlib.Core.Path.{◌≡◌, refl, sym, ap, ◌∙◌, subst}
 use mathlib.Core.Bool.{Bool, true, false}
 use mathlib.Core.List.{List, [], ◌∷◌, ◌++◌}
@@ -11,9 +13,6 @@ use lib.Seq.{length-take-le, take-append-add, get_or-take, get_or-append-add}
 use Rattle.walks.specs.Walk.{times}
 use Rattle.refusals.specs.declared.Refusal.{Refusal}
 use Rattle.refusals.specs.declared.Refusal.TheVariants.{NoSuchColour}
-use Rattle.refusals.specs.declared.Verdict.{Verdict}
-use Rattle.refusals.specs.declared.Verdict.TheVariants.{Yes}
-use Rattle.refusals.specs.declared.Verdict.TheVariants as verdict
 use Rattle.refusals.proofs.Verdicts.{clash}
 use Rattle.refusals.proofs.Scan.{FirstOf}
 use Rattle.model.specs.Automaton.{Automaton, bit, meets}
@@ -24,7 +23,8 @@ use Rattle.model.proofs.SomeArc.{some_at, some_right, some-times}
 use Rattle.judge.specs.Shape.{plan_of}
 use Rattle.judge.specs.Judged.{judged}
 use Rattle.judge.proofs.Judged.{judged-yes}
-use Rattle.planwalk.specs.declared.Walked.TheVariants.{Met, Spent, Refused}
+use Rattle.planwalk.specs.declared.Walked.{Walked}
+use Rattle.planwalk.specs.declared.Walked.TheVariants.{Met, Spent}
 use Rattle.planwalk.specs.Walked.{steps_of_plan, met_or, walk_of, first_met}
 use Rattle.planwalk.proofs.Steps.{walk-least}
 use Rattle.planwalk.proofs.Walking.{steps-whole}
@@ -43,6 +43,13 @@ first_or_none test (suc n) = go (first_or_none test n) (test n) refl
     go (inr none) true e = inl (n, record { within = omega arith; passes = e; before = none })
     go (inr none) false e =
         inr (λ j h. elim (dec_le n j) [ yes q ↦ (let same : j ≡ n = omega arith in rw same e) | no q ↦ none j (omega arith) ])
+
+-- two walks that are not refused are the same exactly where they end alike
+same-ok : {x y : Walked} → x ≡ y → ◌≡◌ {A = Result Walked Refusal} (Ok x) (Ok y)
+same-ok = ap {B = Result Walked Refusal} (λ (v : Walked). Ok v)
+
+ok-same : {x y : Walked} → ◌≡◌ {A = Result Walked Refusal} (Ok x) (Ok y) → x ≡ y
+ok-same e = cc
 
 module _ (g : Automaton) (j : ℕ) where
   -- the first step that meets the colour is answered
@@ -75,10 +82,6 @@ module _ (g : Automaton) (j : ℕ) where
     pub first-spent : (x : ℕ) → (first_met g j w i ≡ Spent x) ↔ ((x ≡ i + length w) × ((a : ℕ) → a < length w → meets g j (get_or w a 0) ≡ false))
     first-spent x = (λ q. ⊎_elim (λ (a, f, e). clash (cc)) (λ (none, e). (cc, none)) first_ends, λ (q, none). none-met w i none ∙ ap Spent (sym q))
 
-    -- no refusal is answered
-    first-not-refused : {X : Type 0} (r : Refusal) → first_met g j w i ≡ Refused r → X
-    first-not-refused r q = ⊎_elim (λ (a, f, e). clash (cc)) (λ (none, e). clash (cc)) first_ends
-
   -- where an arc of the list meets the colour, "met" is answered, whatever stands behind the list
   meets-met : (w v : List ℕ) (i : ℕ) → Meets g j w → (x : ℕ) × (first_met g j (w ++ v) i ≡ Met x)
   unfolding first_met
@@ -86,7 +89,7 @@ module _ (g : Automaton) (j : ℕ) where
   meets-met (a ∷ w) v i m = go (meets g j a) m (meets-met w v (suc i))
     where
       go : (b : Bool) → (b ≡ true) ⊎ Meets g j w → (Meets g j w → (x : ℕ) × (first_met g j (w ++ v) (suc i) ≡ Met x))
-          → (x : ℕ) × (met_or b (suc i) (first_met g j (w ++ v) (suc i)) ≡ Met x)
+          → (x : ℕ) × (met_or b (Met (suc i)) (first_met g j (w ++ v) (suc i)) ≡ Met x)
       go true m rest = (suc i, refl)
       go false (inl met) rest = clash (cc)
       go false (inr later) rest = rest later
@@ -128,23 +131,23 @@ module _ (n s k : ℕ) (l : Lists) (x b c p q : ℕ) (w : List ℕ) (j t : ℕ) 
   meets_at a = meets (automaton_of n s k l) j (get_or (steps_of_plan (plan_of p w) t) a 0)
 
   -- judging refuses the plan, or the model has no such colour, or the plan is walked
-  walk-cases : ((r : Refusal) × (judged n s k l x b c p q w ≡ verdict.Refused r)) ⊎ (judged n s k l x b c p q w ≡ Yes) × ((k ≤ j) ⊎ (j < k))
+  walk-cases : ((r : Refusal) × (judged n s k l x b c p q w ≡ Err r)) ⊎ (judged n s k l x b c p q w ≡ Ok tt) × ((k ≤ j) ⊎ (j < k))
   walk-cases = go (judged n s k l x b c p q w) refl
     where
       go : (v : Verdict) → judged n s k l x b c p q w ≡ v
-          → ((r : Refusal) × (judged n s k l x b c p q w ≡ verdict.Refused r)) ⊎ (judged n s k l x b c p q w ≡ Yes) × ((k ≤ j) ⊎ (j < k))
-      go (verdict.Refused r) e = inl (r, e)
-      go Yes e = inr (e, elim (dec_le k j) [ yes h ↦ inl h | no h ↦ inr (omega arith) ])
+          → ((r : Refusal) × (judged n s k l x b c p q w ≡ Err r)) ⊎ (judged n s k l x b c p q w ≡ Ok tt) × ((k ≤ j) ⊎ (j < k))
+      go (Err r) e = inl (r, e)
+      go (Ok _) e = inr (e, elim (dec_le k j) [ yes h ↦ inl h | no h ↦ inr (omega arith) ])
 
   -- a plan is walked only where judging accepts it and the model has the colour
-  walked-only : ((r : Refusal) → walk_of n s k l x b c p q w j t ≡ Refused r → ⊥) → (judged n s k l x b c p q w ≡ Yes) × (j < k)
+  walked-only : ((r : Refusal) → walk_of n s k l x b c p q w j t ≡ Err r → ⊥) → (judged n s k l x b c p q w ≡ Ok tt) × (j < k)
   walked-only through =
       ⊎_elim
       (λ (r, e). absurd (through r (walk_refused n s k l x b c p q w j t r e)))
       (λ (e, colour). (e, ⊎_elim (λ h. absurd (through NoSuchColour (walk-no-colour n s k l x b c p q w j t e h))) (λ h. h) colour))
       walk-cases
 
-  module _ (accepted : judged n s k l x b c p q w ≡ Yes) where
+  module _ (accepted : judged n s k l x b c p q w ≡ Ok tt) where
     -- the walk of a plan has as many steps as the allowance
     long : length (steps_of_plan (plan_of p w) t) ≡ t
     long = steps-length (plan_of p w) t ((judged-yes n s k l x b c p q w).0 accepted).serves.plan.has_arc
@@ -153,8 +156,8 @@ module _ (n s k : ℕ) (l : Lists) (x b c p q : ℕ) (w : List ℕ) (j t : ℕ) 
   module _ (few : t < 2 ^ 16) where
     -- The call is refused exactly by what judging refuses the plan by, or by 18 where judging accepts it. "The walk may still be given a barred
     -- colour": 18 is answered by k alone.
-    pub walk-refused-by : (r : Refusal) → (walk_of n s k l x b c p q w j t ≡ Refused r)
-        ↔ ((judged n s k l x b c p q w ≡ verdict.Refused r) ⊎ ((judged n s k l x b c p q w ≡ Yes) × (k ≤ j) × (r ≡ NoSuchColour)))
+    pub walk-refused-by : (r : Refusal) → (walk_of n s k l x b c p q w j t ≡ Err r)
+        ↔ ((judged n s k l x b c p q w ≡ Err r) ⊎ ((judged n s k l x b c p q w ≡ Ok tt) × (k ≤ j) × (r ≡ NoSuchColour)))
     walk-refused-by r = (
       λ z.
           ⊎_elim
@@ -162,7 +165,7 @@ module _ (n s k : ℕ) (l : Lists) (x b c p q : ℕ) (w : List ℕ) (j t : ℕ) 
           (λ (e, colour).
           ⊎_elim
           (λ h. inr (e, h, cc (walk-no-colour n s k l x b c p q w j t e h)))
-          (λ h. first-not-refused (automaton_of n s k l) j (steps_of_plan (plan_of p w) t) 0 r (sym (walk-least n s k l x b c p q w e j t h few) ∙ z))
+          (λ h. clash (cc (walk-least n s k l x b c p q w e j t h few)))
           colour)
           walk-cases,
       ⊎_elim (walk_refused n s k l x b c p q w j t r) (λ (e, h, same). rw same (walk-no-colour n s k l x b c p q w j t e h)),
@@ -170,44 +173,44 @@ module _ (n s k : ℕ) (l : Lists) (x b c p q : ℕ) (w : List ℕ) (j t : ℕ) 
 
     -- The call answers "met" with y exactly where judging accepts the plan, the model has colour j, and of the allowance's steps y, counted from
     -- 1 on, is the first that meets colour j.
-    pub walk-met : (y : ℕ) → (walk_of n s k l x b c p q w j t ≡ Met y)
-        ↔ ((judged n s k l x b c p q w ≡ Yes) × (j < k) × ((a : ℕ) × (y ≡ suc a) × FirstOf meets_at t a))
+    pub walk-met : (y : ℕ) → (walk_of n s k l x b c p q w j t ≡ Ok (Met y))
+        ↔ ((judged n s k l x b c p q w ≡ Ok tt) × (j < k) × ((a : ℕ) × (y ≡ suc a) × FirstOf meets_at t a))
     walk-met y =
         let first = first-met (automaton_of n s k l) j (steps_of_plan (plan_of p w) t) 0 y in (
           λ e.
               let (accepted, h) = walked-only (λ r q. clash (cc)) in
-              let (a, i, f) = first.0 (sym (walk-least n s k l x b c p q w accepted j t h few) ∙ e) in
+              let (a, i, f) = first.0 (ok-same (sym (walk-least n s k l x b c p q w accepted j t h few) ∙ e)) in
               (accepted, h, (a, omega arith, subst (λ (u : ℕ). FirstOf meets_at u a) (long accepted) f)),
           λ (accepted, h, (a, i, f)).
               walk-least n s k l x b c p q w accepted j t h few
-              ∙ first.1 (a, omega arith, subst (λ (u : ℕ). FirstOf meets_at u a) (sym (long accepted)) f),
+              ∙ same-ok (first.1 (a, omega arith, subst (λ (u : ℕ). FirstOf meets_at u a) (sym (long accepted)) f)),
         )
 
     -- "'Spent' is the answer only when exactly the allowance has been walked without meeting j."
-    pub walk-spent : (y : ℕ) → (walk_of n s k l x b c p q w j t ≡ Spent y)
-        ↔ ((judged n s k l x b c p q w ≡ Yes) × (j < k) × (y ≡ t) × ((a : ℕ) → a < t → meets_at a ≡ false))
+    pub walk-spent : (y : ℕ) → (walk_of n s k l x b c p q w j t ≡ Ok (Spent y))
+        ↔ ((judged n s k l x b c p q w ≡ Ok tt) × (j < k) × (y ≡ t) × ((a : ℕ) → a < t → meets_at a ≡ false))
     walk-spent y =
         let first = first-spent (automaton_of n s k l) j (steps_of_plan (plan_of p w) t) 0 y in (
           λ e.
               let (accepted, h) = walked-only (λ r q. clash (cc)) in
-              let (i, none) = first.0 (sym (walk-least n s k l x b c p q w accepted j t h few) ∙ e) in
+              let (i, none) = first.0 (ok-same (sym (walk-least n s k l x b c p q w accepted j t h few) ∙ e)) in
               (accepted, h, omega (arith, long accepted), λ a f. none a (omega (arith, long accepted))),
           λ (accepted, h, i, none).
-              walk-least n s k l x b c p q w accepted j t h few ∙ first.1 (omega (arith, long accepted), λ a f. none a (omega (arith, long accepted))),
+              walk-least n s k l x b c p q w accepted j t h few ∙ same-ok (first.1 (omega (arith, long accepted), λ a f. none a (omega (arith, long accepted)))),
         )
 
     -- An allowance of p + q steps or more meets a required colour: an accepted plan has it on some arc of its cycle.
-    pub walk_meets : judged n s k l x b c p q w ≡ Yes → j < k → bit x j ≡ false → p + q ≤ t → (y : ℕ) × (walk_of n s k l x b c p q w j t ≡ Met y)
+    pub walk_meets : judged n s k l x b c p q w ≡ Ok tt → j < k → bit x j ≡ false → p + q ≤ t → (y : ℕ) × (walk_of n s k l x b c p q w j t ≡ Ok (Met y))
     walk_meets accepted h free enough =
         let right = (judged-yes n s k l x b c p q w).0 accepted in
         let lengths = right.lengths in
         let g = automaton_of n s k l in
         let (v, e) = steps-begin p w (omega (arith, lengths.parts, lengths.has_arc)) t (omega (arith, lengths.parts)) in
         let (y, met) = meets-met g j w v 0 (bytes-meet g x b c p w right.serves j h free) in
-        (y, walk-least n s k l x b c p q w accepted j t h few ∙ ap (λ (u : List ℕ). first_met g j u 0) e ∙ met)
+        (y, walk-least n s k l x b c p q w accepted j t h few ∙ same-ok (ap (λ (u : List ℕ). first_met g j u 0) e ∙ met))
 
     -- A barred colour is met in the run-in, or not at all: no arc of the round has it.
-    pub walk-barred : bit x j ≡ true → (y : ℕ) → walk_of n s k l x b c p q w j t ≡ Met y → y ≤ p
+    pub walk-barred : bit x j ≡ true → (y : ℕ) → walk_of n s k l x b c p q w j t ≡ Ok (Met y) → y ≤ p
     walk-barred barred y e =
         let (accepted, h, (a, i, f)) = (walk-met y).0 e in
         let right = (judged-yes n s k l x b c p q w).0 accepted in

@@ -97,9 +97,12 @@ module _ {g : Model} {j : ℕ} {w : List ℕ} {p t : ℕ} where
 
   module _ {at steps : ℕ} where
     -- no step is left
-    pub stepping-done : Stepping g j w p t at steps → t ≤ steps → first_met (held g) j (steps_of_plan (plan_of p w) t) 0 ≡ Spent steps
+    pub stepping-done : Stepping g j w p t at steps → t ≤ steps → first_met (held g) j (steps_of_plan (plan_of p w) t) 0 ≡ Spent t
     unfolding first_met
-    stepping-done s h = let e : t - steps ≡ 0 = omega arith in s.rest ∙ rw e refl
+    stepping-done s h =
+        let none : t - steps ≡ 0 = omega arith in
+        let all : steps ≡ t = omega (arith, s.within) in
+        s.rest ∙ rw none (ap {B = Walked} Spent all)
 
     module _ (arcs : ArcNumbers g w) (s : Stepping g j w p t at steps) where
       -- the next arc is one of the array's
@@ -109,7 +112,7 @@ module _ {g : Model} {j : ℕ} {w : List ℕ} {p t : ℕ} where
       module _ (cycle : p < length w) (h : steps < t) where
         -- its colours decide
         next : first_met (held g) j (steps_of_plan (plan_of p w) t) 0
-            ≡ met_or (bit (arc_in g (get_or w at 0)).colours j) (steps + 1)
+            ≡ met_or (bit (arc_in g (get_or w at 0)).colours j) (Met (steps + 1))
             (first_met (held g) j (steps_from p w (t - (steps + 1)) (position_after at p (length w))) (steps + 1))
         unfolding first_met
         next =

@@ -3,42 +3,37 @@ use mathlib.Core.Path.{◌≡◌, refl, sym, ap, subst, ◌∙◌}
 use mathlib.Core.Bool.{Bool}
 use mathlib.Core.List.{List}
 use Prim.Native.Nat.{ℕ, ◌≤◌, ◌<◌}
-use lib.Dec.{leb}
 use lib.ListN.{length}
-use borrow.Author.Tests.{le-leb, lt-leb}
+use Rattle.std.specs.Prelude.{Result, Ok, Err}
 use Rattle.refusals.specs.declared.Refusal.{Refusal}
 use Rattle.refusals.specs.declared.Refusal.TheVariants.{ArcNumber}
-use Rattle.refusals.specs.declared.Verdict.{Verdict}
-use Rattle.refusals.specs.declared.Verdict.TheVariants.{Yes, Refused}
-use Rattle.refusals.specs.Refusals.{answer_of, refuse, and_then}
+use Rattle.refusals.specs.Refusals.{Verdict, answer_of, and_then, verdict_of}
 use Rattle.refusals.proofs.Verdicts.{clash, and-then-yes}
 use Rattle.model.specs.Automaton.{Automaton}
-use Rattle.model.specs.declared.Fitted.{Fitted}
-use Rattle.model.specs.Lists.{Lists, automaton_of, held}
+use Rattle.model.specs.declared.Model.{Model}
+use Rattle.model.specs.Lists.{Lists, automaton_of, model_of, held}
 use Rattle.model.specs.Fitness.{fitness, levels_of, fitted_of}
-use Rattle.model.proofs.Arcs.{arcs-length}
-use Rattle.model.proofs.Fitness.{levels-yes, fitted-verdict}
-use Rattle.model.proofs.Held.{told-holds, told-held}
-use Rattle.switches.specs.Switches.{switched}
+use Rattle.model.proofs.Fitness.{levels-yes, fitted-held, fitted-holds}
+use Rattle.model.proofs.Held.{told-yes, told-model, told-refused}
 use Rattle.reach.specs.declared.Reach.{Reach}
-use Rattle.reach.specs.declared.Reached.{Reached}
 use Rattle.reach.specs.Table.{IsTable}
-use Rattle.reach.specs.Reach.{levelled, switchable, all_unreached, FreshTable, StartOf, SwitchedTable, SwitchOf}
-use Rattle.reach.specs.Words.{Tabled, Turned}
+use Rattle.reach.specs.Reach.{levelled, unreached_with, left, FreshTable, StartOf, SwitchedTable, SwitchOf}
+use Rattle.reach.specs.Words.{Tabled, Turned, levelled_model}
+use Rattle.reach.proofs.Order.{switchable-first, switchable-twelve, switchable-yes}
 
 -- a table afresh, or all unreached
-pub fresh-yes : {v : Verdict} {g : Automaton} {on charges : List ℕ} {b c : ℕ} → v ≡ Yes → IsTable g on b c charges
-    → FreshTable v g on b c (record { verdict = Yes; reach = record { on = on; charges = charges } })
+fresh-yes : {v : Verdict} {g : Automaton} {on charges : List ℕ} {b c : ℕ} → v ≡ Ok tt → IsTable g on b c charges
+    → FreshTable v g on b c (left (unreached_with on) (Ok (record { on = on; charges = charges })))
 fresh-yes e h = record { verdict = sym e; answer = ap answer_of (sym e); switches = refl; refused = λ y off. clash (cc); table = λ through. h }
 
-pub fresh-refused : {v : Verdict} {g : Automaton} {on : List ℕ} {b c : ℕ} {y : Refusal} → v ≡ Refused y
-    → FreshTable v g on b c (record { verdict = Refused y; reach = record { on = on; charges = all_unreached } })
+fresh-refused : {v : Verdict} {g : Automaton} {on : List ℕ} {b c : ℕ} {y : Refusal} → v ≡ Err y
+    → FreshTable v g on b c (left (unreached_with on) (Err y))
 fresh-refused e = record { verdict = sym e; answer = ap answer_of (sym e); switches = refl; refused = λ z off. refl; table = λ through. clash (cc) }
 
 -- a switching that is refused
-pub switch-refused : {v : Verdict} {g : Automaton} {b c a : ℕ} {told : Bool} {y : Reach} {z : Refusal} → v ≡ Refused z
-    → SwitchedTable v g b c a told y (record { verdict = Refused z; reach = y })
-switch-refused e =
+switched-not : {v : Verdict} {g : Automaton} {b c a : ℕ} {told : Bool} {y : Reach} {z : Refusal} → v ≡ Err z
+    → SwitchedTable v g b c a told y (left y (Err z))
+switched-not e =
     record {
       verdict = sym e;
       answer = ap answer_of (sym e);
@@ -49,9 +44,9 @@ switch-refused e =
     }
 
 -- and one that is not
-pub switch-yes : {v : Verdict} {g : Automaton} {b c a : ℕ} {told : Bool} {y z : Reach} → v ≡ Yes → Turned g b c a told y z
-    → SwitchedTable v g b c a told y (record { verdict = Yes; reach = z })
-switch-yes e t =
+switched-yes : {v : Verdict} {g : Automaton} {b c a : ℕ} {told : Bool} {y z : Reach} → v ≡ Ok tt → Turned g b c a told y z
+    → SwitchedTable v g b c a told y (left y (Ok z))
+switched-yes e t =
     record {
       verdict = sym e;
       answer = ap answer_of (sym e);
@@ -61,78 +56,79 @@ switch-yes e t =
       table = λ through. t.table;
     }
 
--- 12, where none of 1 to 6 applies: it applies, or it does not
-pub known-not : (u : Verdict) (m a : ℕ) → u ≡ Yes → m ≤ a → and_then u (refuse (leb m a) (ArcNumber 0) Yes) ≡ Refused (ArcNumber 0)
-known-not u m a e h = rw (e, le-leb m a h) refl
-
-pub known : (u : Verdict) (m a : ℕ) → u ≡ Yes → a < m → and_then u (refuse (leb m a) (ArcNumber 0) Yes) ≡ Yes
-known u m a e h = rw (e, lt-leb m a h) refl
-
--- what was refused before stays so
-pub stopped : (u v : Verdict) (y : Refusal) → u ≡ Refused y → and_then u v ≡ Refused y
-stopped u v y e = ap {B = Verdict} (λ (w : Verdict). and_then w v) e
-
--- y: what check_model answers
-module _ (n s k : ℕ) (l : Lists) (b c : ℕ) {y : Fitted} (told : y ≡ fitted_of n s k l) where
-  verdict-told : y.verdict ≡ fitness n s k l
-  verdict-told = ap {B = Verdict} (λ (f : Fitted). f.verdict) told ∙ fitted-verdict n s k l
-
-  levelled-told : and_then y.verdict (levels_of b c) ≡ levelled n s k l b c
+module _ (n s k : ℕ) (l : Lists) (b c : ℕ) where
+  -- what is told check by check: the first refusal, or the model
+  pub model-unfit : (r : Refusal) → Err r ≡ fitted_of n s k l → Err r ≡ levelled_model n s k l b c
   unfolding levelled
-  levelled-told = ap {B = Verdict} (λ (v : Verdict). and_then v (levels_of b c)) verdict-told
+  model-unfit r e = rw (told-refused n s k l r e) refl
 
-  -- where none of 1 to 6 applies, the value holds the model of the lists
-  pub tabled : {v : Verdict} → v ≡ and_then y.verdict (levels_of b c) → v ≡ Yes → Tabled y.model b c
-  tabled e through =
-      let (fit, levels) = (and-then-yes y.verdict (levels_of b c)).0 (sym e ∙ through) in
-      let (low, credit) = (levels-yes b c).0 levels in
-      record { holds = told-holds n s k l y told fit; credit = credit; low = low }
+  module _ (g : Model) (told : Ok g ≡ fitted_of n s k l) where
+    fit-told : fitness n s k l ≡ Ok tt
+    fit-told = told-yes n s k l g told
 
-  held-told : {v : Verdict} → v ≡ and_then y.verdict (levels_of b c) → v ≡ Yes → held y.model ≡ automaton_of n s k l
-  held-told e through = told-held n s k l y told ((and-then-yes y.verdict (levels_of b c)).0 (sym e ∙ through)).0
+    pub model-levels : (r : Refusal) → Err r ≡ levels_of b c → Err r ≡ levelled_model n s k l b c
+    unfolding levelled
+    model-levels r e = rw (fit-told, sym e) refl
 
-  pub fresh-told : {v : Verdict} {on : List ℕ} {r : Reached} → v ≡ and_then y.verdict (levels_of b c) → FreshTable v (held y.model) on b c r
-      → StartOf n s k l on b c r
-  fresh-told {v} {on} {r} e h =
-      let same : levelled n s k l b c ≡ v = sym levelled-told ∙ sym e in
-      record {
-        verdict = h.verdict ∙ sym same;
-        answer = h.answer ∙ ap answer_of (sym same);
-        switches = h.switches;
-        refused = λ z off. h.refused z (sym same ∙ off);
-        table = λ through.
-            let u = sym same ∙ through in
-            subst (λ (g : Automaton). IsTable g on b c r.reach.charges) (held-told e u) (h.table u);
-      }
+    pub model-yes : Ok tt ≡ levels_of b c → Ok g ≡ levelled_model n s k l b c
+    unfolding levelled
+    model-yes e = rw (fit-told, sym e, told-model n s k l g told) refl
 
-  count-told : {v : Verdict} → v ≡ and_then y.verdict (levels_of b c) → v ≡ Yes → y.model.count ≡ length l.sources
-  count-told e through =
-      sym (tabled e through).holds.count ∙ ap {B = ℕ} (λ (g : Automaton). length g.arcs) (held-told e through) ∙ arcs-length l (length l.sources) 0
-
-  switchable-told : {v : Verdict} (a : ℕ) → v ≡ and_then y.verdict (levels_of b c)
-      → switchable n s k l b c a ≡ and_then v (refuse (leb y.model.count a) (ArcNumber 0) Yes)
-  unfolding switchable
-  switchable-told {v} a e =
-      ap {B = Verdict} (λ (u : Verdict). and_then u (refuse (leb (length l.sources) a) (ArcNumber 0) Yes)) (sym levelled-told ∙ sym e) ∙ go v refl
+  -- the verdict of 1 to 6, by what the code is told
+  verdict-told : verdict_of (levelled_model n s k l b c) ≡ levelled n s k l b c
+  verdict-told = go (levelled n s k l b c)
     where
-      go : (u : Verdict) → v ≡ u → and_then u (refuse (leb (length l.sources) a) (ArcNumber 0) Yes)
-          ≡ and_then u (refuse (leb y.model.count a) (ArcNumber 0) Yes)
-      go Yes through = ap {B = Verdict} (λ (m : ℕ). refuse (leb m a) (ArcNumber 0) Yes) (sym (count-told e through))
-      go (Refused z) off = refl
+      go : (v : Verdict) → verdict_of (and_then v (Ok (model_of n s k l))) ≡ v
+      go (Ok _) = refl
+      go (Err r) = refl
 
-  pub switch-told : {v : Verdict} {a : ℕ} {t : Bool} {z : Reach} {r : Reached} → v ≡ and_then y.verdict (levels_of b c)
-      → SwitchedTable (and_then v (refuse (leb y.model.count a) (ArcNumber 0) Yes)) (held y.model) b c a t z r
-      → SwitchOf n s k l b c a t z r
-  switch-told {v} {a} {t} {z} {r} e h =
-      let same = switchable-told a e in
-      record {
-        verdict = h.verdict ∙ sym same;
-        answer = h.answer ∙ ap answer_of (sym same);
-        refused = λ x off. h.refused x (sym same ∙ off);
-        already = λ through. h.already (sym same ∙ through);
-        turned = λ through. h.turned (sym same ∙ through);
-        table = λ through d.
-            let u = sym same ∙ through in
-            let first = ((and-then-yes v (refuse (leb y.model.count a) (ArcNumber 0) Yes)).0 u).0 in
-            subst (λ (g : Automaton). IsTable g (switched t z.on a) b c r.reach.charges) (held-told e first) (h.table u d);
-      }
+  -- a refusal is that of 1 to 6
+  off-told : (r : Refusal) → Err r ≡ levelled_model n s k l b c → levelled n s k l b c ≡ Err r
+  off-told r told = sym verdict-told ∙ sym (ap {B = Verdict} verdict_of told)
+
+  pub start-refused : {on : List ℕ} (r : Refusal) → Err r ≡ levelled_model n s k l b c → StartOf n s k l on b c (left (unreached_with on) (Err r))
+  start-refused r told = fresh-refused (off-told r told)
+
+  pub switch-refused : {a : ℕ} {t : Bool} {y : Reach} (r : Refusal) → Err r ≡ levelled_model n s k l b c → SwitchOf n s k l b c a t y (left y (Err r))
+  switch-refused {a} r told = switched-not (switchable-first n s k l b c a r (off-told r told))
+
+  -- where none of them applies, the value holds the model of the lists
+  module _ (g : Model) (told : Ok g ≡ levelled_model n s k l b c) where
+    through : levelled n s k l b c ≡ Ok tt
+    through = sym verdict-told ∙ sym (ap {B = Verdict} verdict_of told)
+
+    fits : (fitness n s k l ≡ Ok tt) × (levels_of b c ≡ Ok tt)
+    unfolding levelled
+    fits = (and-then-yes (fitness n s k l) (levels_of b c)).0 through
+
+    same : g ≡ model_of n s k l
+    same =
+        let e : Ok g ≡ Ok (model_of n s k l) = told ∙ ap {B = Result Model Refusal} (λ (v : Verdict). and_then v (Ok (model_of n s k l))) through in
+        cc
+
+    pub tabled : Tabled g b c
+    tabled =
+        let (low, credit) = (levels-yes b c).0 fits.1 in
+        rw same (record { holds = fitted-holds n s k l fits.0; credit = credit; low = low })
+
+    held-told : held g ≡ automaton_of n s k l
+    held-told = rw same (fitted-held n s k l fits.0).1
+
+    count-told : g.count ≡ length l.sources
+    count-told = rw same refl
+
+    pub start-yes : {on charges : List ℕ} → IsTable (held g) on b c charges
+        → StartOf n s k l on b c (left (unreached_with on) (Ok (record { on = on; charges = charges })))
+    start-yes {on} {charges} h = fresh-yes through (subst (λ (x : Automaton). IsTable x on b c charges) held-told h)
+
+    -- 12 applies, or it does not
+    pub switch-twelve : {a : ℕ} {t : Bool} {y : Reach} → g.count ≤ a → SwitchOf n s k l b c a t y (left y (Err (ArcNumber 0)))
+    switch-twelve {a} h = switched-not (switchable-twelve n s k l b c a through (rw count-told at h))
+
+    pub switch-yes : {a : ℕ} {t : Bool} {y z : Reach} → a < g.count → Turned (held g) b c a t y z → SwitchOf n s k l b c a t y (left y (Ok z))
+    switch-yes {a} {t} {y} {z} h turned =
+        switched-yes ((switchable-yes n s k l b c a).1 (through, rw count-told at h))
+        (subst (λ (x : Automaton). Turned x b c a t y z) held-told turned)
+
+-- for the function that makes these checks
+pub ruleset levels = (model-unfit, model-levels, model-yes)

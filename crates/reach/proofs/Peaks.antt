@@ -51,9 +51,8 @@ module _ {g : Model} (on : List ℕ) {b c : ℕ} {groups : Groups} (able : Table
       }
 
   -- .. with as many modes as words are lent: what closing asks
-  pub findable : {hints : List ℕ} → modes_most + modes_most ≤ length hints
-      → Findable groups.rows groups.places g.start c b (take g.modes blank) (take g.modes blank) (take g.modes blank) hints
-  findable {hints} room =
+  pub findable : Findable groups.rows groups.places g.start c b (take g.modes blank)
+  findable =
       let e = lent-words able in
       rw same (record {
         ready = subst (λ (m : ℕ). Ready (stratum (rows_of g 0 on) (level_alone (arc_count (places_of g on) m) b)) m) e ready;
@@ -62,9 +61,6 @@ module _ {g : Model} (on : List ℕ) {b c : ℕ} {groups : Groups} (able : Table
             (rows-grouped g 0 on able.holds);
         starts = omega (arith, e, able.holds.fit.starts);
         credit = able.credit;
-        size_later = refl;
-        size_done = refl;
-        room = omega (arith, e, able.holds.fit.few_modes);
       })
 
   module _ {best : List ℕ} (found : PeaksFound groups.rows groups.places (length (take g.modes blank)) g.start c b best) where

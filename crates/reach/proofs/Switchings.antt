@@ -1,21 +1,20 @@
 -- What starting a table and switching an arc answer is one answer; and from a fresh table, after any switchings, the table is the fresh one of the
 -- switches then. Assumes nothing.
+use Rattle.std.specs.Prelude.{Ok, Err}
+use Rattle.refusals.specs.Refusals.{Verdict}
 use mathlib.Core.Path.{◌≡◌, refl, sym, ap, subst, ◌∙◌}
 use mathlib.Core.Bool.{Bool, true, false, not, true≢false, false≢true}
 use mathlib.Core.List.{List}
 use Prim.Native.Nat.{ℕ, ◌/◌, ◌<◌}
 use lib.ListN.{length}
-use Rattle.refusals.specs.declared.Verdict.{Verdict}
-use Rattle.refusals.specs.declared.Verdict.TheVariants.{Yes, Refused}
 use Rattle.refusals.proofs.Verdicts.{clash, and-then-yes}
 use Rattle.model.specs.Automaton.{Automaton}
 use Rattle.model.specs.Lists.{Lists, automaton_of}
 use Rattle.switches.specs.Switches.{word_bits, is_on, switched}
 use Rattle.switches.proofs.Switched.{switched-same, switched-back}
 use Rattle.reach.specs.declared.Reach.{Reach}
-use Rattle.reach.specs.declared.Reached.{Reached}
 use Rattle.reach.specs.Table.{IsTable}
-use Rattle.reach.specs.Reach.{levelled, switchable, FreshTable, StartOf, SwitchOf, Switchings, none, more}
+use Rattle.reach.specs.Reach.{Reached, levelled, switchable, FreshTable, StartOf, SwitchOf, Switchings, none, more}
 use Rattle.reach.proofs.Unique.{table-one}
 
 -- tables with the same switches and charges
@@ -33,8 +32,8 @@ fresh-one : {v : Verdict} {g : Automaton} {on : List ℕ} {b c : ℕ} {r q : Rea
 fresh-one {v} {r = r} {q} h k = answer-same (h.verdict ∙ sym k.verdict) (reach-same (h.switches ∙ sym k.switches) (go v refl))
   where
     go : (u : Verdict) → v ≡ u → r.reach.charges ≡ q.reach.charges
-    go Yes e = table-one (h.table e) (k.table e)
-    go (Refused y) e = h.refused y e ∙ sym (k.refused y e)
+    go (Ok _) e = table-one (h.table e) (k.table e)
+    go (Err y) e = h.refused y e ∙ sym (k.refused y e)
 
 pub start-one : (n s k : ℕ) (l : Lists) (on : List ℕ) (b c : ℕ) {r q : Reached} → StartOf n s k l on b c r → StartOf n s k l on b c q → r ≡ q
 start-one n s k l on b c = fresh-one
@@ -53,9 +52,9 @@ switch-one n s k l b c a told y {r} {q} h i =
     answer-same (h.verdict ∙ sym i.verdict) (go (switchable n s k l b c a) refl (told-or (is_on y.on a) told))
   where
     go : (u : Verdict) → switchable n s k l b c a ≡ u → Dec (is_on y.on a ≡ told) → r.reach ≡ q.reach
-    go (Refused z) e d = h.refused z e ∙ sym (i.refused z e)
-    go Yes e (yes d) = h.already e d ∙ sym (i.already e d)
-    go Yes e (no d) = reach-same (h.turned e d ∙ sym (i.turned e d)) (table-one (h.table e d) (i.table e d))
+    go (Err z) e d = h.refused z e ∙ sym (i.refused z e)
+    go (Ok _) e (yes d) = h.already e d ∙ sym (i.already e d)
+    go (Ok _) e (no d) = reach-same (h.turned e d ∙ sym (i.turned e d)) (table-one (h.table e d) (i.table e d))
 
 module _ (n s k : ℕ) (l : Lists) (b c : ℕ) where
   -- what a fresh start with the table's own switches answers, with this table
@@ -77,7 +76,7 @@ module _ (n s k : ℕ) (l : Lists) (b c : ℕ) where
       }
 
   -- 12 is looked at after 1 to 6
-  switchable-levelled : (a : ℕ) → switchable n s k l b c a ≡ Yes → levelled n s k l b c ≡ Yes
+  switchable-levelled : (a : ℕ) → switchable n s k l b c a ≡ Ok tt → levelled n s k l b c ≡ Ok tt
   unfolding switchable
   switchable-levelled a e = ((and-then-yes (levelled n s k l b c) _).0 e).0
 
@@ -88,9 +87,9 @@ module _ (n s k : ℕ) (l : Lists) (b c : ℕ) where
       same e = subst IsFresh (sym e) f
 
       go : (u : Verdict) → switchable n s k l b c a ≡ u → Dec (is_on y.on a ≡ told) → IsFresh r.reach
-      go (Refused z) e d = same (h.refused z e)
-      go Yes e (yes d) = same (h.already e d)
-      go Yes e (no d) =
+      go (Err z) e d = same (h.refused z e)
+      go (Ok _) e (yes d) = same (h.already e d)
+      go (Ok _) e (no d) =
           let fit = switchable-levelled a e in
           record {
             verdict = refl;
@@ -131,13 +130,13 @@ module _ (n s k : ℕ) (l : Lists) (b c : ℕ) where
       other true d = true≢false d
       other false d = false≢true d
 
-      back : switchable n s k l b c a ≡ Yes → q.reach.on ≡ y.on
+      back : switchable n s k l b c a ≡ Ok tt → q.reach.on ≡ y.on
       back v =
           let off = h.turned v (λ d. other told (sym e ∙ d)) in
           let is : is_on r.reach.on a ≡ not told = ap {B = Bool} (λ (o : List ℕ). is_on o a) off ∙ switched-same (not told) y.on a low in
           i.turned v (λ d. other told (sym d ∙ is)) ∙ ap {B = List ℕ} (λ (o : List ℕ). switched told o a) off ∙ switched-back told y.on a e
 
       go : (u : Verdict) → switchable n s k l b c a ≡ u → q.reach ≡ y
-      go (Refused z) v = i.refused z v ∙ h.refused z v
-      go Yes v = ap {B = Reach} (λ (x : Reached). x.reach)
+      go (Err z) v = i.refused z v ∙ h.refused z v
+      go (Ok _) v = ap {B = Reach} (λ (x : Reached). x.reach)
           (start-one n s k l y.on b c (subst (λ (o : List ℕ). StartOf n s k l o b c (as_fresh q.reach)) (back v) fresh) f)

@@ -1,17 +1,14 @@
 -- Starting a table of greatest charges, and switching an arc. Document 02, Ask 9.
-use Rattle.std.specs.Prelude.{ℕ, ◌≡◌, Bool, List, leb, length, replicate}
+use Rattle.std.specs.Prelude.{ℕ, ◌≡◌, Bool, List, leb, length, replicate, Result, Ok, Err}
 use Rattle.limits.specs.Ceilings.{modes_most}
 use Rattle.refusals.specs.declared.Refusal.{Refusal}
 use Rattle.refusals.specs.declared.Refusal.TheVariants.{ArcNumber}
-use Rattle.refusals.specs.declared.Verdict.{Verdict}
-use Rattle.refusals.specs.declared.Verdict.TheVariants.{Yes, Refused}
-use Rattle.refusals.specs.Refusals.{answer_of, refuse, and_then}
+use Rattle.refusals.specs.Refusals.{Verdict, answer_of, refuse, and_then, verdict_of}
 use Rattle.model.specs.Automaton.{Automaton}
 use Rattle.model.specs.Lists.{Lists, automaton_of}
 use Rattle.model.specs.Fitness.{fitness, levels_of}
 use Rattle.switches.specs.Switches.{is_on, switched}
 use Rattle.reach.specs.declared.Reach.{Reach}
-use Rattle.reach.specs.declared.Reached.{Reached}
 use Rattle.reach.specs.Table.{unreached, IsTable}
 
 -- 1 to 6
@@ -20,19 +17,36 @@ levelled n s k l b c = and_then (fitness n s k l) (levels_of b c)
 
 -- "Switching an arc number not below m gets 12, detail 0, after 1 to 6"
 unfoldable pub switchable : ℕ → ℕ → ℕ → Lists → ℕ → ℕ → ℕ → Verdict
-switchable n s k l b c a = and_then (levelled n s k l b c) (refuse (leb (length l.sources) a) (ArcNumber 0) Yes)
+switchable n s k l b c a = and_then (levelled n s k l b c) (refuse (leb (length l.sources) a) (ArcNumber 0) (Ok tt))
 
 -- "A fresh table refused by 1 to 6 is all 'unreached'."
 abbrev pub all_unreached : List ℕ
 all_unreached = replicate modes_most unreached
+
+-- such a table, with these switches
+abbrev pub unreached_with : List ℕ → Reach
+unreached_with on = record { on = on; charges = all_unreached }
+
+-- What starting a table or switching an arc comes to, for a caller with a table at hand: the verdict, and the table afterwards. The code answers a table
+-- or a refusal, and a caller goes on with the table that it is answered, or after a refusal with its own; `left` says so of the answer, and C is handed both.
+pub record Reached : Type 0 where
+  pub verdict : Verdict
+  pub reach : Reach
+
+abbrev pub kept : Reach → Result Reach Refusal → Reach
+kept y (Ok z) = z
+kept y (Err r) = y
+
+abbrev pub left : Reach → Result Reach Refusal → Reached
+left y r = record { verdict = verdict_of r; reach = kept y r }
 
 -- A fresh table. v: what 1 to 6 say. The switches are those that were given. answer: the same verdict by document 01's number and detail.
 pub record FreshTable (v : Verdict) (g : Automaton) (on : List ℕ) (b c : ℕ) (r : Reached) : Type 0 where
   pub verdict : r.verdict ≡ v
   pub answer : answer_of r.verdict ≡ answer_of v
   pub switches : r.reach.on ≡ on
-  pub refused : (y : Refusal) → v ≡ Refused y → r.reach.charges ≡ all_unreached
-  pub table : v ≡ Yes → IsTable g on b c r.reach.charges
+  pub refused : (y : Refusal) → v ≡ Err y → r.reach.charges ≡ all_unreached
+  pub table : v ≡ Ok tt → IsTable g on b c r.reach.charges
 
 -- the claim of the call, by its numbers and lists
 abbrev pub StartOf : ℕ → ℕ → ℕ → Lists → List ℕ → ℕ → ℕ → Reached → Type 0
@@ -43,12 +57,12 @@ pub record SwitchedTable (v : Verdict) (g : Automaton) (b c a : ℕ) (told : Boo
   pub verdict : r.verdict ≡ v
   pub answer : answer_of r.verdict ≡ answer_of v
   -- "a refused switching changes nothing"
-  pub refused : (z : Refusal) → v ≡ Refused z → r.reach ≡ y
+  pub refused : (z : Refusal) → v ≡ Err z → r.reach ≡ y
   -- "Switching an arc to what it is already changes nothing."
-  pub already : v ≡ Yes → is_on y.on a ≡ told → r.reach ≡ y
+  pub already : v ≡ Ok tt → is_on y.on a ≡ told → r.reach ≡ y
   -- else the switch is turned, and the table is "the one computed afresh from the arcs then on"
-  pub turned : v ≡ Yes → (is_on y.on a ≡ told → ⊥) → r.reach.on ≡ switched told y.on a
-  pub table : v ≡ Yes → (is_on y.on a ≡ told → ⊥) → IsTable g (switched told y.on a) b c r.reach.charges
+  pub turned : v ≡ Ok tt → (is_on y.on a ≡ told → ⊥) → r.reach.on ≡ switched told y.on a
+  pub table : v ≡ Ok tt → (is_on y.on a ≡ told → ⊥) → IsTable g (switched told y.on a) b c r.reach.charges
 
 -- the claim of the call, by its numbers and lists
 abbrev pub SwitchOf : ℕ → ℕ → ℕ → Lists → ℕ → ℕ → ℕ → Bool → Reach → Reached → Type 0

@@ -1,16 +1,17 @@
 -- What the inner functions are given and leave: the words of the table that closing leaves, the charges that are handed back, an arc that is
 -- switched. No public promise rests on these words.
-use Rattle.std.specs.Prelude.{ℕ, zero, suc, ◌≤◌, ◌<◌, ◌≡◌, Bool, List, length, get_or}
+use Rattle.std.specs.Prelude.{ℕ, zero, suc, ◌≤◌, ◌<◌, ◌≡◌, Bool, List, length, get_or, Result, Ok}
 use Rattle.limits.specs.Ceilings.{modes_most, bound_most}
 use Rattle.refusals.specs.declared.Refusal.{Refusal}
-use Rattle.refusals.specs.declared.Verdict.TheVariants.{Refused}
+use Rattle.refusals.specs.Refusals.{and_then}
 use Rattle.model.specs.declared.Model.{Model}
 use Rattle.model.specs.Automaton.{Automaton}
+use Rattle.model.specs.Lists.{Lists, model_of}
 use Rattle.model.specs.Fitness.{Holds}
 use Rattle.switches.specs.Switches.{is_on, switched}
 use Rattle.reach.specs.declared.Reach.{Reach}
-use Rattle.reach.specs.declared.Reached.{Reached}
 use Rattle.reach.specs.Table.{unreached, IsTable}
+use Rattle.reach.specs.Reach.{levelled}
 
 -- a word of closing: 0 for none, else the charge plus 1
 abbrev pub charge_of : ℕ → ℕ
@@ -34,6 +35,6 @@ pub record Turned (g : Automaton) (b c a : ℕ) (told : Bool) (y z : Reach) : Ty
   pub turned : (is_on y.on a ≡ told → ⊥) → z.on ≡ switched told y.on a
   pub table : (is_on y.on a ≡ told → ⊥) → IsTable g (switched told y.on a) b c z.charges
 
--- a refusal, and the table that goes with it
-abbrev pub refused_with : Refusal → Reach → Reached
-refused_with y z = record { verdict = Refused y; reach = z }
+-- 1 to 6, and the model where none of them applies
+abbrev pub levelled_model : ℕ → ℕ → ℕ → Lists → ℕ → ℕ → Result Model Refusal
+levelled_model n s k l b c = and_then (levelled n s k l b c) (Ok (model_of n s k l))

@@ -1,4 +1,5 @@
 -- A model that is read is fit, and is what the two texts say, line by line. Assumes nothing.
+use Rattle.std.specs.Prelude.{Ok}
 use mathlib.Core.Path.{◌≡◌, refl, sym, ap, subst, ◌∙◌}
 use mathlib.Core.Bool.{Bool, true, false, ◌&&◌}
 use mathlib.Core.List.{List, [], ◌∷◌}
@@ -8,7 +9,6 @@ use lib.Dec.{ltb, eqb}
 use lib.ListN.{length, get_or, length-map}
 use borrow.Author.Tests.{ltb-false, eqb-true}
 use Rattle.limits.specs.Ceilings.{colours_most}
-use Rattle.refusals.specs.declared.Verdict.TheVariants.{Yes}
 use Rattle.refusals.proofs.Verdicts.{clash}
 use Rattle.model.specs.declared.Arc.{Arc}
 use Rattle.model.specs.Automaton.{arc_at, bit, no_arc}
@@ -111,7 +111,7 @@ module _ (h d : List (List ℕ)) (right : hoa.hoa_wrong h ≡ 0) (too : dimacs.d
         arcs = λ i q. arc-in i (omega (arith, all));
       }
 
-module _ (hoa dimacs : List ℕ) (l : Lists) (yes : read_verdict hoa dimacs l ≡ Yes) where
+module _ (hoa dimacs : List ℕ) (l : Lists) (yes : read_verdict hoa dimacs l ≡ Ok tt) where
   -- a model that is read is fit
   pub read-fit : Fit (model_read hoa dimacs)
   read-fit = let (_, _, _, _, fit) = (readable-yes (lines_of hoa) (lines_of dimacs) (room_in l)).0 yes in fit

@@ -1,5 +1,6 @@
 -- Two texts define at most one model, and of texts that are read it is the model read. Document 02, Ask 1: "The model read is the one the two texts
 -- define". Assumes nothing.
+use Rattle.std.specs.Prelude.{Ok}
 use mathlib.Core.Path.{◌≡◌, refl, sym, ap, ◌∙◌}
 use mathlib.Core.Bool.{Bool}
 use mathlib.Core.List.{List}
@@ -7,7 +8,6 @@ use Prim.Native.Nat.{ℕ}
 use native.Mathlib.Omega.{arith}
 use lib.ListN.{length}
 use lib.Seq.{ext_get_or}
-use Rattle.refusals.specs.declared.Verdict.TheVariants.{Yes}
 use Rattle.model.specs.declared.Arc.{Arc}
 use Rattle.model.specs.Automaton.{Automaton, arc_at, no_arc}
 use Rattle.model.specs.Lists.{Lists}
@@ -52,6 +52,6 @@ said-one h d g g' p q =
     arc-said-one h d i (arc_at g i) (arc_at g' i) (p.arcs i r) (q.arcs i (omega (arith, long))))
 
 -- it is the model that is read
-pub said_read : (hoa dimacs : List ℕ) (l : Lists) (g : Automaton) → read_verdict hoa dimacs l ≡ Yes → Said (lines_of hoa) (lines_of dimacs) g
+pub said_read : (hoa dimacs : List ℕ) (l : Lists) (g : Automaton) → read_verdict hoa dimacs l ≡ Ok tt → Said (lines_of hoa) (lines_of dimacs) g
     → g ≡ model_read hoa dimacs
 said_read hoa dimacs l g e p = said-one (lines_of hoa) (lines_of dimacs) g (model_read hoa dimacs) p (read-says hoa dimacs l e)

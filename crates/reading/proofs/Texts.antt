@@ -1,5 +1,6 @@
 -- The models that have texts are exactly the fit ones whose arcs of one source stand together and none of whose arcs has both a draw and a gain, or
 -- an action other than 0. Document 02, Asks 1, 4 and 5. Assumes nothing.
+use Rattle.std.specs.Prelude.{Ok}
 use mathlib.Core.Path.{◌≡◌, refl, sym, subst, ◌∙◌}
 use mathlib.Core.Bool.{true}
 use mathlib.Core.List.{List, [], ◌∷◌, map}
@@ -9,7 +10,7 @@ use native.Mathlib.Omega.{arith}
 use lib.IntN.{ℤ, pos, negsuc}
 use lib.ListN.{length, get_or, replicate, length-map, length-replicate}
 use borrow.Author.Tests.{eq-eqb}
-use Rattle.refusals.specs.declared.Verdict.TheVariants.{Yes}
+use Rattle.refusals.specs.Refusals.{verdict_of}
 use Rattle.walks.specs.Weights.{draw_of, gain_of}
 use Rattle.model.specs.declared.Arc.{Arc}
 use Rattle.model.specs.Automaton.{Automaton, no_arc}
@@ -20,7 +21,7 @@ use Rattle.hoa.specs.Text.{Edge, edges_of}
 use Rattle.hoa.proofs.PrintText.{hoa_text, SaysHoa, hoa-back}
 use Rattle.dimacs.specs.Text.{TextArc, text_arcs_of}
 use Rattle.dimacs.proofs.PrintText.{dimacs_text, SaysDimacs, dimacs-back}
-use Rattle.filling.specs.Filling.{room_in, first_places}
+use Rattle.filling.specs.Filling.{room_in, numbers_in, first_places}
 use Rattle.filling.proofs.Filled.{verdict-if}
 use Rattle.reading.specs.Agreement.{agree}
 use Rattle.reading.specs.ModelRead.{arc_read, arcs_read, model_in, model_read}
@@ -49,7 +50,7 @@ module _ (g : Automaton) (fit : Fit g) (one : OnePartArcs g) (none : NoActions g
         arcs-back g.modes g.colours g.arcs fit.few_colours fit.arcs_fit one none,
       ) refl
 
-  accepted-back : (room : ℕ) → length g.arcs ≤ room → readable h d room ≡ Yes
+  accepted-back : (room : ℕ) → length g.arcs ≤ room → readable h d room ≡ Ok tt
   accepted-back room enough =
       (readable-yes h d room).1 (
         says.right,
@@ -121,8 +122,9 @@ given-only hoa dimacs g gives =
     (fit, read-stands hoa dimacs right, read-one-part hoa dimacs, read-no-actions hoa dimacs)
 
 -- what a reading of such texts answers and leaves is the model
-pub given-read : (hoa dimacs : List ℕ) (g : Automaton) → Gives hoa dimacs g → (l : Lists) → length g.arcs ≤ room_in l → let r = read_of hoa dimacs l in
-    (r.verdict ≡ Yes) × (automaton_of r.modes r.start r.colours (first_places r.count (lists_read hoa dimacs l)) ≡ g)
+pub given-read : (hoa dimacs : List ℕ) (g : Automaton) → Gives hoa dimacs g → (l : Lists) → length g.arcs ≤ room_in l
+    → let r = read_of hoa dimacs l in let n = numbers_in r in
+    (verdict_of r ≡ Ok tt) × (automaton_of n.modes n.start n.colours (first_places n.count (lists_read hoa dimacs l)) ≡ g)
 given-read hoa dimacs g gives l enough =
     let yes = gives.accepted l enough in
     (verdict-if (read_verdict hoa dimacs l) (model_read hoa dimacs) ∙ yes, read-model hoa dimacs l yes ∙ gives.model)

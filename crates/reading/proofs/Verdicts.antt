@@ -1,4 +1,5 @@
 -- The verdict on two texts: yes exactly for texts that are right and agree, lists with room, and a fit model; and the ways to it. Assumes nothing.
+use Rattle.std.specs.Prelude.{Ok, Err}
 use mathlib.Core.Path.{◌≡◌, refl, sym, ap, ◌∙◌}
 use mathlib.Core.Bool.{Bool, true, false, not, ◌&&◌}
 use mathlib.Core.List.{List, map}
@@ -8,10 +9,9 @@ use native.Mathlib.Omega.{arith}
 use lib.Dec.{ltb, eqb}
 use lib.ListN.{length, get_or, take, drop, length-map, length-drop}
 use lib.Seq.{take_all}
-use borrow.Author.Tests.{not-false, eq-eqb, ne_eqb}
+use borrow.Author.Tests.{not-false, ne_eqb}
 use Rattle.limits.specs.Ceilings.{arcs_most}
 use Rattle.refusals.specs.declared.Refusal.TheVariants.{HoaLine, DimacsLine, TextsDisagree}
-use Rattle.refusals.specs.declared.Verdict.TheVariants.{Yes, Refused}
 use Rattle.refusals.specs.Refusals.{and_then}
 use Rattle.refusals.proofs.Verdicts.{refuse-yes, and-then-yes}
 use Rattle.refusals.proofs.Tests.{or_no, lt_no, differ-no}
@@ -43,7 +43,7 @@ room-no room m =
     )
 
 -- none of 1 to 5 applies exactly where there is room and the model is fit
-pub fitness-read-yes : (g : Automaton) (room : ℕ) → (fitness_read g room ≡ Yes) ↔ ((length g.arcs ≤ room) × Fit g)
+pub fitness-read-yes : (g : Automaton) (room : ℕ) → (fitness_read g room ≡ Ok tt) ↔ ((length g.arcs ≤ room) × Fit g)
 unfolding fitness_read
 fitness-read-yes g room =
     let m = length g.arcs in
@@ -70,13 +70,6 @@ fitness-read-yes g room =
             arcs.1 (λ a q. (unfit-no g.modes g.colours (get_or g.arcs a no_arc)).1 (f.arcs_fit a q)),
           ),
     )
-
--- the two tests of 21
-pub modes-differ : (x y : ℕ) (t : Bool) → (x ≡ y → ⊥) → false ≡ (eqb x y && t)
-modes-differ x y t h = rw (ne_eqb x y h) refl
-
-pub modes-same : (x y : ℕ) (t : Bool) → x ≡ y → t ≡ (eqb x y && t)
-modes-same x y t h = rw (eq-eqb x y h) refl
 
 -- 1 to 4 of equal numbers
 pub header-same : {n n' s s' k k' : ℕ} {u u' : Bool} → n ≡ n' → s ≡ s' → k ≡ k' → u ≡ u' → header n s k u ≡ header n' s' k' u'
@@ -128,17 +121,17 @@ module _ (h d : List (List ℕ)) where
 
   -- the ways to the verdict
   module _ (room : ℕ) where
-    pub readable-hoa : (x : ℕ) → x ≡ hoa_wrong h → (x ≡ 0 → ⊥) → Refused (HoaLine x) ≡ readable h d room
+    pub readable-hoa : (x : ℕ) → x ≡ hoa_wrong h → (x ≡ 0 → ⊥) → Err (HoaLine x) ≡ readable h d room
     unfolding readable
     readable-hoa x e z = rw (← e, ne_eqb x 0 z) refl
 
     module _ (right : hoa_wrong h ≡ 0) where
-      pub readable-dimacs : (x : ℕ) → x ≡ dimacs_wrong d → (x ≡ 0 → ⊥) → Refused (DimacsLine x) ≡ readable h d room
+      pub readable-dimacs : (x : ℕ) → x ≡ dimacs_wrong d → (x ≡ 0 → ⊥) → Err (DimacsLine x) ≡ readable h d room
       unfolding readable
       readable-dimacs x e z = rw (right, ← e, ne_eqb x 0 z) refl
 
       module _ (too : dimacs_wrong d ≡ 0) where
-        pub readable-other : agree h d ≡ false → Refused TextsDisagree ≡ readable h d room
+        pub readable-other : agree h d ≡ false → Err TextsDisagree ≡ readable h d room
         unfolding readable
         readable-other z = rw (right, too, z) refl
 
@@ -147,7 +140,7 @@ module _ (h d : List (List ℕ)) where
         readable-same z = rw (right, too, z) refl
 
     -- the verdict is yes exactly where both texts are right, they agree, there is room and the model is fit
-    pub readable-yes : (readable h d room ≡ Yes)
+    pub readable-yes : (readable h d room ≡ Ok tt)
         ↔ ((hoa_wrong h ≡ 0) × (dimacs_wrong d ≡ 0) × (agree h d ≡ true) × (length (model_in h d).arcs ≤ room) × Fit (model_in h d))
     unfolding readable
     readable-yes =

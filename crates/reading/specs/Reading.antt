@@ -1,18 +1,18 @@
 -- Reading a model from two texts: the answer, and what is left in the lent lists. Document 02, Ask 1: 19, 20 and 21 "are looked at in that order,
 -- before 1".
-use Rattle.std.specs.Prelude.{ℕ, ◌^◌, Bool, not, ◌||◌, List, ltb, eqb, length}
+use Rattle.std.specs.Prelude.{ℕ, ◌^◌, Bool, not, ◌||◌, List, ltb, eqb, length, Result}
 use Rattle.limits.specs.Ceilings.{arcs_most}
 use Rattle.refusals.specs.declared.Answer.{Answer}
+use Rattle.refusals.specs.declared.Refusal.{Refusal}
 use Rattle.refusals.specs.declared.Refusal.TheVariants.{HoaLine, DimacsLine, TextsDisagree}
-use Rattle.refusals.specs.declared.Verdict.{Verdict}
-use Rattle.refusals.specs.Refusals.{refuse, and_then, answer_of}
+use Rattle.refusals.specs.Refusals.{Verdict, refuse, and_then, answer_of}
 use Rattle.model.specs.Automaton.{Automaton}
 use Rattle.model.specs.Lists.{Lists}
 use Rattle.model.specs.Fitness.{header, arcs_verdict}
 use Rattle.fields.specs.Fields.{lines_of}
 use Rattle.hoa.specs.Text.{hoa_wrong}
 use Rattle.dimacs.specs.Text.{dimacs_wrong}
-use Rattle.filling.specs.declared.Reading.{Reading}
+use Rattle.filling.specs.declared.Numbers.{Numbers}
 use Rattle.filling.specs.Filling.{room_in, reading_if, written_if}
 use Rattle.reading.specs.Agreement.{agree}
 use Rattle.reading.specs.ModelRead.{model_in, model_read}
@@ -41,7 +41,7 @@ abbrev pub read_verdict : List ℕ → List ℕ → Lists → Verdict
 read_verdict hoa dimacs l = readable (lines_of hoa) (lines_of dimacs) (room_in l)
 
 -- what reading answers
-abbrev pub read_of : List ℕ → List ℕ → Lists → Reading
+abbrev pub read_of : List ℕ → List ℕ → Lists → Result Numbers Refusal
 read_of hoa dimacs l = reading_if (read_verdict hoa dimacs l) (model_read hoa dimacs)
 
 -- the number and the detail

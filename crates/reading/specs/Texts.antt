@@ -1,7 +1,6 @@
 -- Which models have texts. Document 02, Ask 1: "every fit model whose arcs of one source stand together has a pair of texts that gives it"; Ask 4, of
 -- models without both parts: "so only such models have texts"; Ask 5, of actions, likewise. (Theorem texts-exactly.)
-use Rattle.std.specs.Prelude.{ℕ, ◌≤◌, ◌<◌, ◌≡◌, ◌⊎◌, List, length}
-use Rattle.refusals.specs.declared.Verdict.TheVariants.{Yes}
+use Rattle.std.specs.Prelude.{ℕ, ◌≤◌, ◌<◌, ◌≡◌, ◌⊎◌, List, length, Ok}
 use Rattle.model.specs.Automaton.{Automaton, arc_at}
 use Rattle.model.specs.Lists.{Lists}
 use Rattle.filling.specs.Filling.{room_in}
@@ -23,5 +22,5 @@ NoActions g = (a : ℕ) → a < length g.arcs → (arc_at g a).action ≡ 0
 
 -- the two texts give the model: into any lists that take its arcs it is read
 pub record Gives (hoa dimacs : List ℕ) (g : Automaton) : Type 0 where
-  pub accepted : (l : Lists) → length g.arcs ≤ room_in l → read_verdict hoa dimacs l ≡ Yes
+  pub accepted : (l : Lists) → length g.arcs ≤ room_in l → read_verdict hoa dimacs l ≡ Ok tt
   pub model : model_read hoa dimacs ≡ g

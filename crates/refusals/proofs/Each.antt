@@ -3,25 +3,24 @@ use mathlib.Core.Path.{◌≡◌, refl}
 use mathlib.Core.Bool.{Bool, true, false}
 use Prim.Native.Nat.{ℕ, zero, suc, ◌+◌, ◌<◌}
 use native.Mathlib.Omega.{arith}
+use Rattle.std.specs.Prelude.{Ok, Err}
 use Rattle.refusals.specs.declared.Refusal.{Refusal}
-use Rattle.refusals.specs.declared.Verdict.{Verdict}
-use Rattle.refusals.specs.declared.Verdict.TheVariants.{Yes, Refused}
-use Rattle.refusals.specs.Refusals.{refuse, and_then}
+use Rattle.refusals.specs.Refusals.{Verdict, refuse, and_then}
 use Rattle.refusals.proofs.Scan.{Scan}
 
 module _ (P : Verdict → Type 0) where
   -- a row, and what is checked after it
-  pub refuse-each : (t : Bool) (r : Refusal) {v : Verdict} → P (Refused r) → P v → P (refuse t r v)
+  pub refuse-each : (t : Bool) (r : Refusal) {v : Verdict} → P (Err r) → P v → P (refuse t r v)
   refuse-each true r here after = here
   refuse-each false r here after = after
 
-  pub then-each : (u : Verdict) {v : Verdict} → P u → (u ≡ Yes → P v) → P (and_then u v)
-  then-each Yes first second = second refl
-  then-each (Refused r) first second = first
+  pub then-each : (u : Verdict) {v : Verdict} → P u → (u ≡ Ok tt → P v) → P (and_then u v)
+  then-each (Ok _) first second = second refl
+  then-each (Err r) first second = first
 
   -- a scan, by its places
-  module _ {test : ℕ → Bool} {r : ℕ → Refusal} {n : ℕ} {v : ℕ → Verdict} (scan : Scan test r n v) (yes : P Yes)
-      (each : (k : ℕ) → k < n → P (Refused (r k))) where
+  module _ {test : ℕ → Bool} {r : ℕ → Refusal} {n : ℕ} {v : ℕ → Verdict} (scan : Scan test r n v) (yes : P (Ok tt))
+      (each : (k : ℕ) → k < n → P (Err (r k))) where
     from_each : (i k : ℕ) → k + i ≡ n → P (v k)
     from_each zero k e = let end : k ≡ n = omega arith in rw (end, scan.ends) yes
     from_each (suc i) k e =

@@ -6,11 +6,10 @@ use Prim.Native.Nat.{ℕ, ◌^◌, ◌<◌}
 use native.Mathlib.Omega.{arith}
 use lib.Dec.{eqb}
 use Rattle.refusals.specs.declared.Answer.{Answer}
+use Rattle.std.specs.Prelude.{Ok, Err}
 use Rattle.refusals.specs.declared.Refusal.{Refusal}
 use Rattle.refusals.specs.declared.Refusal.TheVariants.{ModeCount, StartMode, ArcLists, ColourCount, UnfitArc, Levels, Product, WorkingSpace, PlanBuffer, NoPlan, PlanLength, ArcNumber, OtherMode, OpenCycle, ImpossibleStep, FallingCycle, MissingColour, NoSuchColour, HoaLine, DimacsLine, TextsDisagree, MixedGauge, JoinSize, BarredColour}
-use Rattle.refusals.specs.declared.Verdict.{Verdict}
-use Rattle.refusals.specs.declared.Verdict.TheVariants.{Yes, Refused}
-use Rattle.refusals.specs.Refusals.{numbered, answer_of}
+use Rattle.refusals.specs.Refusals.{Verdict, numbered, answer_of}
 use Rattle.refusals.proofs.Verdicts.{clash}
 
 -- the numbers of refusals are not 0, and fit a byte
@@ -130,9 +129,9 @@ pub refusal-one : (q r : Refusal) → numbered q ≡ numbered r → q ≡ r
 refusal-one q r e = sym (refusal-back q) ∙ ap {B = Refusal} refusal_of e ∙ refusal-back r
 
 -- 0 is the number of the yes alone
-pub yes-number : (v : Verdict) → ((answer_of v).number ≡ 0) ↔ (v ≡ Yes)
-yes-number Yes = (λ e. refl, λ e. refl)
-yes-number (Refused r) = (λ e. absurd (omega (arith, refusal-number r)), λ e. ap (λ (v : Verdict). (answer_of v).number) e)
+pub yes-number : (v : Verdict) → ((answer_of v).number ≡ 0) ↔ (v ≡ Ok tt)
+yes-number (Ok _) = (λ e. refl, λ e. refl)
+yes-number (Err r) = (λ e. absurd (omega (arith, refusal-number r)), λ e. ap (λ (v : Verdict). (answer_of v).number) e)
 
 module _ {A B : Type 0} (f : A → B) where
   -- what is answered, and with it its number, by the definition f that gives it

@@ -6,10 +6,9 @@ use mathlib.Core.Logic.{◌↔◌}
 use Prim.Native.Nat.{ℕ, zero, suc, ◌+◌, ◌≤◌, ◌<◌}
 use native.Mathlib.Decide.{ℕ_discrete, dec_le}
 use native.Mathlib.Omega.{arith}
+use Rattle.std.specs.Prelude.{Ok, Err}
 use Rattle.refusals.specs.declared.Refusal.{Refusal}
-use Rattle.refusals.specs.declared.Verdict.{Verdict}
-use Rattle.refusals.specs.declared.Verdict.TheVariants.{Yes, Refused}
-use Rattle.refusals.specs.Refusals.{refuse}
+use Rattle.refusals.specs.Refusals.{Verdict, refuse}
 use Rattle.refusals.proofs.Verdicts.{clash, refuse-yes}
 
 -- d is the first of n places that passes the test
@@ -30,12 +29,12 @@ first_one test n x y f h =
 -- place on; the refusal tells the place
 pub record Scan (test : ℕ → Bool) (r : ℕ → Refusal) (n : ℕ) (v : ℕ → Verdict) : Type 0 where
   pub turn : (k : ℕ) → k < n → v k ≡ refuse (test k) (r k) (v (suc k))
-  pub ends : v n ≡ Yes
+  pub ends : v n ≡ Ok tt
   pub tells : (x y : ℕ) → r x ≡ r y → x ≡ y
 
 module _ (test : ℕ → Bool) (r : ℕ → Refusal) (n : ℕ) (v : ℕ → Verdict) (scan : Scan test r n v) where
   -- the verdict from place k on, where i places are left: yes exactly where none of them passes
-  yes-from : (i k : ℕ) → k + i ≡ n → (v k ≡ Yes) ↔ ((j : ℕ) → k ≤ j → j < n → test j ≡ false)
+  yes-from : (i k : ℕ) → k + i ≡ n → (v k ≡ Ok tt) ↔ ((j : ℕ) → k ≤ j → j < n → test j ≡ false)
   yes-from zero k e = let end : k ≡ n = omega arith in (λ q j h i. absurd (omega arith), λ f. rw end scan.ends)
   yes-from (suc i) k e =
       let row = refuse-yes (test k) (r k) (v (suc k)) in
@@ -48,23 +47,23 @@ module _ (test : ℕ → Bool) (r : ℕ → Refusal) (n : ℕ) (v : ℕ → Verd
       )
 
   -- a scan says yes exactly where no place passes
-  pub scan-yes : (v 0 ≡ Yes) ↔ ((j : ℕ) → j < n → test j ≡ false)
+  pub scan-yes : (v 0 ≡ Ok tt) ↔ ((j : ℕ) → j < n → test j ≡ false)
   scan-yes = let all = yes-from n 0 (omega arith) in (λ q j h. all.0 q j (omega arith) h, λ f. all.1 (λ j h l. f j l))
 
   -- the verdict from place k on, where i places are left and no place before k passes
-  scan-from : (d i k : ℕ) → k + i ≡ n → ((j : ℕ) → j < k → test j ≡ false) → (v k ≡ Refused (r d)) ↔ FirstOf test n d
+  scan-from : (d i k : ℕ) → k + i ≡ n → ((j : ℕ) → j < k → test j ≡ false) → (v k ≡ Err (r d)) ↔ FirstOf test n d
   scan-from d zero k e none = let end : k ≡ n = omega arith in (λ q. clash (cc), λ f. clash (cc (none d (omega arith))))
   scan-from d (suc i) k e none =
       rw (scan.turn k (omega arith)) (go (test k) refl λ z. scan-from d i (suc k) (omega arith) λ j h.
       elim (ℕ_discrete j k) [ yes q ↦ rw q z | no q ↦ none j (omega arith) ])
     where
-      go : (t : Bool) → test k ≡ t → (test k ≡ false → (v (suc k) ≡ Refused (r d)) ↔ FirstOf test n d)
-          → (refuse t (r k) (v (suc k)) ≡ Refused (r d)) ↔ FirstOf test n d
+      go : (t : Bool) → test k ≡ t → (test k ≡ false → (v (suc k) ≡ Err (r d)) ↔ FirstOf test n d)
+          → (refuse t (r k) (v (suc k)) ≡ Err (r d)) ↔ FirstOf test n d
       go true z ih =
           let here : FirstOf test n k = record { within = omega arith; passes = z; before = none } in
           (λ q. subst (FirstOf test n) (scan.tells k d (cc)) here, λ f. rw (first_one test n k d here f) refl)
       go false z ih = ih z
 
   -- a scan is refused with detail d exactly where d is the first place that passes
-  pub scan-first : (d : ℕ) → (v 0 ≡ Refused (r d)) ↔ FirstOf test n d
+  pub scan-first : (d : ℕ) → (v 0 ≡ Err (r d)) ↔ FirstOf test n d
   scan-first d = scan-from d n 0 (omega arith) λ j h. absurd (omega arith)

@@ -1,10 +1,8 @@
 -- The number and the detail of each refusal. Document 01, "Where each call stops": the table, "with one detail (0 where none is named)".
-use Rattle.std.specs.Prelude.{ℕ, Bool, true, false}
+use Rattle.std.specs.Prelude.{ℕ, Bool, true, false, Result, Ok, Err}
 use Rattle.refusals.specs.declared.Answer.{Answer}
 use Rattle.refusals.specs.declared.Refusal.{Refusal}
 use Rattle.refusals.specs.declared.Refusal.TheVariants.{ModeCount, StartMode, ArcLists, ColourCount, UnfitArc, Levels, Product, WorkingSpace, PlanBuffer, NoPlan, PlanLength, ArcNumber, OtherMode, OpenCycle, ImpossibleStep, FallingCycle, MissingColour, NoSuchColour, HoaLine, DimacsLine, TextsDisagree, MixedGauge, JoinSize, BarredColour}
-use Rattle.refusals.specs.declared.Verdict.{Verdict}
-use Rattle.refusals.specs.declared.Verdict.TheVariants.{Yes, Refused}
 
 -- number and detail
 abbrev pub answer : ℕ → ℕ → Answer
@@ -41,17 +39,26 @@ numbered JoinSize = answer 23 0
 -- Ask 6
 numbered (BarredColour position) = answer 24 position
 
+-- what a check says: yes, or where the call stops
+abbrev pub Verdict : Type 0
+Verdict = Result Unit Refusal
+
 -- the yes is 0, with detail 0
 abbrev pub answer_of : Verdict → Answer
-answer_of Yes = answer 0 0
-answer_of (Refused r) = numbered r
+answer_of (Ok _) = answer 0 0
+answer_of (Err r) = numbered r
 
 -- "Checked top to bottom; the first that applies is answered": the refusal where its condition holds, else what is checked after it
-abbrev pub refuse : Bool → Refusal → Verdict → Verdict
-refuse true r v = Refused r
+abbrev pub refuse : {T : Type 0} → Bool → Refusal → Result T Refusal → Result T Refusal
+refuse true r v = Err r
 refuse false r v = v
 
--- two checks, one after the other
-abbrev pub and_then : Verdict → Verdict → Verdict
-and_then Yes v = v
-and_then (Refused r) v = Refused r
+-- a check, and what follows where it says yes
+abbrev pub and_then : {T : Type 0} → Verdict → Result T Refusal → Result T Refusal
+and_then (Ok _) v = v
+and_then (Err r) v = Err r
+
+-- the verdict of a call that hands something back on yes
+abbrev pub verdict_of : {T : Type 0} → Result T Refusal → Verdict
+verdict_of (Ok _) = Ok tt
+verdict_of (Err r) = Err r

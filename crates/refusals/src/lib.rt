@@ -2,10 +2,10 @@
 #![tactic(auto)]
 
 ghost use Rattle.std.specs.Prelude.{◌≡◌};
-ghost use Rattle.refusals.specs.Refusals.{answer, numbered, answer_of, and_then};
+ghost use Rattle.refusals.specs.Refusals.{answer, numbered, answer_of};
 
 // Where a call stops: a case for each number of document 01's table, and of document 02, with its detail where one is named.
-#[derive(Clone, Copy)]
+#[derive(Clone, Copy, Debug, PartialEq, Eq)]
 pub enum Refusal {
     ModeCount,
     StartMode,
@@ -49,65 +49,48 @@ fn row(number: u8, detail: u64) -> Answer
     Answer { number, detail }
 }
 
-impl Refusal {
+impl From<Refusal> for Answer {
+    ghost from_gives = { λ refusal told. told ≡ numbered refusal };
+
     // The number, with the detail.
-    pub fn answer(self) -> Answer
-        ensures { result ≡ numbered self }
-    {
-        match self {
+    fn from(refusal: Refusal) -> Answer {
+        match refusal {
             Refusal::ModeCount => row(1, 0),
             Refusal::StartMode => row(2, 0),
             Refusal::ArcLists => row(3, 0),
             Refusal::ColourCount => row(4, 0),
-            Refusal::UnfitArc(arc) => row(5, arc as u64),
+            Refusal::UnfitArc(arc) => row(5, u64::from(arc)),
             Refusal::Levels => row(6, 0),
             Refusal::Product => row(7, 0),
             Refusal::WorkingSpace => row(8, 0),
             Refusal::PlanBuffer => row(9, 0),
             Refusal::NoPlan => row(10, 0),
             Refusal::PlanLength => row(11, 0),
-            Refusal::ArcNumber(position) => row(12, position as u64),
-            Refusal::OtherMode(position) => row(13, position as u64),
+            Refusal::ArcNumber(position) => row(12, u64::from(position)),
+            Refusal::OtherMode(position) => row(13, u64::from(position)),
             Refusal::OpenCycle => row(14, 0),
-            Refusal::ImpossibleStep(step) => row(15, step as u64),
+            Refusal::ImpossibleStep(step) => row(15, u64::from(step)),
             Refusal::FallingCycle => row(16, 0),
-            Refusal::MissingColour(colour) => row(17, colour as u64),
+            Refusal::MissingColour(colour) => row(17, u64::from(colour)),
             Refusal::NoSuchColour => row(18, 0),
             Refusal::HoaLine(line) => row(19, line),
             Refusal::DimacsLine(line) => row(20, line),
             Refusal::TextsDisagree => row(21, 0),
             Refusal::MixedGauge => row(22, 0),
             Refusal::JoinSize => row(23, 0),
-            Refusal::BarredColour(position) => row(24, position as u64),
+            Refusal::BarredColour(position) => row(24, u64::from(position)),
         }
     }
 }
 
-// What a check says.
-#[derive(Clone, Copy)]
-pub enum Verdict {
-    Yes,
-    Refused(Refusal),
-}
+// What a check says, yes or a refusal: 0 for yes, else the refusal's number, with the detail.
+impl From<Result<(), Refusal>> for Answer {
+    ghost from_gives = { λ checked told. told ≡ answer_of checked };
 
-impl Verdict {
-    // 0 for yes, else the refusal's number, with the detail.
-    pub fn answer(self) -> Answer
-        ensures { result ≡ answer_of self }
-    {
-        match self {
-            Verdict::Yes => row(0, 0),
-            Verdict::Refused(refusal) => refusal.answer(),
-        }
-    }
-
-    // The first refusal of two checks, of which this one is looked at first.
-    pub fn and_then(self, next: Verdict) -> Verdict
-        ensures { result ≡ and_then self next }
-    {
-        match self {
-            Verdict::Yes => next,
-            Verdict::Refused(refusal) => Verdict::Refused(refusal),
+    fn from(checked: Result<(), Refusal>) -> Answer {
+        match checked {
+            Ok(()) => row(0, 0),
+            Err(refusal) => Answer::from(refusal),
         }
     }
 }

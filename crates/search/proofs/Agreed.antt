@@ -1,5 +1,7 @@
 -- Document 02, Ask 7, from what search promises of every call: any two answers to a call agree, and plans carry the given arc numbers. Assumes
 -- nothing.
+use Rattle.std.specs.Prelude.{Ok, Err}
+use Rattle.refusals.specs.Refusals.{Verdict}
 use mathlib.Core.Logic.{◌↔◌, ◌⊎◌, inl, inr}
 use mathlib.Core.Path.{◌≡◌, refl, sym, ap, subst₂, ◌∙◌}
 use mathlib.Core.List.{List}
@@ -9,8 +11,6 @@ use native.Mathlib.Decide.{ℕ_discrete}
 use lib.ListN.{length, get_or, take}
 use Rattle.refusals.specs.declared.Answer.{Answer}
 use Rattle.refusals.specs.declared.Refusal.{Refusal}
-use Rattle.refusals.specs.declared.Verdict.{Verdict}
-use Rattle.refusals.specs.declared.Verdict.TheVariants.{Yes, Refused}
 use Rattle.refusals.proofs.Verdicts.{clash}
 use Rattle.model.specs.Automaton.{Automaton, arc_at}
 use Rattle.model.specs.declared.Arc.{Arc}
@@ -20,9 +20,7 @@ use Rattle.model.proofs.Arcs.{arcs-length, arcs-here}
 use Rattle.model.proofs.Leads.{leads-cut}
 use Rattle.model.proofs.Places.{mode_at, Joins, leads-places}
 use Rattle.search.specs.declared.SearchAnswer.{SearchAnswer}
-use Rattle.search.specs.declared.Searched.{Searched}
-use Rattle.search.specs.declared.Searched.TheVariants as outcome
-use Rattle.search.specs.Search.{no_plan, IsFound, search_answer, searchable, Answered, none, found, SearchByNumber, SearchOf}
+use Rattle.search.specs.Search.{Searched, planned, no_plan, IsFound, search_answer, searchable, Answered, none, found, SearchByNumber, SearchOf}
 use Rattle.search.specs.Agreed.{Agreed, refusals, tens, plans, GivenNumbers}
 use Rattle.search.proofs.Demand3.{answered-found, plan-searchable, search-none}
 
@@ -65,7 +63,7 @@ given-leads n s k l w = (λ given. (last, (leads-places g w s last).1 (joins giv
         known i low = omega (arith, (f i low).0, arcs-length l (length l.sources) 0)
 
 -- two answers where none of 1 to 9 applies: both 10 or both a plan, where each is 10 just where the other is
-answered-agree : {v : Verdict} {g g' : Automaton} {x b c x' b' c' : ℕ} {on on' : List ℕ} {plan plan' plan₂ plan₂' : List ℕ} {r r₂ : Searched} → v ≡ Yes
+answered-agree : {v : Verdict} {g g' : Automaton} {x b c x' b' c' : ℕ} {on on' : List ℕ} {plan plan' plan₂ plan₂' : List ℕ} {r r₂ : Searched} → v ≡ Ok tt
     → Answered g x on b c plan plan' r → Answered g' x' on' b' c' plan₂ plan₂' r₂ → (r ≡ no_plan → r₂ ≡ no_plan) → (r₂ ≡ no_plan → r ≡ no_plan) → Agreed v r r₂
 answered-agree e (none h) (none k) to from = tens e
 answered-agree e (found f) (found g) to from = plans e
@@ -83,16 +81,16 @@ module _ (n s k : ℕ) (l : Lists) (x : ℕ) (on : List ℕ) (b c : ℕ) {work p
       same = rw (ew, ep) refl
 
       go : (v : Verdict) → searchable n s k l b c (length work) (length plan) ≡ v → Agreed (searchable n s k l b c (length work) (length plan)) r r₂
-      go Yes e =
+      go (Ok _) e =
           let one = search-none n s k l x on b c h e in
           let two = search-none n s k l x on b c h₂ (same ∙ e) in
           answered-agree e (h.decided e).answered (h₂.decided (same ∙ e)).answered (λ q. two.1 (one.0 q)) (λ q. one.1 (two.0 q))
-      go (Refused y) e =
+      go (Err y) e =
           subst₂ (λ (r z : Searched). Agreed (searchable n s k l b c (length work) (length plan)) r z) (sym (h.refused y e).0)
           (sym (h₂.refused y (same ∙ e)).0) (refusals e)
 
   -- "Plans still carry the given arc numbers": the bytes of a plan are numbers of the arcs in the lists as they are given
-  pub search-numbers : {p q : ℕ} → SearchOf n s k l x on b c work plan work' plan' (outcome.Plan p q) → GivenNumbers l s (take (p + q) plan')
+  pub search-numbers : {p q : ℕ} → SearchOf n s k l x on b c work plan work' plan' (planned p q) → GivenNumbers l s (take (p + q) plan')
   search-numbers {p} {q} h =
       let f = answered-found (h.decided (plan-searchable n s k l x on b c h)).answered in
       let path = f.serves.serves.plan in
@@ -100,13 +98,13 @@ module _ (n s k : ℕ) (l : Lists) (x : ℕ) (on : List ℕ) (b c : ℕ) {work p
       (path.mode, (leads-cut (automaton_of n s k l) p (take (p + q) plan') s path.mode).1 (path.mode, path.leads_in, path.leads_cycle))
 
 -- where one of 1 to 9 applies, both answers are that refusal
-pub agreed-refused : {x : Refusal} {r r₂ : Searched} → Agreed (Refused x) r r₂ → (r ≡ outcome.Refused x) × (r₂ ≡ outcome.Refused x)
+pub agreed-refused : {x : Refusal} {r r₂ : Searched} → Agreed (Err x) r r₂ → (r ≡ Err x) × (r₂ ≡ Err x)
 agreed-refused (refusals e) = (cc, cc)
 agreed-refused (tens e) = clash (cc)
 agreed-refused (plans e) = clash (cc)
 
 -- where none applies, both are 10 or both a plan
-pub agreed-decided : {r r₂ : Searched} → Agreed Yes r r₂ → ((r ≡ no_plan) × (r₂ ≡ no_plan)) ⊎ (IsFound r × IsFound r₂)
+pub agreed-decided : {r r₂ : Searched} → Agreed (Ok tt) r r₂ → ((r ≡ no_plan) × (r₂ ≡ no_plan)) ⊎ (IsFound r × IsFound r₂)
 agreed-decided (refusals e) = clash (cc)
 agreed-decided (tens e) = inl (refl, refl)
 agreed-decided (plans {p} {q} {p'} {q'} e) = inr ((p, q, refl), (p', q', refl))
@@ -121,11 +119,11 @@ agreed-answer (plans e) = refl
 pub numbers-agree : (v : Verdict) {g : Automaton} {x : ℕ} {on : List ℕ} {b c : ℕ} {plan plan' plan₂ plan₂' : List ℕ} {a a₂ : SearchAnswer}
     → SearchByNumber v g x on b c plan plan' a → SearchByNumber v g x on b c plan₂ plan₂' a₂
     → (a.answer ≡ a₂.answer) × ((a.answer.number ≡ 0 → ⊥) → (a.p ≡ a₂.p) × (a.q ≡ a₂.q))
-numbers-agree (Refused y) h h₂ =
+numbers-agree (Err y) h h₂ =
     let (e, p, q) = h.refused y refl in
     let (e₂, p₂, q₂) = h₂.refused y refl in
     (e ∙ sym e₂, λ no. (p ∙ sym p₂, q ∙ sym q₂))
-numbers-agree Yes {a = a} h h₂ =
+numbers-agree (Ok _) {a = a} h h₂ =
     elim (ℕ_discrete a.answer.number 10) [
       | yes ten ↦
           let (e, p, q) = h.ten_alone refl ten in

@@ -6,8 +6,7 @@ use Rattle.model.specs.Automaton.{Automaton}
 use Rattle.model.specs.Lists.{Lists, automaton_of}
 use Rattle.model.specs.Plans.{Plan}
 use Rattle.switches.specs.PlansOn.{ServesOn}
-use Rattle.search.specs.declared.Searched.{Searched}
-use Rattle.search.specs.Search.{Answered, none, found, Decided, SearchOf}
+use Rattle.search.specs.Search.{Searched, Answered, none, found, Decided, SearchOf}
 use Rattle.search.proofs.Searchable.{in-numbers}
 
 module _ (g : Automaton) (x x' : ℕ) (on on' : List ℕ) (b c : ℕ) (same : (p : Plan) → ServesOn g x on b c p ↔ ServesOn g x' on' b c p) where

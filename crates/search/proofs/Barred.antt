@@ -1,11 +1,11 @@
 -- Document 02, Ask 6, from what search promises of every call: bits at or above k change nothing, and with nothing barred search answers what it
 -- answered before. Assumes nothing.
+use Rattle.std.specs.Prelude.{Ok}
 use mathlib.Core.Path.{◌≡◌}
 use mathlib.Core.List.{List}
 use mathlib.Core.Logic.{◌↔◌}
 use Prim.Native.Nat.{ℕ, ◌+◌, ◌<◌}
 use lib.ListN.{length, take}
-use Rattle.refusals.specs.declared.Verdict.TheVariants.{Yes}
 use Rattle.model.specs.Automaton.{bit}
 use Rattle.model.specs.Lists.{Lists, automaton_of}
 use Rattle.model.specs.Plans.{Plan, IsPlan, Feasible, Meets}
@@ -14,8 +14,7 @@ use Rattle.model.proofs.Plans.{accepted-all, plan-unbarred}
 use Rattle.switches.specs.Switches.{AllBelow}
 use Rattle.switches.proofs.PlansOn.{serves-on-barred}
 use Rattle.judge.specs.Shape.{plan_of}
-use Rattle.search.specs.declared.Searched.{Searched}
-use Rattle.search.specs.Search.{search_answer, searchable, SearchOf}
+use Rattle.search.specs.Search.{Searched, search_answer, searchable, SearchOf}
 use Rattle.search.proofs.Alike.{search-alike}
 use Rattle.search.proofs.Switched.{search-all-on}
 
@@ -28,7 +27,7 @@ search-ignored n s k l x y on b c same = search-alike n s k l x y on on b c (ser
 -- colours on some arc of its round, and otherwise such a plan
 pub search-unbarred : (n s k : ℕ) (l : Lists) (on : List ℕ) (b c : ℕ) {work plan work' plan' : List ℕ} {r : Searched}
     → AllBelow (length (automaton_of n s k l).arcs) on → SearchOf n s k l 0 on b c work plan work' plan' r
-    → searchable n s k l b c (length work) (length plan) ≡ Yes
+    → searchable n s k l b c (length work) (length plan) ≡ Ok tt
     → let g = automaton_of n s k l in
     let Plain : Plan → Type 0 = λ p. IsPlan g p × Feasible g b c p × ((j : ℕ) → j < k → Meets g j p.cycle) in
     let a = search_answer r in

@@ -1,10 +1,10 @@
 -- Document 01, "Examples": what search answers to the rows A, B, G and H of the table of examples. Assumes nothing.
+use Rattle.std.specs.Prelude.{Ok}
 use mathlib.Core.Path.{◌≡◌, ap}
 use mathlib.Core.List.{List}
 use mathlib.Core.Logic.{◌↔◌}
 use Prim.Native.Nat.{ℕ}
 use lib.ListN.{length}
-use Rattle.refusals.specs.declared.Verdict.TheVariants.{Yes}
 use Rattle.refusals.proofs.Verdicts.{clash}
 use Rattle.model.specs.Automaton.{Automaton}
 use Rattle.model.specs.Lists.{automaton_of}
@@ -13,8 +13,7 @@ use Rattle.switches.specs.Switches.{AllBelow}
 use Rattle.switches.specs.PlansOn.{SomePlanOn}
 use Rattle.switches.proofs.PlansOn.{some-plan-all-on}
 use Rattle.judge.specs.Examples.{Claim, Found, None, Judged, Example, Admitted, Says, Stands}
-use Rattle.search.specs.declared.Searched.{Searched}
-use Rattle.search.specs.Search.{search_answer, spaces, searchable, SearchOf}
+use Rattle.search.specs.Search.{Searched, search_answer, spaces, searchable, SearchOf}
 use Rattle.search.specs.Examples.{Answers}
 use Rattle.search.proofs.Searchable.{searchable-on}
 use Rattle.search.proofs.Demand3.{search-ten, search-complete}
@@ -23,7 +22,7 @@ use Rattle.search.proofs.Demand3.{search-ten, search-complete}
 -- Examples, examples-hold)
 pub example-searched : (x : Example) {on work plan work' plan' : List ℕ} {r : Searched} → Stands x
     → AllBelow (length (automaton_of x.modes 0 x.colours x.arcs).arcs) on
-    → spaces x.modes x.colours x.bound (length work) (length plan) ≡ Yes
+    → spaces x.modes x.colours x.bound (length work) (length plan) ≡ Ok tt
     → SearchOf x.modes 0 x.colours x.arcs 0 on x.bound x.credit work plan work' plan' r → Answers x.claim r
 example-searched x {on} {work} {plan} {r = r} stands all room h = go x.claim stands
   where
@@ -33,7 +32,7 @@ example-searched x {on} {work} {plan} {r = r} stands all room h = go x.claim sta
     g : Automaton
     g = automaton_of n 0 x.colours x.arcs
 
-    through : Admitted x → searchable n 0 x.colours x.arcs x.bound x.credit (length work) (length plan) ≡ Yes
+    through : Admitted x → searchable n 0 x.colours x.arcs x.bound x.credit (length work) (length plan) ≡ Ok tt
     through a = searchable-on n 0 x.colours x.arcs x.bound x.credit (length work) (length plan) a room
 
     same : SomePlanOn g 0 on x.bound x.credit ↔ SomePlan g 0 x.bound x.credit

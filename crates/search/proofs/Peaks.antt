@@ -1,17 +1,18 @@
 -- The peaks of modes: an array of which a word for each mode is lent, to the decision that leaves a set of peaks in it and to the search for the first of
 -- them that a cycle keeps. What both say of plans. Assumes nothing.
-use mathlib.Core.Path.{◌≡◌, sym, subst, ◌∙◌}
+use mathlib.Core.Path.{◌≡◌, refl, sym, subst, ◌∙◌}
 use mathlib.Core.Bool.{Bool, true, false}
 use mathlib.Core.List.{List, ◌++◌}
 use Prim.Native.Nat.{ℕ, ◌-◌, ◌≤◌, ◌<◌}
 use native.Mathlib.Omega.{arith}
-use native.Mathlib.Decide.{dec_lt}
 use lib.ListN.{length, get_or, take, drop, replicate, length-append, get_or-append}
 use lib.Seq.{length-take-le, take_at}
+use Rattle.std.specs.Prelude.{Option, Some, None, IsSome}
 use Rattle.limits.specs.Ceilings.{modes_most}
 use Rattle.nets.specs.Net.{Net, AcceptedLasso}
 use Rattle.nets.specs.Table.{KeptCycle}
-use Rattle.passes.specs.Outcome.{Peak, FirstKept}
+use Rattle.groups.specs.declared.Row.{Row}
+use Rattle.passes.specs.Outcome.{Peak, FirstKept, FirstKeptMode}
 use Rattle.passes.specs.declared.pass.Task.{Task}
 use Rattle.passes.specs.Tasks.{task_net}
 use Rattle.deciding.specs.declared.Question.{Question}
@@ -34,7 +35,7 @@ pub record KeptMode (g : Net) (b c m y : ℕ) : Type 0 where
   pub peak : Peak g b c m (y - 1)
   pub cycle : KeptCycle g b m (y - 1)
 
-module _ {rows places : List ℕ} {t : Task} {words : ℕ} (able : Searchable rows places t words) where
+module _ {rows : List Row} {places : List ℕ} {t : Task} (able : Searchable rows places t) where
   -- a word for each mode is lent
   pub lent-words : t.modes ≡ length (take t.modes blank_table)
   lent-words = sym (length-take-le t.modes blank_table (omega (arith, able.few_modes)))
@@ -90,36 +91,42 @@ module _ {rows places : List ℕ} {t : Task} {words : ℕ} (able : Searchable ro
       pub filled-askable : Decidable rows places q (length (take t.modes (filled t.modes kept))) × Below q.bound (take t.modes (filled t.modes kept))
       filled-askable = (askable filled-count, rw (kept-front, same) found.below)
 
-      -- where the set has members, and mode m is answered as the first whose peak is kept
-      module _ {m : ℕ} (full : some ≡ true)
-          (lent : FirstKept (asked_net rows places q (length (take t.modes (filled t.modes kept)))) q.bound (take t.modes (filled t.modes kept)) m) where
-        first : FirstKept (task_net rows places t) t.bound kept m
-        first =
-            subst (λ (w : List ℕ). FirstKept (task_net rows places t) t.bound w m) kept-front
-            (subst (λ (n : ℕ). FirstKept (asked_net rows places (question_of t) n) t.bound (take t.modes (filled t.modes kept)) m) filled-count
-            (subst (λ (y : Question). FirstKept (asked_net rows places y (length (take t.modes (filled t.modes kept)))) y.bound (take t.modes (filled t.modes kept)) m)
-            same lent))
+      -- where the set has members, some mode is answered as the first whose peak is kept
+      first-some : (r : Option ℕ) → some ≡ true
+          → FirstKept (asked_net rows places q (length (take t.modes (filled t.modes kept)))) q.bound (take t.modes (filled t.modes kept)) r
+          → FirstKept (task_net rows places t) t.bound kept r
+      first-some r full lent =
+          subst (λ (w : List ℕ). FirstKept (task_net rows places t) t.bound w r) kept-front
+          (subst (λ (n : ℕ). FirstKept (asked_net rows places (question_of t) n) t.bound (take t.modes (filled t.modes kept)) r) filled-count
+          (subst (λ (y : Question). FirstKept (asked_net rows places y (length (take t.modes (filled t.modes kept)))) y.bound (take t.modes (filled t.modes kept)) r)
+          same lent))
 
-        -- it is a mode, since one of the members is kept
-        first-mode : m < t.modes
-        first-mode =
-            let one = found.kept full in
-            let inside = (found.peaks one.mode one.peak one.listed).mode in
-            elim (dec_lt m t.modes) [
-              | yes h ↦ h
-              | no h ↦ absurd (first.none one.mode (omega arith) (record { peak = one.peak; listed = one.listed; cycle = one.cycle }))
-            ]
+      pub some-first : (r : Option ℕ) → some ≡ true
+          → FirstKept (asked_net rows places q (length (take t.modes (filled t.modes kept)))) q.bound (take t.modes (filled t.modes kept)) r
+          → IsSome r
+      some-first (Some m) full lent = refl
+      some-first None full lent =
+          let one = found.kept full in
+          absurd (first-some None full lent one.mode (found.peaks one.mode one.peak one.listed).mode (record { peak = one.peak; listed = one.listed; cycle = one.cycle }))
+
+      module _ {r : Option ℕ} {m : ℕ} (full : some ≡ true) (is : r ≡ Some m)
+          (lent : FirstKept (asked_net rows places q (length (take t.modes (filled t.modes kept)))) q.bound (take t.modes (filled t.modes kept)) r) where
+        first : FirstKeptMode (task_net rows places t) t.bound kept m
+        first = rw is at (first-some r full lent)
+
+        pub first-mode : m < t.modes
+        first-mode = first.mode
 
         first_word : get_or (filled t.modes kept) m 0 ≡ get_or kept m 0
         first_word = get_or-append kept (drop t.modes blank_table) 0 m (omega (arith, first-mode, kept-size))
 
         first_some : 1 ≤ get_or (filled t.modes kept) m 0
-        first_some = omega (arith, first_word, (first.kept first-mode).listed)
+        first_some = omega (arith, first_word, first.kept.listed)
 
         -- its word in the array is that of its peak, and a cycle keeps it
         pub first-peak : KeptMode (task_net rows places t) t.bound t.credit m (get_or (filled t.modes kept) m 0)
         first-peak =
-            let k = first.kept first-mode in
+            let k = first.kept in
             record {
               some = first_some;
               low = omega (arith, first_word, found.below.below m);

@@ -1,7 +1,9 @@
 -- The pass for the prefix: it ends at an arc that comes to a mode with its peak, since a walk of at least one arc does; the arcs to the entry that it was
 -- tried at, and that arc, come there with the peak and no more. Assumes nothing.
+use Rattle.std.specs.Prelude.{Option, Some, None}
+use Rattle.std.specs.Option.{IsSome, IfSome}
 use mathlib.Core.Path.{◌≡◌, refl, sym, ap, subst, ◌∙◌}
-use mathlib.Core.Bool.{Bool, true, false}
+use mathlib.Core.Bool.{true}
 use mathlib.Core.List.{List, [], ◌∷◌, ◌++◌}
 use mathlib.Core.Logic.{◌↔◌}
 use Prim.Native.Nat.{ℕ, suc, pred, ◌+◌, ◌≤◌, ◌<◌}
@@ -14,6 +16,7 @@ use Rattle.nets.specs.Graph.{moves, Leads}
 use Rattle.nets.specs.Net.{Net, Usable, Fits}
 use Rattle.nets.specs.Table.{next, Closed, Reached}
 use Rattle.nets.proofs.Tables.{reached-below, reached-on}
+use Rattle.passes.specs.declared.pass.Closing.{Closing}
 use Rattle.passes.specs.Pass.{Pass, Ready, node, room}
 use Rattle.passes.specs.Queue.{node_at, charge_at, Covers, Closes, Begun, Passed}
 use Rattle.passes.specs.Trace.{Traced}
@@ -117,19 +120,17 @@ module _ (g : Net) (places : List ℕ) (b c m e : ℕ) (fits : Fits g) (peak : P
         }
 
   -- what the pass leaves
-  pub passed-prefix : {best w : List ℕ} {found : Bool} {head a tail : ℕ} → Ready (prefix_pass g places b m e) (length best) (length w)
-      → Passed (prefix_pass g places b m e) g.start c best w found head a tail → PrefixPassed g b c m e w head a
-  passed-prefix {best} {w} {found} {head} {a} {tail} r p =
+  pub passed-prefix : {best w : List ℕ} {found : Option Closing} {tail : ℕ} → Ready (prefix_pass g places b m e) (length best) (length w)
+      → Passed (prefix_pass g places b m e) g.start c best w found tail → IsSome found × IfSome found (λ k. PrefixPassed g b c m e w k.head k.arc)
+  passed-prefix {found = None} r p = absurd (unfinished p.from (p.covers refl))
+  passed-prefix {best} {w} {found = Some k} r p =
       let q = p.from.queue in
-      let size : length best ≡ g.modes = r.table ∙ nodes-first g.modes in
-      let f = is_found found refl in
-      record {
-        few = subst (λ (y : ℕ). head < room y b) size (omega (arith, p.before f, queue-room q));
-        linked = queue-linked r q (p.before f);
-        byte = omega (arith, (p.closing f).step.known, r.few_arcs);
-        arcs = prefix-arcs p.from head a size (p.before f) (p.closing f);
-      }
-    where
-      is_found : (y : Bool) → found ≡ y → found ≡ true
-      is_found true z = z
-      is_found false z = absurd (unfinished p.from (p.covers z))
+      let size : length best ≡ g.modes = r.table ∙ nodes-first g.modes in (
+        refl,
+        record {
+          few = subst (λ (y : ℕ). k.head < room y b) size (omega (arith, p.before, queue-room q));
+          linked = queue-linked r q p.before;
+          byte = omega (arith, p.closing.step.known, r.few_arcs);
+          arcs = prefix-arcs p.from k.head k.arc size p.before p.closing;
+        },
+      )

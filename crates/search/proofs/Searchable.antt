@@ -1,33 +1,30 @@
 -- Where none of 1 to 9 applies, and what search then promises. Assumes nothing.
-use mathlib.Core.Path.{◌≡◌, refl, sym, ap, subst, subst₂, ◌∙◌}
+use Rattle.std.specs.Prelude.{Result, Ok, Err}
+use mathlib.Core.Path.{◌≡◌, refl, sym, ap, ◌∙◌}
 use mathlib.Core.List.{List}
 use mathlib.Core.Logic.{◌↔◌}
 use Prim.Native.Nat.{ℕ, ◌+◌, ◌*◌, ◌≤◌}
 use native.Mathlib.Omega.{arith}
 use lib.Dec.{ltb}
 use lib.ListN.{length, replicate}
-use Rattle.limits.specs.Ceilings.{bound_most, product_most, work_space, plan_buffer}
+use Rattle.limits.specs.Ceilings.{modes_most, colours_most, bound_most, product_most, work_space, plan_buffer}
 use Rattle.refusals.specs.declared.Refusal.{Refusal}
 use Rattle.refusals.specs.declared.Refusal.TheVariants.{Product, WorkingSpace, PlanBuffer}
-use Rattle.refusals.specs.declared.Verdict.{Verdict}
-use Rattle.refusals.specs.declared.Verdict.TheVariants.{Yes, Refused}
-use Rattle.refusals.specs.Refusals.{answer, and_then}
+use Rattle.refusals.specs.Refusals.{Verdict, answer, and_then, verdict_of}
 use Rattle.refusals.proofs.Verdicts.{clash, refuse-yes, and-then-yes}
 use Rattle.refusals.proofs.Tests.{lt_no}
 use Rattle.model.specs.Automaton.{Automaton}
-use Rattle.model.specs.declared.Fitted.{Fitted}
 use Rattle.model.specs.declared.Model.{Model}
-use Rattle.model.specs.Lists.{Lists, automaton_of, held}
-use Rattle.model.specs.Fitness.{fitness, levels_of, fitted_of, EqualLists, Fit, Holds}
+use Rattle.model.specs.Lists.{Lists, automaton_of, model_of, held}
+use Rattle.model.specs.Fitness.{fitness, levels_of, fitted_of, EqualLists, Fit}
 use Rattle.switches.specs.PlansOn.{SomePlanOn}
 use Rattle.model.proofs.Fitness.{fitness-yes, levels-yes, fitted-held, fitted-holds}
-use Rattle.search.specs.declared.Searched.{Searched}
-use Rattle.search.specs.declared.Searched.TheVariants as outcome
-use Rattle.search.specs.Search.{search_answer, no_plan, spaces, levels_and_spaces, searchable, Found, Answered, none, found, Decided, SearchByNumber, Search}
+use Rattle.model.proofs.Held as fitted
+use Rattle.search.specs.Search.{Searched, search_answer, no_plan, spaces, levels_and_spaces, searchable, Found, Answered, none, found, Decided, SearchByNumber, Search}
 use Rattle.search.specs.Tasks.{Solvable, checked_of}
 
 -- none of 7 to 9 applies
-pub spaces-yes : (n k b words bytes : ℕ) → (spaces n k b words bytes ≡ Yes)
+pub spaces-yes : (n k b words bytes : ℕ) → (spaces n k b words bytes ≡ Ok tt)
     ↔ ((n * (b + 1) ≤ product_most) × (work_space k n b ≤ words) × (plan_buffer k n b ≤ bytes))
 unfolding spaces
 spaces-yes n k b words bytes =
@@ -37,14 +34,14 @@ spaces-yes n k b words bytes =
       λ e.
           let r7 = (refuse-yes (ltb product_most (n * (b + 1))) Product _).0 e in
           let r8 = (refuse-yes (ltb words (work_space k n b)) WorkingSpace _).0 r7.1 in
-          let r9 = (refuse-yes (ltb bytes (plan_buffer k n b)) PlanBuffer Yes).0 r8.1 in
+          let r9 = (refuse-yes (ltb bytes (plan_buffer k n b)) PlanBuffer (Ok tt)).0 r8.1 in
           (seven.0 r7.0, eight.0 r8.0, nine.0 r9.0),
       λ (product, space, buffer).
           (refuse-yes (ltb product_most (n * (b + 1))) Product _).1 (
             seven.1 product,
             (refuse-yes (ltb words (work_space k n b)) WorkingSpace _).1 (
               eight.1 space,
-              (refuse-yes (ltb bytes (plan_buffer k n b)) PlanBuffer Yes).1 (nine.1 buffer, refl),
+              (refuse-yes (ltb bytes (plan_buffer k n b)) PlanBuffer (Ok tt)).1 (nine.1 buffer, refl),
             ),
           ),
     )
@@ -59,7 +56,7 @@ pub record Callable (n s k : ℕ) (l : Lists) (b c words bytes : ℕ) : Type 0 w
   pub space : work_space k n b ≤ words
   pub buffer : plan_buffer k n b ≤ bytes
 
-pub searchable-yes : (n s k : ℕ) (l : Lists) (b c words bytes : ℕ) → (searchable n s k l b c words bytes ≡ Yes)
+pub searchable-yes : (n s k : ℕ) (l : Lists) (b c words bytes : ℕ) → (searchable n s k l b c words bytes ≡ Ok tt)
     ↔ Callable n s k l b c words bytes
 unfolding searchable
 searchable-yes n s k l b c words bytes =
@@ -78,42 +75,88 @@ searchable-yes n s k l b c words bytes =
     )
 
 -- where none of 1 to 6 applies, and none of 7 to 9
-pub searchable-on : (n s k : ℕ) (l : Lists) (b c words bytes : ℕ) → and_then (fitness n s k l) (levels_of b c) ≡ Yes
-    → spaces n k b words bytes ≡ Yes → searchable n s k l b c words bytes ≡ Yes
+pub searchable-on : (n s k : ℕ) (l : Lists) (b c words bytes : ℕ) → and_then (fitness n s k l) (levels_of b c) ≡ Ok tt
+    → spaces n k b words bytes ≡ Ok tt → searchable n s k l b c words bytes ≡ Ok tt
 unfolding searchable
 searchable-on n s k l b c words bytes fit room =
     let (f, v) = (and-then-yes (fitness n s k l) (levels_of b c)).0 fit in
     (and-then-yes (fitness n s k l) (levels_and_spaces n k b c words bytes)).1
     (f, (and-then-yes (levels_of b c) (spaces n k b words bytes)).1 (v, room))
 
--- the model that the code is told is fit, and none of 6 to 9 applies
-module _ (n s k : ℕ) (l : Lists) (b c words bytes : ℕ) {y : Fitted} (told : y ≡ checked_of n s k l b c words bytes) (yes : y.verdict ≡ Yes) where
-  pub told-yes : searchable n s k l b c words bytes ≡ Yes
-  told-yes = sym (ap {B = Verdict} (λ (f : Fitted). f.verdict) told) ∙ yes
+-- what is told check by check: the first refusal, or the model
+module _ (n s k : ℕ) (l : Lists) (b c words bytes : ℕ) where
+  pub checked-unfit : (r : Refusal) → Err r ≡ fitted_of n s k l → Err r ≡ checked_of n s k l b c words bytes
+  unfolding searchable
+  checked-unfit r e = rw (fitted.told-refused n s k l r e) refl
 
-  fitness-told : fitness n s k l ≡ Yes
+  -- the checks after that of the model
+  module _ (g : Model) (told : Ok g ≡ fitted_of n s k l) where
+    fit-told : fitness n s k l ≡ Ok tt
+    fit-told = fitted.told-yes n s k l g told
+
+    pub checked-few : Ok tt ≡ levels_of b c → (n ≤ modes_most) × (k ≤ colours_most) × (b ≤ bound_most)
+    checked-few e =
+        let fit = ((fitness-yes n s k l).0 fit-told).1 in
+        (fit.few_modes, fit.few_colours, ((levels-yes b c).0 (sym e)).0)
+
+    pub checked-levels : (r : Refusal) → Err r ≡ levels_of b c → Err r ≡ checked_of n s k l b c words bytes
+    unfolding searchable
+    checked-levels r e = rw (fit-told, sym e) refl
+
+    pub checked-spaces : (r : Refusal) → Err r ≡ spaces n k b words bytes → Ok tt ≡ levels_of b c → Err r ≡ checked_of n s k l b c words bytes
+    unfolding searchable
+    checked-spaces r e levels = rw (fit-told, sym levels, sym e) refl
+
+    pub checked-yes : Ok tt ≡ levels_of b c → Ok tt ≡ spaces n k b words bytes → Ok g ≡ checked_of n s k l b c words bytes
+    unfolding searchable
+    checked-yes levels room = rw (fit-told, sym levels, sym room, fitted.told-model n s k l g told) refl
+
+-- for the function that makes these checks
+pub ruleset checks = (checked-unfit, checked-few, checked-levels, checked-spaces, checked-yes)
+
+-- the verdict of 1 to 9, by what the code is told
+checked-verdict : (n s k : ℕ) (l : Lists) (b c words bytes : ℕ) → verdict_of (checked_of n s k l b c words bytes) ≡ searchable n s k l b c words bytes
+checked-verdict n s k l b c words bytes = go (searchable n s k l b c words bytes)
+  where
+    go : (v : Verdict) → verdict_of (and_then v (Ok (model_of n s k l))) ≡ v
+    go (Ok _) = refl
+    go (Err r) = refl
+
+-- a refusal is that of 1 to 9
+pub told-refused : (n s k : ℕ) (l : Lists) (b c words bytes : ℕ) (r : Refusal) → Err r ≡ checked_of n s k l b c words bytes
+    → searchable n s k l b c words bytes ≡ Err r
+told-refused n s k l b c words bytes r told = sym (checked-verdict n s k l b c words bytes) ∙ sym (ap {B = Verdict} verdict_of told)
+
+-- the model that the code is told is fit, and none of 6 to 9 applies
+module _ (n s k : ℕ) (l : Lists) (b c words bytes : ℕ) {g : Model} (told : Ok g ≡ checked_of n s k l b c words bytes) where
+  pub told-yes : searchable n s k l b c words bytes ≡ Ok tt
+  told-yes = sym (checked-verdict n s k l b c words bytes) ∙ sym (ap {B = Verdict} verdict_of told)
+
+  fitness-told : fitness n s k l ≡ Ok tt
   unfolding searchable
   fitness-told = ((and-then-yes (fitness n s k l) (levels_and_spaces n k b c words bytes)).0 told-yes).0
 
-  model-told : y.model ≡ (fitted_of n s k l).model
-  model-told = ap {B = Model} (λ (f : Fitted). f.model) told
+  model-told : g ≡ model_of n s k l
+  model-told =
+      let e : Ok g ≡ Ok (model_of n s k l) =
+      told ∙ ap {B = Result Model Refusal} (λ (v : Verdict). and_then v (Ok (model_of n s k l))) told-yes
+      in
+      cc
 
-  pub told-held : held y.model ≡ automaton_of n s k l
-  told-held = ap {B = Automaton} held model-told ∙ fitted-held n s k l fitness-told
+  pub told-held : held g ≡ automaton_of n s k l
+  told-held = rw model-told (fitted-held n s k l fitness-told).1
 
-  pub told-solvable : Solvable y.model b c words bytes
+  pub told-solvable : Solvable g b c words bytes
   told-solvable =
       let a = (searchable-yes n s k l b c words bytes).0 told-yes in
-      let modes : y.model.modes ≡ n = ap {B = ℕ} (λ (g : Automaton). g.modes) told-held in
-      let colours : y.model.colours ≡ k = ap {B = ℕ} (λ (g : Automaton). g.colours) told-held in
-      record {
-        holds = subst Holds (sym model-told) (fitted-holds n s k l fitness-told);
+      rw model-told (record {
+        holds = fitted-holds n s k l fitness-told;
         credit = a.credit;
         low = a.low;
-        product = subst (λ (x : ℕ). x * (b + 1) ≤ product_most) (sym modes) a.product;
-        space = subst₂ (λ (x z : ℕ). work_space x z b ≤ words) (sym colours) (sym modes) a.space;
-        buffer = subst₂ (λ (x z : ℕ). plan_buffer x z b ≤ bytes) (sym colours) (sym modes) a.buffer;
-      }
+        product = a.product;
+        space = a.space;
+        buffer = a.buffer;
+      })
 
 module _ {g : Automaton} {x : ℕ} {on : List ℕ} {b c : ℕ} {plan plan' : List ℕ} where
   -- where none of 1 to 9 applies, 10 is the number of one answer alone ..
@@ -129,8 +172,8 @@ module _ {g : Automaton} {x : ℕ} {on : List ℕ} {b c : ℕ} {plan plan' : Lis
 
 module _ {v : Verdict} {g : Automaton} {x : ℕ} {on : List ℕ} {b c : ℕ} {work plan : List ℕ} where
   -- what search answers says the same by its number
-  pub in-numbers : {work' plan' : List ℕ} {r : Searched} → ((y : Refusal) → v ≡ Refused y → r ≡ outcome.Refused y)
-      → (v ≡ Yes → Decided g x on b c work plan work' plan' r) → SearchByNumber v g x on b c plan plan' (search_answer r)
+  pub in-numbers : {work' plan' : List ℕ} {r : Searched} → ((y : Refusal) → v ≡ Err y → r ≡ Err y)
+      → (v ≡ Ok tt → Decided g x on b c work plan work' plan' r) → SearchByNumber v g x on b c plan plan' (search_answer r)
   in-numbers refused decided =
       record {
         refused = λ y e. rw (refused y e) (refl, refl, refl);
@@ -140,16 +183,16 @@ module _ {v : Verdict} {g : Automaton} {x : ℕ} {on : List ℕ} {b c : ℕ} {wo
       }
 
   -- where the verdict is a refusal, that is answered and both buffers are left as they were
-  pub search-refused : {y : Refusal} → v ≡ Refused y → Search v g x on b c work plan work plan (outcome.Refused y)
+  pub search-refused : {y : Refusal} → v ≡ Err y → Search v g x on b c work plan work plan (Err y)
   search-refused {y} told =
       record {
         refused = λ z e. (cc, refl, refl);
         decided = λ e. clash (cc);
-        by_number = in-numbers {work' = work} {r = outcome.Refused y} (λ z e. cc) (λ e. clash (cc));
+        by_number = in-numbers {work' = work} {r = Err y} (λ z e. cc) (λ e. clash (cc));
       }
 
   -- where it is yes, search is decided and the working space cleared
-  pub search-decided : {work' plan' : List ℕ} {r : Searched} → v ≡ Yes → ((r ≡ no_plan) ↔ (SomePlanOn g x on b c → ⊥))
+  pub search-decided : {work' plan' : List ℕ} {r : Searched} → v ≡ Ok tt → ((r ≡ no_plan) ↔ (SomePlanOn g x on b c → ⊥))
       → Answered g x on b c plan plan' r → work' ≡ replicate (length work) 0 → Search v g x on b c work plan work' plan' r
   search-decided {work'} {plan'} {r} told ten answered cleared =
       let decided : Decided g x on b c work plan work' plan' r = record { no_plan_iff = ten; answered = answered; cleared = cleared } in

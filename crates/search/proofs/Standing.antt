@@ -22,8 +22,7 @@ use Rattle.groups.specs.Groups.{groups_of}
 use Rattle.passes.specs.declared.pass.Task.{Task}
 use Rattle.passes.specs.Tasks.{task_net}
 use Rattle.passes.proofs.RowsNet.{row-barred, count_same, net-same, rows-grouped}
-use Rattle.search.specs.declared.Searched.{Searched}
-use Rattle.search.specs.Search.{no_plan, Answered}
+use Rattle.search.specs.Search.{Searched, no_plan, Answered}
 use Rattle.search.specs.Tasks.{Solvable, Searchable, Written}
 use Rattle.search.proofs.Written.{written-answered}
 
@@ -42,26 +41,27 @@ module _ {g : Model} (x : ℕ) (on : List ℕ) {d b c words bytes : ℕ} {some :
   task-net : task_net groups.rows groups.places (model_task g d some b c) ≡ whole (held g) x on
   task-net = rw (same, duties) (net-same g x on able.holds)
 
-  -- what the search over rows and groups asks
-  pub solvable-searchable : Searchable groups.rows groups.places (model_task g d some b c) words × (plan_buffer d g.modes b ≤ bytes)
-  solvable-searchable =
+  able-searchable : Searchable groups.rows groups.places (model_task g d some b c)
+  able-searchable =
       let fit = able.holds.fit in
-      let less = fewer x g.colours g.modes b in (
-        record {
-          some-mode = fit.some-mode;
-          few_modes = fit.few_modes;
-          few_arcs = rw same (omega (arith, fit.few_arcs, able.holds.count, count_same g x on able.holds));
-          few_duties = omega (arith, duties, fit.few_colours, required-le x g.colours);
-          unbarred = λ e a. rw same (row-barred g x on able.holds a ∙ rw (zero e) (none-barred (held g) a));
-          fits = subst Fits (sym task-net) (whole-fits (held g) x on fit);
-          grouped = rw same (rows-grouped g x on able.holds);
-          credit = able.credit;
-          low = able.low;
-          product = able.product;
-          space = rw duties (omega (arith, able.space, less.0));
-        },
-        rw duties (omega (arith, able.buffer, less.1)),
-      )
+      record {
+        some-mode = fit.some-mode;
+        few_modes = fit.few_modes;
+        few_arcs = rw same (omega (arith, fit.few_arcs, able.holds.count, count_same g x on able.holds));
+        few_duties = omega (arith, duties, fit.few_colours, required-le x g.colours);
+        unbarred = λ e a. rw same (row-barred g x on able.holds a ∙ rw (zero e) (none-barred (held g) a));
+        fits = subst Fits (sym task-net) (whole-fits (held g) x on fit);
+        grouped = rw same (rows-grouped g x on able.holds);
+        credit = able.credit;
+        low = able.low;
+        product = able.product;
+      }
+
+  -- what the search over rows and groups asks
+  pub solvable-searchable : Searchable groups.rows groups.places (model_task g d some b c) × (work_space d g.modes b ≤ words) × (plan_buffer d g.modes b ≤ bytes)
+  solvable-searchable =
+      let less = fewer x g.colours g.modes b in
+      (able-searchable, rw duties (omega (arith, able.space, less.0)), rw duties (omega (arith, able.buffer, less.1)))
 
   -- what it answers, in the words of the model
   pub solved-none : {r : Searched} → ((r ≡ no_plan) ↔ (AcceptedLasso (task_net groups.rows groups.places (model_task g d some b c)) b c → ⊥))

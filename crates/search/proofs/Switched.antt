@@ -1,11 +1,11 @@
 -- Document 02, Ask 9, from what search promises of every call: a plan has arcs that are on alone, with every arc on search answers what it answered
 -- without switches, and bits at or above m change nothing. Assumes nothing.
+use Rattle.std.specs.Prelude.{Ok}
 use mathlib.Core.Path.{◌≡◌, subst}
 use mathlib.Core.List.{List}
 use mathlib.Core.Logic.{◌↔◌}
 use Prim.Native.Nat.{ℕ, ◌+◌}
 use lib.ListN.{length, take, drop, take-append-drop}
-use Rattle.refusals.specs.declared.Verdict.TheVariants.{Yes}
 use Rattle.model.specs.Automaton.{Automaton}
 use Rattle.model.specs.Lists.{Lists, automaton_of}
 use Rattle.model.specs.Plans.{Serves, SomePlan}
@@ -13,9 +13,7 @@ use Rattle.switches.specs.Switches.{SameBelow, AllBelow}
 use Rattle.switches.specs.PlansOn.{AllOn}
 use Rattle.switches.proofs.PlansOn.{all-on-append, some-plan-all-on, serves-on-ignored}
 use Rattle.judge.specs.Shape.{plan_of}
-use Rattle.search.specs.declared.Searched.{Searched}
-use Rattle.search.specs.declared.Searched.TheVariants as outcome
-use Rattle.search.specs.Search.{search_answer, searchable, Found, SearchOf}
+use Rattle.search.specs.Search.{Searched, planned, search_answer, searchable, Found, SearchOf}
 use Rattle.search.proofs.Alike.{search-alike}
 use Rattle.search.proofs.Demand3.{answered-found, plan-searchable}
 
@@ -26,12 +24,12 @@ found-on {on = on} {p = p} {q} {plan' = plan'} f =
     subst (AllOn on) (take-append-drop p w) ((all-on-append on (take p w) (drop p w)).1 (f.serves.prefix_on, f.serves.cycle_on))
 
 module _ (n s k : ℕ) (l : Lists) (x : ℕ) (on : List ℕ) (b c : ℕ) {work plan work' plan' : List ℕ} where
-  pub search-on : {p q : ℕ} → SearchOf n s k l x on b c work plan work' plan' (outcome.Plan p q) → AllOn on (take (p + q) plan')
+  pub search-on : {p q : ℕ} → SearchOf n s k l x on b c work plan work' plan' (planned p q) → AllOn on (take (p + q) plan')
   search-on h = found-on (answered-found (h.decided (plan-searchable n s k l x on b c h)).answered)
 
   -- with every arc on "no plan" means that there is none at all, and any other answer is a plan, as without switches
   pub search-all-on : {r : Searched} → AllBelow (length (automaton_of n s k l).arcs) on → SearchOf n s k l x on b c work plan work' plan' r
-      → searchable n s k l b c (length work) (length plan) ≡ Yes
+      → searchable n s k l b c (length work) (length plan) ≡ Ok tt
       → let g = automaton_of n s k l in
       let a = search_answer r in
       ((a.answer.number ≡ 10) ↔ (SomePlan g x b c → ⊥))

@@ -1,6 +1,7 @@
 -- What the steps of a search come to: the prefix and the cycle that are written, and the plan that they are. Assumes nothing.
+use Rattle.std.specs.Prelude.{Option, Some, None}
+use Rattle.std.specs.Option.{IsSome}
 use mathlib.Core.Path.{◌≡◌, refl, sym, ap, subst, ◌∙◌}
-use mathlib.Core.Bool.{Bool, true, false}
 use mathlib.Core.List.{List, [], ◌++◌, append-nil}
 use mathlib.Core.Logic.{◌↔◌}
 use Prim.Native.Nat.{ℕ, ◌+◌, ◌-◌, ◌*◌, ◌≤◌, ◌<◌}
@@ -20,12 +21,11 @@ use Rattle.nets.specs.Table.{KeptCycle}
 use Rattle.nets.specs.Whole.{whole, lasso_plan}
 use Rattle.nets.proofs.Whole.{lasso-serves}
 use Rattle.nets.proofs.Criterion.{reached-lasso}
+use Rattle.passes.specs.declared.pass.Closing.{Closing}
 use Rattle.passes.specs.Trace.{Wrote}
-use Rattle.passes.specs.Outcome.{CyclePassed, PrefixWritten, CycleWritten}
-use Rattle.search.specs.declared.Searched.{Searched}
-use Rattle.search.specs.declared.Searched.TheVariants as outcome
+use Rattle.passes.specs.Outcome.{CyclePassed, CycleClosed, PrefixWritten, CycleWritten}
 use Rattle.search.specs.Search as search
-use Rattle.search.specs.Search.{no_plan, Found, Answered}
+use Rattle.search.specs.Search.{Searched, planned, no_plan, Found, Answered}
 use Rattle.search.specs.Tasks.{PrefixPassed, LassoFound, Written, none, found}
 use Rattle.search.proofs.Spaces.{plan-held, buffer-short, prefix-few, cycle-few}
 
@@ -53,25 +53,20 @@ prefix-written {a = a} {r} {plan₁ = plan₁} passed wrote long =
       later = last-later a wrote;
     }
 
-module _ {g : Net} {b s e head a : ℕ} {w : List ℕ} {found : Bool} (passed : CyclePassed g b s e w found head a)
-    (cycle : KeptCycle g b s e) where
-  -- where a cycle keeps the charge, the pass finds one
-  pub cycle-found : found ≡ true
-  cycle-found = go found refl
-    where
-      go : (t : Bool) → found ≡ t → found ≡ true
-      go true e = e
-      go false e = absurd (passed.none e cycle)
+-- where a cycle keeps the charge, the pass finds one
+pub cycle-found : {g : Net} {b s e : ℕ} {w : List ℕ} {found : Option Closing} → CyclePassed g b s e w found → KeptCycle g b s e → IsSome found
+cycle-found {found = None} passed cycle = absurd (passed.none refl cycle)
+cycle-found {found = Some k} passed cycle = refl
 
-  -- the arcs that are read back from its entry, and its last arc, are the cycle
-  pub cycle-written : {r : ℕ} {plan plan₁ : List ℕ} → Wrote w head plan plan₁ r → r < length plan₁
-      → CycleWritten g b s e plan (set plan₁ r a) (r + 1)
-  cycle-written {r} {plan} {plan₁} wrote long =
-      record {
-        few = omega (arith, passed.few cycle-found, wrote.few);
-        arcs = rw (add-one r, take-suc-set plan₁ r a long) (passed.arcs cycle-found (take r plan₁) wrote.arcs);
-        later = last-later a wrote;
-      }
+-- the arcs that are read back from its entry, and its last arc, are the cycle
+pub cycle-written : {g : Net} {b s e head a r : ℕ} {w plan plan₁ : List ℕ} → CycleClosed g b s e w head a → Wrote w head plan plan₁ r
+    → r < length plan₁ → CycleWritten g b s e plan (set plan₁ r a) (r + 1)
+cycle-written {a = a} {r} {plan₁ = plan₁} closed wrote long =
+    record {
+      few = omega (arith, closed.few, wrote.few);
+      arcs = rw (add-one r, take-suc-set plan₁ r a long) (closed.arcs (take r plan₁) wrote.arcs);
+      later = last-later a wrote;
+    }
 
 module _ {g : Net} {b c s e p q : ℕ} {plan plan₁ part : List ℕ} (prefix : PrefixWritten g b c s e plan plan₁ p)
     (cycle : CycleWritten g b s e (drop p plan₁) part q) (long : p ≤ length plan₁) where
@@ -135,7 +130,7 @@ written-lasso (found f) not = (λ e. absurd (not e), λ no. absurd (no f.lasso))
 
 -- what is answered where a lasso is handed back
 pub lasso-answered : {g : Net} {b c p q : ℕ} {plan plan' : List ℕ} → LassoFound g b c p q plan plan'
-    → ((outcome.Plan p q ≡ no_plan) ↔ (AcceptedLasso g b c → ⊥)) × Written g b c plan plan' (outcome.Plan p q)
+    → ((planned p q ≡ no_plan) ↔ (AcceptedLasso g b c → ⊥)) × Written g b c plan plan' (planned p q)
 lasso-answered f = (written-lasso (found f) (λ e. clash (cc)), found f)
 
 -- in the words of the model, where the net stands for it
@@ -154,6 +149,6 @@ written-answered g x on {b} {c} few (found f) =
 
 -- an answer without the refusal 10 has a plan
 pub answered-plan : {g : Automaton} {x : ℕ} {on : List ℕ} {b c : ℕ} {plan plan' : List ℕ} {r : Searched} → Answered g x on b c plan plan' r → (r ≡ no_plan → ⊥)
-    → (p : ℕ) × (q : ℕ) × (r ≡ outcome.Plan p q) × Found g x on b c p q plan plan'
+    → (p : ℕ) × (q : ℕ) × (r ≡ planned p q) × Found g x on b c p q plan plan'
 answered-plan (search.none e) not = absurd (not refl)
 answered-plan (search.found {p} {q} f) not = (p, q, refl, f)

@@ -2,8 +2,7 @@
 -- answers so.
 use Rattle.std.specs.Prelude.{◌≡◌}
 use Rattle.judge.specs.Examples.{Claim, Found, None, Judged}
-use Rattle.search.specs.declared.Searched.{Searched}
-use Rattle.search.specs.Search.{search_answer, IsFound}
+use Rattle.search.specs.Search.{Searched, search_answer, IsFound}
 
 -- what a row of the examples says of search: "A plan is found", or 10; of a judged plan search says nothing
 abbrev pub Answers : Claim → Searched → Type 0

@@ -1,14 +1,16 @@
 -- What the inner functions of search are given: a model, or the rows and groups of one and the task (passes Tasks), once none of 1 to 9 applies;
 -- and what they answer and write. No public promise rests on these words.
-use Rattle.std.specs.Prelude.{ℕ, ◌+◌, ◌*◌, ◌≤◌, ◌<◌, ◌≡◌, false, List, [], ◌∷◌, ◌++◌, length, take, drop}
+use Rattle.std.specs.Prelude.{ℕ, ◌+◌, ◌*◌, ◌≤◌, ◌<◌, ◌≡◌, false, List, [], ◌∷◌, ◌++◌, length, take, drop, Result, Ok}
 use Rattle.limits.specs.Ceilings.{modes_most, arcs_most, colours_most, bound_most, product_most, plan_most, work_space, plan_buffer}
-use Rattle.model.specs.declared.Fitted.{Fitted}
+use Rattle.refusals.specs.declared.Refusal.{Refusal}
+use Rattle.refusals.specs.Refusals.{and_then}
 use Rattle.model.specs.declared.Model.{Model}
-use Rattle.model.specs.Lists.{Lists}
-use Rattle.model.specs.Fitness.{Holds, fitted_of}
+use Rattle.model.specs.Lists.{Lists, model_of}
+use Rattle.model.specs.Fitness.{Holds}
 use Rattle.judge.specs.Shape.{plan_of}
 use Rattle.nets.specs.Net.{Net, Fits, AcceptedLasso}
 use Rattle.nets.specs.Whole.{lasso_plan}
+use Rattle.groups.specs.declared.Row.{Row}
 use Rattle.groups.specs.Rows.{source_at, barred_at, on_at}
 use Rattle.groups.specs.Grouped.{arc_count, Grouped}
 use Rattle.passes.specs.declared.pass.Task.{Task}
@@ -18,13 +20,12 @@ use Rattle.passes.specs.Trace.{Linked, Traced}
 use Rattle.passes.specs.Outcome.{Arrival}
 use Rattle.passes.specs.Tasks.{task_net}
 use Rattle.deciding.specs.declared.Question.{Question}
-use Rattle.search.specs.declared.Searched.{Searched}
-use Rattle.search.specs.declared.Searched.TheVariants as outcome
-use Rattle.search.specs.Search.{no_plan, searchable}
+use Rattle.search.specs.declared.plans.Searching.{Searching}
+use Rattle.search.specs.Search.{Searched, planned, no_plan, searchable}
 
--- 1 to 9, and the model beside the verdict
-abbrev pub checked_of : ℕ → ℕ → ℕ → Lists → ℕ → ℕ → ℕ → ℕ → Fitted
-checked_of n s k l b c words bytes = record { verdict = searchable n s k l b c words bytes; model = (fitted_of n s k l).model }
+-- 1 to 9, and the model where none of them applies
+abbrev pub checked_of : ℕ → ℕ → ℕ → Lists → ℕ → ℕ → ℕ → ℕ → Result Model Refusal
+checked_of n s k l b c words bytes = and_then (searchable n s k l b c words bytes) (Ok (model_of n s k l))
 
 -- the value holds a fit model, and none of 6 to 9 applies
 pub record Solvable (g : Model) (b c words bytes : ℕ) : Type 0 where
@@ -35,8 +36,8 @@ pub record Solvable (g : Model) (b c words bytes : ℕ) : Type 0 where
   pub space : work_space g.colours g.modes b ≤ words
   pub buffer : plan_buffer g.colours g.modes b ≤ bytes
 
--- what the inner functions ask: rows and groups of a net that fits, and none of 6 to 8 applies
-pub record Searchable (rows places : List ℕ) (t : Task) (words : ℕ) : Type 0 where
+-- rows and groups of a net that fits, and none of 6 and 7 applies
+pub record Searchable (rows : List Row) (places : List ℕ) (t : Task) : Type 0 where
   pub some-mode : 0 < t.modes
   pub few_modes : t.modes ≤ modes_most
   pub few_arcs : arc_count places t.modes ≤ arcs_most
@@ -47,7 +48,14 @@ pub record Searchable (rows places : List ℕ) (t : Task) (words : ℕ) : Type 0
   pub credit : t.credit ≤ t.bound
   pub low : t.bound ≤ bound_most
   pub product : t.modes * (t.bound + 1) ≤ product_most
-  pub space : work_space t.duties t.modes t.bound ≤ words
+
+-- the net of a search
+abbrev pub net_of : Searching → Net
+net_of s = task_net s.groups.now.rows s.groups.now.places s.task
+
+-- what the inner functions ask of a search, with so many words of working space: none of 6 to 8 applies
+abbrev pub CanSearch : Searching → ℕ → Type 0
+CanSearch s words = Searchable s.groups.now.rows s.groups.now.places s.task × (work_space s.task.duties s.task.modes s.task.bound ≤ words)
 
 -- what the decision is asked, in the words of the task
 abbrev pub question_of : Task → Question
@@ -73,4 +81,4 @@ pub record LassoFound (g : Net) (b c p q : ℕ) (plan plan' : List ℕ) : Type 0
 -- 10, with the plan buffer untouched, or a lasso in it
 pub data Written (g : Net) (b c : ℕ) (plan plan' : List ℕ) : Searched → Type 0 where
   none : plan' ≡ plan → Written g b c plan plan' no_plan
-  found : {p q : ℕ} → LassoFound g b c p q plan plan' → Written g b c plan plan' (outcome.Plan p q)
+  found : {p q : ℕ} → LassoFound g b c p q plan plan' → Written g b c plan plan' (planned p q)

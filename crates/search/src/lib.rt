@@ -9,9 +9,9 @@
 
 ghost use Rattle.std.specs.Prelude.{◌≡◌, ◌≤◌, ◌↔◌, length};
 ghost use Rattle.limits.specs.Ceilings.{modes_most, colours_most, bound_most};
-ghost use Rattle.model.specs.Lists.{lists, held};
+ghost use Rattle.model.specs.Lists.{lists_of, held};
 ghost use Rattle.switches.specs.PlansOn.{SomePlanOn};
-ghost use Rattle.search.specs.Search.{no_plan, Answered, spaces, levels_and_spaces, search_answer, SearchOf};
+ghost use Rattle.search.specs.Search.{no_plan, Answered, spaces, search_answer, SearchOf};
 ghost use Rattle.search.specs.Tasks.{Solvable, checked_of};
 
 mod plans;
@@ -19,20 +19,20 @@ mod plans;
 use deciding::count_required;
 use groups::group;
 use limits::Limits;
-use model::{Fitted, Model, check_levels, check_model};
-use passes::entries::clear;
+use model::{Given, Model, check_levels, check_model};
 use passes::pass::Task;
-use plans::make_plan;
-use refusals::{Answer, Refusal, Verdict};
+use plans::Searching;
+use refusals::{Answer, Refusal};
+use switches::Switches;
 
-// What search answers: the lengths of the prefix and of the cycle in the plan buffer, or a refusal.
+// The lengths of a plan that search hands back: of the prefix, in the first bytes of the plan buffer, and of the cycle behind it.
 #[derive(Clone, Copy)]
-pub enum Searched {
-    Plan(u32, u32),
-    Refused(Refusal),
+pub struct Lengths {
+    pub p: u32,
+    pub q: u32,
 }
 
-// The number and the detail of a search, and the lengths of prefix and cycle.
+// The number and the detail of a search, and the lengths of prefix and cycle. A struct of its own for C's packing; search_answer names it.
 #[derive(Clone, Copy)]
 pub struct SearchAnswer {
     pub answer: Answer,
@@ -40,19 +40,19 @@ pub struct SearchAnswer {
     pub q: u32,
 }
 
-impl Searched {
+impl From<Result<Lengths, Refusal>> for SearchAnswer {
+    ghost from_gives = { λ searched told. told ≡ search_answer searched };
+
     // A refusal has its number and detail, and p and q are 0; a plan has number 0.
-    pub fn answer(self) -> SearchAnswer
-        ensures { result ≡ search_answer self }
-    {
-        match self {
-            Searched::Plan(p, q) => SearchAnswer {
-                answer: Verdict::Yes.answer(),
-                p,
-                q,
+    fn from(searched: Result<Lengths, Refusal>) -> SearchAnswer {
+        match searched {
+            Ok(lengths) => SearchAnswer {
+                answer: Answer::from(Ok(())),
+                p: lengths.p,
+                q: lengths.q,
             },
-            Searched::Refused(refusal) => SearchAnswer {
-                answer: refusal.answer(),
+            Err(refusal) => SearchAnswer {
+                answer: Answer::from(refusal),
                 p: 0,
                 q: 0,
             },
@@ -60,71 +60,36 @@ impl Searched {
     }
 }
 
-// Refusals 7 to 9, by the lengths of the buffers.
-fn check_spaces(n: u32, k: u32, b: u32, words: usize, bytes: usize) -> Verdict
+// Refusals 7, by the product, 8 and 9, by the lengths of the buffers.
+#[tactic(auto, unfolding(crate::specs::Search::spaces))]
+fn check_spaces(n: u32, k: u32, b: u32, words: usize, bytes: usize) -> Result<(), Refusal>
     requires { (n ≤ modes_most) × (k ≤ colours_most) × (b ≤ bound_most) }
     ensures { result ≡ spaces n k b words bytes }
 {
     if n * (b + 1) > Limits::PRODUCT {
-        return Verdict::Refused(Refusal::Product);
+        return Err(Refusal::Product);
     }
     let modes = n as usize;
     let colours = k as usize;
     let charges = (b as usize) + 1;
     if words < Limits::WORK_WORDS * (colours + Limits::WORK_LEVELS) * modes * charges {
-        return Verdict::Refused(Refusal::WorkingSpace);
+        return Err(Refusal::WorkingSpace);
     }
     if bytes < (colours + Limits::PLAN_LEVELS) * modes * charges {
-        return Verdict::Refused(Refusal::PlanBuffer);
+        return Err(Refusal::PlanBuffer);
     }
-    Verdict::Yes
+    Ok(())
 }
 
-// Refusals 6 to 9.
-fn check_levels_and_spaces(n: u32, k: u32, c: u32, b: u32, words: usize, bytes: usize) -> Verdict
-    requires { (n ≤ modes_most) × (k ≤ colours_most) }
-    ensures { result ≡ levels_and_spaces n k b c words bytes }
+// Refusals 1 to 9, or the model.
+#[tactic(auto, using(crate::proofs::Searchable::checks))]
+fn check_search(given: &Given, c: u32, b: u32, words: usize, bytes: usize) -> Result<Model, Refusal>
+    ensures { result ≡ checked_of given.now.n given.now.start given.now.k (lists_of given.now.lists) b c words bytes }
 {
-    let levels = check_levels(c, b);
-    match levels {
-        Verdict::Yes => check_spaces(n, k, b, words, bytes),
-        Verdict::Refused(refusal) => Verdict::Refused(refusal),
-    }
-}
-
-// Refusals 1 to 9, and the model beside the verdict.
-fn check_search(
-    n: u32,
-    start: u32,
-    k: u32,
-    sources: &[u8],
-    targets: &[u8],
-    draws: &[u16],
-    gains: &[u16],
-    colours: &[u8],
-    actions: &[u8],
-    c: u32,
-    b: u32,
-    words: usize,
-    bytes: usize,
-) -> Fitted
-    ensures { result ≡ checked_of n start k (lists sources.now targets.now draws.now gains.now colours.now actions.now) b c words bytes }
-{
-    let fitted = check_model(
-        n, start, k, sources, targets, draws, gains, colours, actions,
-    );
-    let verdict = fitted.verdict;
-    let model = fitted.model;
-    match verdict {
-        Verdict::Yes => {
-            let verdict = check_levels_and_spaces(n, k, c, b, words, bytes);
-            Fitted { verdict, model }
-        }
-        Verdict::Refused(refusal) => {
-            let verdict = Verdict::Refused(refusal);
-            Fitted { verdict, model }
-        }
-    }
+    let model = check_model(given)?;
+    check_levels(c, b)?;
+    check_spaces(given.n, given.k, b, words, bytes)?;
+    Ok(model)
 }
 
 // A plan for a fit model, of arcs that are on, or that there is none, by its groups and rows, "made inside the call, never lent" (document 02, Ask 7).
@@ -133,29 +98,29 @@ fn plan_model(
     c: u16,
     b: u16,
     barred: u8,
-    on: [u64; switches::WORDS],
+    on: Switches,
     work: &mut [u16],
     plan: &mut [u8],
-) -> Searched
+) -> Result<Lengths, Refusal>
     requires { Solvable model b c (length work.old) (length plan.old) }
     ensures no_plan { (result ≡ no_plan) ↔ (SomePlanOn (held model) barred on b c → ⊥) }
     ensures answered { Answered (held model) barred on b c plan.old plan.new result }
 {
     let groups = group(model, barred, on);
-    let modes = model.modes as usize;
-    let start = model.start as usize;
-    let colours = model.colours as u32;
-    let required = count_required(colours, barred);
-    let duties = required as usize;
+    let required = count_required(u32::from(model.colours), barred);
     let task = Task {
-        modes,
-        start,
-        duties,
+        modes: usize::from(model.modes),
+        start: usize::from(model.start),
+        duties: required as usize,
         barred: barred != 0,
         credit: c,
         bound: b,
     };
-    make_plan(&groups.rows, &groups.places, task, work, plan)
+    let searching = Searching {
+        groups: &groups,
+        task,
+    };
+    searching.make_plan(work, plan)
 }
 
 // Search, with a byte of barred colours and the switches of the arcs: p and q of a plan in the plan buffer, or 10 where there is none of arcs that are on, or the
@@ -164,47 +129,18 @@ fn plan_model(
 // does not matter. Refusals 1 to 9 leave both as they were. After 10 or a plan every word of work is 0. After 10 plan is as it was; else the
 // prefix is in its first p bytes and the cycle in the next q, and later bytes are as they were.
 pub fn search(
-    n: u32,
-    start: u32,
-    k: u32,
-    sources: &[u8],
-    targets: &[u8],
-    draws: &[u16],
-    gains: &[u16],
-    colours: &[u8],
-    actions: &[u8],
+    given: &Given,
     c: u32,
     b: u32,
     barred: u8,
-    on: [u64; switches::WORDS],
+    on: Switches,
     work: &mut [u16],
     plan: &mut [u8],
-) -> Searched
-    ensures { SearchOf n start k (lists sources.now targets.now draws.now gains.now colours.now actions.now) barred on b c work.old plan.old work.new plan.new result }
+) -> Result<Lengths, Refusal>
+    ensures { SearchOf given.now.n given.now.start given.now.k (lists_of given.now.lists) barred on b c work.old plan.old work.new plan.new result }
 {
-    let checked = check_search(
-        n,
-        start,
-        k,
-        sources,
-        targets,
-        draws,
-        gains,
-        colours,
-        actions,
-        c,
-        b,
-        work.len(),
-        plan.len(),
-    );
-    let verdict = checked.verdict;
-    let model = checked.model;
-    match verdict {
-        Verdict::Yes => {
-            let searched = plan_model(model, c as u16, b as u16, barred, on, work, plan);
-            clear(work);
-            searched
-        }
-        Verdict::Refused(refusal) => Searched::Refused(refusal),
-    }
+    let model = check_search(given, c, b, work.len(), plan.len())?;
+    let searched = plan_model(model, c as u16, b as u16, barred, on, work, plan);
+    work.fill(0);
+    searched
 }

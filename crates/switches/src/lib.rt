@@ -8,19 +8,24 @@ ghost use Rattle.switches.specs.Switches.{is_on, switched};
 // The words of the switches.
 pub const WORDS: usize = 4;
 
+// The switches of the arcs. C has them as four words, in a struct and as arguments.
+pub type Switches = [u64; WORDS];
+
 // The switches with which every arc is on.
-pub const ALL: [u64; WORDS] = [18446744073709551615; WORDS];
+pub const ALL: Switches = [u64::MAX; WORDS];
 
 // Whether arc a is on.
-pub fn is_on(on: [u64; WORDS], a: u8) -> bool
+pub fn is_on(on: Switches, a: u8) -> bool
     ensures { result ≡ is_on on a }
 {
     let word = (a / 64) as usize;
     (on[word] >> (a % 64)) & 1 == 1
 }
 
+// Setting and clearing are two functions and `switch` a third, since the documents and docs/DECISIONS.md name each.
+//
 // The switches with arc a on.
-pub fn switch_on(on: [u64; WORDS], a: u8) -> [u64; WORDS]
+pub fn switch_on(on: Switches, a: u8) -> Switches
     ensures { result ≡ switched true on a }
 {
     let word = (a / 64) as usize;
@@ -30,7 +35,7 @@ pub fn switch_on(on: [u64; WORDS], a: u8) -> [u64; WORDS]
 }
 
 // The switches with arc a off.
-pub fn switch_off(on: [u64; WORDS], a: u8) -> [u64; WORDS]
+pub fn switch_off(on: Switches, a: u8) -> Switches
     ensures { result ≡ switched false on a }
 {
     let word = (a / 64) as usize;
@@ -40,7 +45,7 @@ pub fn switch_off(on: [u64; WORDS], a: u8) -> [u64; WORDS]
 }
 
 // The switches with arc a on, where told, or else off.
-pub fn switch(on: [u64; WORDS], a: u8, told: bool) -> [u64; WORDS]
+pub fn switch(on: Switches, a: u8, told: bool) -> Switches
     ensures { result ≡ switched told on a }
 {
     if told {

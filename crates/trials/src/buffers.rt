@@ -1,76 +1,46 @@
-// What stands in the buffers before a search, and what may stand there after it.
+// What stands in the buffers before a search or a decision, and what may stand there after it. A plan buffer and a working space have functions of their
+// own: words need junk above 255, so the numbers differ.
 
-// Fills the plan buffer with junk.
+// The junk at a place of a plan buffer.
+fn junk_byte(i: usize) -> u8 {
+    (i % 251) as u8
+}
+
+// The junk at a place of a working space.
+fn junk_word(i: usize) -> u16 {
+    (i % 65521 + 7) as u16
+}
+
+// Fills a plan buffer with junk.
 pub fn junk_plan(plan: &mut [u8]) {
-    let mut i = 0;
-    while i < plan.len() {
-        plan[i] = (i % 251) as u8;
-        i += 1;
+    for (i, byte) in plan.iter_mut().enumerate() {
+        *byte = junk_byte(i);
     }
 }
 
 // Whether the junk still stands in the plan buffer from a place on.
 pub fn is_untouched(plan: &[u8], from: usize) -> bool {
-    let mut i = from;
-    while i < plan.len() {
-        if plan[i] != (i % 251) as u8 {
-            return false;
-        }
-        i += 1;
-    }
-    true
+    plan.iter()
+        .enumerate()
+        .skip(from)
+        .all(|(i, &byte)| byte == junk_byte(i))
 }
 
-// Fills the working space with junk.
-pub fn junk_work(work: &mut [u16]) {
-    let mut i = 0;
-    while i < work.len() {
-        work[i] = (i % 65521 + 7) as u16;
-        i += 1;
+// Fills a working space with junk, of 16 bits for search and of 32 for the decision.
+pub fn junk_work<T: Copy + From<u16>>(work: &mut [T]) {
+    for (i, word) in work.iter_mut().enumerate() {
+        *word = T::from(junk_word(i));
     }
 }
 
-// Whether the junk still stands in the working space.
+// Whether the junk still stands in the working space of a search.
 pub fn is_junk(work: &[u16]) -> bool {
-    let mut i = 0;
-    while i < work.len() {
-        if work[i] != (i % 65521 + 7) as u16 {
-            return false;
-        }
-        i += 1;
-    }
-    true
+    work.iter()
+        .enumerate()
+        .all(|(i, &word)| word == junk_word(i))
 }
 
-// Whether every word is 0.
-pub fn is_clear(work: &[u16]) -> bool {
-    let mut i = 0;
-    while i < work.len() {
-        if work[i] != 0 {
-            return false;
-        }
-        i += 1;
-    }
-    true
-}
-
-// Fills the working space of a decision with junk.
-pub fn junk_space(space: &mut [u32]) {
-    let mut i = 0;
-    while i < space.len() {
-        space[i] = (i % 65521 + 7) as u32;
-        i += 1;
-    }
-}
-
-// Whether every word of it is 0.
-pub fn is_zero(space: &[u32]) -> bool {
-    let mut i = 0;
-    while i < space.len() {
-        if space[i] != 0 {
-            return false;
-        }
-        i += 1;
-    }
-    true
+// Whether every word of a working space is 0.
+pub fn is_clear<T: Copy + PartialEq + From<u16>>(work: &[T]) -> bool {
+    work.iter().all(|word| *word == T::from(0))
 }

@@ -1,132 +1,62 @@
-// The calls of the planner for a model: the six lists lent up to its last arc, with the numbers.
+// The calls of the planner for a model.
 use crate::models::Model;
 use decide::decide;
-use judge::judge;
-use planwalk::{WalkAnswer, walk};
-use refusals::Verdict;
-use search::{Searched, search};
+use judge::{GivenPlan, judge};
+use planwalk::{Walked, walk};
+use refusals::Refusal;
+use search::{Lengths, search};
 
 // What search answers.
-pub fn searched(model: Model, work: &mut [u16], plan: &mut [u8]) -> Searched {
-    let m = model.arcs as usize;
-    let sources = model.sources;
-    let targets = model.targets;
-    let draws = model.draws;
-    let gains = model.gains;
-    let masks = model.masks;
-    let actions = model.actions;
-    let on = model.on;
+pub fn searched(model: &Model, work: &mut [u16], plan: &mut [u8]) -> Result<Lengths, Refusal> {
     search(
-        model.modes,
-        model.start as u32,
-        model.colours,
-        &sources[..m],
-        &targets[..m],
-        &draws[..m],
-        &gains[..m],
-        &masks[..m],
-        &actions[..m],
+        &model.given(),
         model.credit,
         model.bound,
         model.barred,
-        on,
+        model.on,
         work,
         plan,
     )
 }
 
 // What the decision answers.
-pub fn decided(model: Model, space: &mut [u32]) -> Verdict {
-    let m = model.arcs as usize;
-    let sources = model.sources;
-    let targets = model.targets;
-    let draws = model.draws;
-    let gains = model.gains;
-    let masks = model.masks;
-    let actions = model.actions;
-    let on = model.on;
+pub fn decided(model: &Model, work: &mut [u32]) -> Result<(), Refusal> {
     decide(
-        model.modes,
-        model.start as u32,
-        model.colours,
-        &sources[..m],
-        &targets[..m],
-        &draws[..m],
-        &gains[..m],
-        &masks[..m],
-        &actions[..m],
+        &model.given(),
         model.credit,
         model.bound,
         model.barred,
-        on,
-        space,
+        model.on,
+        work,
     )
 }
 
 // Whether judging says yes to a plan.
-pub fn is_judged(model: Model, p: u32, q: u32, plan: &[u8]) -> bool {
-    let m = model.arcs as usize;
-    let sources = model.sources;
-    let targets = model.targets;
-    let draws = model.draws;
-    let gains = model.gains;
-    let masks = model.masks;
-    let actions = model.actions;
-    let verdict = judge(
-        model.modes,
-        model.start as u32,
-        model.colours,
-        &sources[..m],
-        &targets[..m],
-        &draws[..m],
-        &gains[..m],
-        &masks[..m],
-        &actions[..m],
+pub fn is_judged(model: &Model, plan: &GivenPlan) -> bool {
+    judge(
+        &model.given(),
         model.credit,
         model.bound,
         model.barred,
-        p,
-        q,
         plan,
-    );
-    let answer = verdict.answer();
-    answer.number == 0
+    )
+    .is_ok()
 }
 
 // What the walk of a plan for a number answers, with an allowance.
 pub fn walked(
-    model: Model,
-    p: u32,
-    q: u32,
-    plan: &[u8],
+    model: &Model,
+    plan: &GivenPlan,
     colour: u32,
     allowance: u16,
-) -> WalkAnswer {
-    let m = model.arcs as usize;
-    let sources = model.sources;
-    let targets = model.targets;
-    let draws = model.draws;
-    let gains = model.gains;
-    let masks = model.masks;
-    let actions = model.actions;
-    let walked = walk(
-        model.modes,
-        model.start as u32,
-        model.colours,
-        &sources[..m],
-        &targets[..m],
-        &draws[..m],
-        &gains[..m],
-        &masks[..m],
-        &actions[..m],
+) -> Result<Walked, Refusal> {
+    walk(
+        &model.given(),
         model.credit,
         model.bound,
         model.barred,
-        p,
-        q,
         plan,
         colour,
         allowance,
-    );
-    walked.answer()
+    )
 }

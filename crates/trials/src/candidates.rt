@@ -3,79 +3,71 @@
 // these walks use no arc with a barred colour. When none is removed any more, the candidates are the pairs from which every required colour can
 // be met again and again, and no barred one is met. A plan exists where a prefix, over any pairs and arcs, leads from the start mode with the
 // credit to one. Arcs that are off are used by neither.
-//
-// A list has a number for each pair: while candidates are removed 0 for one that is removed, 1 for a candidate, 2 for one that is marked; while
-// prefixes are sought 0, and 1 for one that is marked. Its place 0, for no pair, is 0.
-use crate::models::{Arc, Model, arc_of, is_on};
+use crate::models::{Arc, Model};
 use crate::pairs::{pair_after, pair_of};
 use limits::Limits;
 
-// The most pairs of a node and a charge, (k + 1) × n × (b + 1), that the program keeps space for, and the places of the list for them.
+// The most pairs of a node and a charge, (k + 1) × n × (b + 1), that the program keeps space for.
 pub const ROOM: usize = Limits::PROGRAM as usize;
 
-const PLACES: usize = ROOM + 1;
-
-// A mask that no arc has a colour of, as no model has eight colours.
-const NEVER: u8 = 128;
-
-// What a walk is to come to, and by which arcs: an arc with a colour of the mask (where that is 0, any arc), by arcs with no colour of `barred`.
-// free, marked: the numbers of pairs that can be walked over, and of those from which the walk is known.
-#[derive(Clone, Copy)]
-struct Sought {
-    mask: u8,
-    barred: u8,
-    free: u8,
-    marked: u8,
+// What is known of a pair: it can't be walked over, it can, or a walk from it is known.
+#[derive(Clone, Copy, PartialEq, Eq)]
+enum Mark {
+    Removed,
+    Free,
+    Marked,
 }
 
-// The number of a pair.
-fn number_of(pairs: &[u8; PLACES], pair: usize) -> u8 {
-    if pair < PLACES {
-        return pairs[pair];
-    }
-    0
+// What a walk is to come to, if not to a pair that is marked: any arc, an arc with a colour of a mask, or nothing else.
+#[derive(Clone, Copy)]
+enum Goal {
+    AnyArc,
+    Colour(u8),
+    Nothing,
+}
+
+// What a walk is to come to, by arcs with no colour of `barred`.
+#[derive(Clone, Copy)]
+struct Sought {
+    goal: Goal,
+    barred: u8,
+}
+
+// The mark of a pair.
+fn mark_of(pairs: &[Mark], pair: usize) -> Mark {
+    pairs.get(pair).copied().unwrap_or(Mark::Removed)
 }
 
 // Marks a pair that is free; whether it was.
-fn mark(sought: Sought, pair: usize, pairs: &mut [u8; PLACES]) -> bool {
-    if number_of(pairs, pair) != sought.free || pair >= PLACES {
-        return false;
+fn mark_free(pair: usize, pairs: &mut [Mark]) -> bool {
+    match pairs.get_mut(pair) {
+        Some(mark) if *mark == Mark::Free => {
+            *mark = Mark::Marked;
+            true
+        }
+        _ => false,
     }
-    pairs[pair] = sought.marked;
-    true
 }
 
-// Takes the mark off a candidate, or removes it where it has none; whether it is removed.
-fn lower(pair: usize, pairs: &mut [u8; PLACES]) -> bool {
-    let number = number_of(pairs, pair);
-    if number == 0 || pair >= PLACES {
-        return false;
-    }
-    pairs[pair] = number - 1;
-    number == 1
-}
-
-// The least number of a pair that an arc is to lead to: of one that is free where the arc has a colour that is sought, else of one that is marked.
-// For an arc with a barred colour it is 255, which no pair has. It is never 0, which stands for no pair.
-fn least_of(arc: Arc, sought: Sought) -> u8 {
+// Whether an arc is one that is sought, or leads on to one, where it leads to a pair with this mark.
+fn leads(arc: Arc, sought: Sought, mark: Mark) -> bool {
     if arc.mask & sought.barred != 0 {
-        return 255;
+        return false;
     }
-    if sought.mask == 0 || arc.mask & sought.mask != 0 {
-        return sought.free;
+    match sought.goal {
+        Goal::AnyArc => mark != Mark::Removed,
+        Goal::Colour(mask) if arc.mask & mask != 0 => mark != Mark::Removed,
+        _ => mark == Mark::Marked,
     }
-    sought.marked
 }
 
 // Marks the free pairs from which an arc leads so, each looked at once; whether there was one.
-fn sweep_arc(arc: Arc, bound: u32, sought: Sought, pairs: &mut [u8; PLACES]) -> bool {
-    let least = least_of(arc, sought);
+fn sweep_arc(arc: Arc, bound: u32, sought: Sought, pairs: &mut [Mark]) -> bool {
     let mut more = false;
     for charge in 0..=bound {
         let pair = pair_of(arc.source, charge, bound);
-        let after = pair_after(arc, bound, pair);
-        if number_of(pairs, after) >= least {
-            if mark(sought, pair, pairs) {
+        if let Some(after) = pair_after(arc, bound, pair) {
+            if leads(arc, sought, mark_of(pairs, after)) && mark_free(pair, pairs) {
                 more = true;
             }
         }
@@ -84,64 +76,65 @@ fn sweep_arc(arc: Arc, bound: u32, sought: Sought, pairs: &mut [u8; PLACES]) -> 
 }
 
 // Marks the free pairs from which some arc that is on leads so; whether there was one.
-fn sweep(model: Model, sought: Sought, pairs: &mut [u8; PLACES]) -> bool {
+fn sweep(model: &Model, sought: Sought, pairs: &mut [Mark]) -> bool {
     let mut more = false;
-    let mut a = 0;
-    while a < model.arcs {
-        if is_on(model, a) {
-            if sweep_arc(arc_of(model, a), model.bound, sought, pairs) {
-                more = true;
-            }
+    for a in 0..model.arcs {
+        if model.is_on(a) && sweep_arc(model.arc(a), model.bound, sought, pairs) {
+            more = true;
         }
-        a += 1;
     }
     more
 }
 
 // Marks the free pairs from which a walk leads to a pair that is marked or to an arc that is sought. Each sweep but the last marks one more.
-fn spread(model: Model, sought: Sought, last: usize, pairs: &mut [u8; PLACES]) {
-    for _ in 0..last {
+fn spread(model: &Model, sought: Sought, pairs: &mut [Mark]) {
+    for _ in 0..pairs.len() {
         if !sweep(model, sought, pairs) {
             return;
         }
     }
 }
 
-// Removes the candidates that are not marked, and takes the marks off the others; whether there was one to remove.
-fn keep_marked(last: usize, pairs: &mut [u8; PLACES]) -> bool {
+// Removes the free pairs, and takes the marks off the others; whether there was one to remove.
+fn keep_marked(pairs: &mut [Mark]) -> bool {
     let mut removed = false;
-    for pair in 0..=last {
-        if lower(pair, pairs) {
-            removed = true;
+    for mark in pairs {
+        match *mark {
+            Mark::Removed => {}
+            Mark::Free => {
+                *mark = Mark::Removed;
+                removed = true;
+            }
+            Mark::Marked => {
+                *mark = Mark::Free;
+            }
         }
     }
     removed
 }
 
-// The mask of a colour; 0, for no colour, where it is barred or is none of the model's.
-fn mask_of(model: Model, colour: u32) -> u8 {
+// What is sought for a colour: an arc with it, or any arc where it is barred or is none of the model's.
+fn goal_of(model: &Model, colour: u32) -> Goal {
     if colour >= model.colours {
-        return 0;
+        return Goal::AnyArc;
     }
     let mask = 1u8 << (colour % 8);
     if mask & model.barred != 0 {
-        return 0;
+        return Goal::AnyArc;
     }
-    mask
+    Goal::Colour(mask)
 }
 
 // Removes the candidates that cannot meet one of the required colours, or can go no further; whether there was one.
-fn remove(model: Model, last: usize, pairs: &mut [u8; PLACES]) -> bool {
+fn remove(model: &Model, pairs: &mut [Mark]) -> bool {
     let mut removed = false;
     for colour in 0..=model.colours {
         let sought = Sought {
-            mask: mask_of(model, colour),
+            goal: goal_of(model, colour),
             barred: model.barred,
-            free: 1,
-            marked: 2,
         };
-        spread(model, sought, last, pairs);
-        if keep_marked(last, pairs) {
+        spread(model, sought, pairs);
+        if keep_marked(pairs) {
             removed = true;
         }
     }
@@ -149,26 +142,36 @@ fn remove(model: Model, last: usize, pairs: &mut [u8; PLACES]) -> bool {
 }
 
 // Removes candidates until none is removed any more. Each round but the last removes one.
-fn remove_all(model: Model, last: usize, pairs: &mut [u8; PLACES]) {
-    for _ in 0..last {
-        if !remove(model, last, pairs) {
+fn remove_all(model: &Model, pairs: &mut [Mark]) {
+    for _ in 0..pairs.len() {
+        if !remove(model, pairs) {
             return;
         }
     }
 }
 
-// Whether a plan exists; last: the last pair of the model.
-pub fn has_plan(model: Model, last: usize) -> bool {
-    let mut pairs = [1u8; PLACES];
-    pairs[0] = 0;
-    remove_all(model, last, &mut pairs);
+// Marks the candidates, and makes the other pairs free: a prefix may go over any.
+fn mark_candidates(pairs: &mut [Mark]) {
+    for mark in pairs {
+        *mark = if *mark == Mark::Free {
+            Mark::Marked
+        } else {
+            Mark::Free
+        };
+    }
+}
+
+// Whether a plan exists, where the model has this many pairs.
+pub fn has_plan(model: &Model, count: usize) -> bool {
+    let mut marks = [Mark::Free; ROOM];
+    let pairs = &mut marks[..count.min(ROOM)];
+    remove_all(model, pairs);
+    mark_candidates(pairs);
     let sought = Sought {
-        mask: NEVER,
+        goal: Goal::Nothing,
         barred: 0,
-        free: 0,
-        marked: 1,
     };
-    spread(model, sought, last, &mut pairs);
+    spread(model, sought, pairs);
     let first = pair_of(model.start, model.credit, model.bound);
-    number_of(&pairs, first) == 1
+    mark_of(pairs, first) == Mark::Marked
 }

@@ -2,13 +2,11 @@
 ghost use Rattle.std.specs.Prelude.{◌≤◌};
 
 use limits::Limits;
+use model::{Given, Lists};
 use switches::WORDS;
 
 // The actions that an arc may have.
-const ACTIONS: u8 = (Limits::ACTION as u8) + 1;
-
-// A word of switches with every bit set.
-const ALL: u64 = 18446744073709551615;
+const ACTIONS: u8 = Limits::ACTION + 1;
 
 // An arc; mask: its colours.
 #[derive(Clone, Copy)]
@@ -21,8 +19,8 @@ pub struct Arc {
     pub action: u8,
 }
 
-// A model, with credit, bound, barred colours and switches. Its arcs stand in the first `arcs` places of the six lists. It goes by value through
-// the program: what has few parameters is checked faster.
+// A model, with credit, bound, barred colours and switches. Its arcs stand in the first `arcs` places of the six lists, as the planner's calls are
+// lent them.
 #[derive(Clone, Copy)]
 pub struct Model {
     pub arcs: u8,
@@ -34,18 +32,12 @@ pub struct Model {
     pub actions: [u8; Limits::ARCS],
     pub modes: u32,
     pub start: u8,
+    // At most Limits::COLOURS, 4, in all families: the remainder by 8, where bits are shifted by it, keeps the shift within its word, and changes nothing.
     pub colours: u32,
     pub credit: u32,
     pub bound: u32,
     pub barred: u8,
     pub on: [u64; WORDS],
-}
-
-// A model, and the next state of the generator.
-#[derive(Clone, Copy)]
-pub struct Made {
-    pub model: Model,
-    pub state: u32,
 }
 
 // A family of models: from `least` on, `span` values of each number. An arc's gain less its draw is a number below net_span less net_low; beyond
@@ -87,50 +79,64 @@ pub fn without_arcs(modes: u32, start: u8, colours: u32, credit: u32, bound: u32
         credit,
         bound,
         barred: 0,
-        on: [ALL; WORDS],
+        on: [u64::MAX; WORDS],
     }
 }
 
-// The model with one arc more; as it was where there is no place for one.
-fn with_arc(model: Model, arc: Arc) -> Model {
-    let at = model.arcs as usize;
-    if at >= Limits::ARCS {
-        return model;
+impl Model {
+    // The model as the planner's calls take it.
+    pub fn given(&self) -> Given<'_> {
+        let m = self.arcs as usize;
+        Given {
+            n: self.modes,
+            start: u32::from(self.start),
+            k: self.colours,
+            lists: Lists {
+                sources: &self.sources[..m],
+                targets: &self.targets[..m],
+                draws: &self.draws[..m],
+                gains: &self.gains[..m],
+                colours: &self.masks[..m],
+                actions: &self.actions[..m],
+            },
+        }
     }
-    let mut more = model;
-    more.sources[at] = arc.source;
-    more.targets[at] = arc.target;
-    more.draws[at] = arc.draw;
-    more.gains[at] = arc.gain;
-    more.masks[at] = arc.mask;
-    more.actions[at] = arc.action;
-    more.arcs = model.arcs + 1;
-    more
+
+    // Adds an arc, where there is a place for one.
+    fn add(&mut self, arc: Arc) {
+        let at = self.arcs as usize;
+        if at < Limits::ARCS {
+            self.sources[at] = arc.source;
+            self.targets[at] = arc.target;
+            self.draws[at] = arc.draw;
+            self.gains[at] = arc.gain;
+            self.masks[at] = arc.mask;
+            self.actions[at] = arc.action;
+            self.arcs += 1;
+        }
+    }
+
+    // What stands at a place of the lists, which is an arc where is_on says so.
+    pub fn arc(&self, a: u8) -> Arc {
+        let at = (a as usize) % Limits::ARCS;
+        Arc {
+            source: self.sources[at],
+            target: self.targets[at],
+            draw: self.draws[at],
+            gain: self.gains[at],
+            mask: self.masks[at],
+            action: self.actions[at],
+        }
+    }
+
+    // Whether an arc is the model's, and on.
+    pub fn is_on(&self, a: u8) -> bool {
+        let word = (a / 64) as usize;
+        a < self.arcs && (self.on[word] >> (a % 64)) % 2 == 1
+    }
 }
 
-// What stands at a place of the lists, which is an arc where is_on says so.
-pub fn arc_of(model: Model, a: u8) -> Arc {
-    let at = (a as usize) % Limits::ARCS;
-    Arc {
-        source: model.sources[at],
-        target: model.targets[at],
-        draw: model.draws[at],
-        gain: model.gains[at],
-        mask: model.masks[at],
-        action: model.actions[at],
-    }
-}
-
-// Whether an arc is the model's, and on.
-pub fn is_on(model: Model, a: u8) -> bool {
-    if a >= model.arcs {
-        return false;
-    }
-    let word = (a / 64) as usize;
-    (model.on[word] >> (a % 64)) % 2 == 1
-}
-
-// The generator: x ↦ 48271·x modulo 2³¹ − 1.
+// The generator (functions of its state, so that each use names its place in the sequence): x ↦ 48271·x modulo 2³¹ − 1.
 fn next(state: u32) -> u32 {
     ((state as u64) * 48271 % 2147483647) as u32
 }
@@ -176,7 +182,7 @@ fn word_of(state: u32) -> u64 {
 }
 
 // A model of a family without its arcs, by the seven states after a state. Its first arc is picked by later ones.
-fn numbers_of(family: Family, state: u32) -> Model {
+fn numbers_of(family: &Family, state: u32) -> Model {
     let first = next(state);
     let second = next(first);
     let fourth = next(next(second));
@@ -193,28 +199,24 @@ fn numbers_of(family: Family, state: u32) -> Model {
     model
 }
 
-// The model with random switches, by states after a state.
-fn with_switches(model: Model, state: u32) -> Model {
+// Random switches, by states after a state.
+fn switches_of(state: u32) -> [u64; WORDS] {
     let second = skip(state);
     let third = skip(second);
-    let on = [
+    [
         word_of(state),
         word_of(second),
         word_of(third),
         word_of(skip(third)),
-    ];
-    let mut switched = model;
-    switched.on = on;
-    switched
+    ]
 }
 
 // The arc of a family that a seed gives, by the six states after it, for a model.
-fn random_arc(family: Family, model: Model, seed: u32) -> Arc {
+fn random_arc(family: &Family, model: &Model, seed: u32) -> Arc {
     let second = next(next(seed));
     let third = next(second);
     let fourth = next(third);
     let fifth = next(fourth);
-    // No family has more than 4 colours; the remainder keeps the shift within its word.
     let masks = 1u32 << (model.colours % 8);
     let net = pick(third, family.net_span as u32);
     let low = family.net_low as u32;
@@ -230,12 +232,12 @@ fn random_arc(family: Family, model: Model, seed: u32) -> Arc {
     }
 }
 
-// A model of a family, from a state of the generator.
-pub fn model_of(family: Family, state: u32) -> Made {
+// A model of a family, from a state of the generator, and the next state.
+pub fn model_of(family: &Family, state: u32) -> (Model, u32) {
     let count = number(next(next(next(state))), family.arcs_least, family.arcs_span);
     let mut model = numbers_of(family, state);
     if family.switches {
-        model = with_switches(model, state);
+        model.on = switches_of(state);
     }
     let mut reached = skip(state);
     let mut seed = reached;
@@ -245,10 +247,8 @@ pub fn model_of(family: Family, state: u32) -> Made {
         if !family.repeats || pick(reached, 2) != 0 {
             seed = reached;
         }
-        model = with_arc(model, random_arc(family, model, seed));
+        let arc = random_arc(family, &model, seed);
+        model.add(arc);
     }
-    Made {
-        model,
-        state: skip(reached),
-    }
+    (model, skip(reached))
 }

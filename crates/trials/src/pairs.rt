@@ -1,50 +1,28 @@
-// Pairs of a mode and a charge, as numbers from 1 on, and the pair that an arc leads to from another. 0 stands for no pair.
-ghost use Rattle.std.specs.Prelude.{◌+◌, ◌≤◌};
-
+// Pairs of a mode and a charge, as numbers from 0 on, and the pair that an arc leads to from another.
 use crate::models::Arc;
 
-// The charge that a draw and a gain lead to, cut off at the bound, plus 1; 0 where the charge is less than the draw.
-fn charge_after(charge: usize, draw: u16, gain: u16, bound: u32) -> usize
-    requires { charge ≤ bound }
-    ensures { result ≤ bound + 1 }
-{
-    let high = bound as usize;
-    let drawn = draw as usize;
-    if charge < drawn {
-        return 0;
-    }
-    let rest = charge - drawn + (gain as usize);
-    if rest > high {
-        return high + 1;
-    }
-    rest + 1
+// The charge that a draw and a gain lead to, cut off at the bound; none where the charge is less than the draw.
+fn charge_after(charge: u32, draw: u16, gain: u16, bound: u32) -> Option<u32> {
+    let rest = charge.checked_sub(u32::from(draw))?;
+    Some(rest.saturating_add(u32::from(gain)).min(bound))
 }
 
 // The pair of a mode and a charge.
 pub fn pair_of(mode: u8, charge: u32, bound: u32) -> usize {
-    (mode as usize) * ((bound as usize) + 1) + (charge as usize) + 1
+    (mode as usize) * ((bound as usize) + 1) + (charge as usize)
 }
 
-// The mode of a pair; 255, which is none, where there is no pair.
+// The mode of a pair.
 pub fn mode_of(pair: usize, bound: u32) -> usize {
-    if pair == 0 {
-        return 255;
-    }
-    (pair - 1) / ((bound as usize) + 1)
+    pair / ((bound as usize) + 1)
 }
 
-// The pair that an arc leads to from a pair; 0 where it leads nowhere.
-pub fn pair_after(arc: Arc, bound: u32, pair: usize) -> usize {
-    if pair == 0 {
-        return 0;
-    }
+// The pair that an arc leads to from a pair, where it leads anywhere.
+pub fn pair_after(arc: Arc, bound: u32, pair: usize) -> Option<usize> {
     if mode_of(pair, bound) != arc.source as usize {
-        return 0;
+        return None;
     }
-    let charge = (pair - 1) % ((bound as usize) + 1);
-    let after = charge_after(charge, arc.draw, arc.gain, bound);
-    if after == 0 {
-        return 0;
-    }
-    pair_of(arc.target, (after - 1) as u32, bound)
+    let charge = (pair % ((bound as usize) + 1)) as u32;
+    let after = charge_after(charge, arc.draw, arc.gain, bound)?;
+    Some(pair_of(arc.target, after, bound))
 }

@@ -5,14 +5,14 @@ use Prim.Native.Nat.{ℕ, ◌+◌, ◌-◌, ◌≤◌}
 use native.Mathlib.Omega.{arith}
 use native.Mathlib.Decide.{dec_le}
 use borrow.Author.Tests.{lt-ltb, le-ltb, le-leb, lt-leb, eq-eqb, ne_eqb}
-use Rattle.walks.specs.declared.Step.TheVariants.{To}
+use Rattle.walks.specs.BoundedStep.{to}
 use Rattle.walks.specs.declared.StepCase.{StepCase}
 use Rattle.walks.specs.declared.StepCase.TheVariants.{TooLittle, Below, Exactly, Above}
 use Rattle.walks.specs.BoundedStep.{Move, stepped}
 use Rattle.walks.specs.Cases.{Falls, FallsUnderOne, bound_case, step_case, step_in}
 use Rattle.walks.proofs.Walks.{stepped-possible, stepped-impossible}
 
-pub to-equal : {x y l k : ℕ} → x ≡ y → l ≡ k → To x l ≡ To y k
+pub to-equal : {x y l k : ℕ} → x ≡ y → l ≡ k → to x l ≡ to y k
 to-equal p q = rw (p, q) refl
 
 module _ (b : ℕ) (m : Move) (e : ℕ) where

@@ -4,7 +4,7 @@ use mathlib.Core.List.{List, [], ◌∷◌, ◌++◌}
 use mathlib.Core.Logic.{◌↔◌}
 use Prim.Native.Nat.{ℕ, ◌≤◌}
 use native.Mathlib.Omega.{arith}
-use Rattle.walks.specs.declared.Step.TheVariants.{To}
+use Rattle.walks.specs.BoundedStep.{to}
 use Rattle.walks.specs.BoundedStep.{Move, after, stepped}
 use Rattle.walks.specs.Walk.{Ends, walked, IsPossible}
 use Rattle.walks.specs.Moves.{charge, Possible}
@@ -42,7 +42,7 @@ pub walked-bound : (b : ℕ) (ms : List Move) (e x : ℕ) → e ≤ b → walked
 walked-bound b ms e x h q = omega (arith, (walked_to b ms e x q).1, charge-bound b ms e h)
 
 -- .. also of a single step ..
-pub stepped-bound : (b : ℕ) (m : Move) (e x l : ℕ) → e ≤ b → stepped b m e ≡ To x l → x ≤ b
+pub stepped-bound : (b : ℕ) (m : Move) (e x l : ℕ) → e ≤ b → stepped b m e ≡ to x l → x ≤ b
 unfolding walked
 stepped-bound b m e x l h q = walked-bound b (m ∷ []) e x h (rw q refl)
 

@@ -8,7 +8,7 @@ use Prim.Native.Nat.{ℕ, suc, ◌+◌, ◌-◌, ◌≤◌, min}
 use native.Mathlib.Omega.{arith}
 use native.Mathlib.Decide.{dec_le}
 use lib.IntN.{pos, ◌-ℤ◌}
-use Rattle.walks.specs.declared.Step.TheVariants.{To}
+use Rattle.walks.specs.BoundedStep.{to}
 use Rattle.walks.specs.BoundedStep.{Move, after}
 use Rattle.walks.specs.Walk.{Ends, walked}
 use Rattle.walks.specs.Spill.{spilled}
@@ -75,7 +75,7 @@ module _ (b : ℕ) where
   walk-law (m ∷ ms) = law-step m ms (walk-law ms)
 
 -- a step with the weight W = G − D, where e + W is not below 0: where it leads, and what it loses
-step-total : (M e x D G s : ℕ) → x + D ≡ min (e + G) (M + D) → e + G ≡ x + D + s → weighed M (pos G -ℤ pos D) e ≡ To x s
+step-total : (M e x D G s : ℕ) → x + D ≡ min (e + G) (M + D) → e + G ≡ x + D + s → weighed M (pos G -ℤ pos D) e ≡ to x s
 unfolding weighed
 step-total M e x D G s h k =
     let leads : min (e + G - D) M ≡ x = omega arith in
@@ -85,7 +85,7 @@ step-total M e x D G s h k =
 -- The law as the paper words it: a walk of these moves, where possible, is one step with the weight W, under some bound M, in the charge that
 -- it leads to and in what is lost; W is what the moves gain less what they draw.
 pub closed-walk : (b : ℕ) (ms : List Move) →
-    (M : ℕ) × (M ≤ b) × ((e x : ℕ) → e ≤ b → walked b ms e ≡ Ends x → weighed M (pos (gains ms) -ℤ pos (draws ms)) e ≡ To x (spilled b ms e))
+    (M : ℕ) × (M ≤ b) × ((e x : ℕ) → e ≤ b → walked b ms e ≡ Ends x → weighed M (pos (gains ms) -ℤ pos (draws ms)) e ≡ to x (spilled b ms e))
 closed-walk b ms =
     let l = walk-law b ms in (
       l.top,

@@ -1,5 +1,6 @@
 -- Each move's step is an energy function with the bound added (document 004, Definition 1; document 02, Ask 4), so it is monotone, and one more
 -- unit of charge gives at least one more unit below the bound. Assumes nothing.
+use Rattle.std.specs.Prelude.{Option, Some, None}
 use mathlib.Core.Path.{◌≡◌, refl, sym, ap, ◌∙◌}
 use mathlib.Core.Bool.{Bool, true, false}
 use Prim.Native.Nat.{ℕ, suc, ◌+◌, ◌-◌, ◌≤◌, ◌<◌, min}
@@ -8,7 +9,7 @@ use native.Mathlib.Decide.{dec_le}
 use borrow.Author.Tests.{le-leb, lt-leb}
 use lib.Dec.{leb}
 use Rattle.walks.specs.declared.Step.{Step}
-use Rattle.walks.specs.declared.Step.TheVariants.{To, Impossible}
+use Rattle.walks.specs.BoundedStep.{to}
 use Rattle.walks.specs.BoundedStep.{Move, stepped}
 use Rattle.walks.specs.Walk.{End, Ends, Blocked, IsPossible}
 use Rattle.walks.specs.Energy.{EnergyFunction, bounded, ended, EnergyUnder}
@@ -69,16 +70,16 @@ possible-ends : (t : End) → IsPossible t → (y : ℕ) × (t ≡ Ends y)
 possible-ends (Ends y) p = (y, refl)
 possible-ends Blocked p = absurd p
 
-ended_to : (s : Step) (x : ℕ) → ended s ≡ Ends x → (l : ℕ) × (s ≡ To x l)
-ended_to (To e l) x q = (l, ap {B = Step} (λ (y : ℕ). To y l) cc)
-ended_to Impossible x q = absurd (let z : ◌≡◌ {A = ℕ} 0 1 = cc in omega arith)
+ended_to : (s : Option Step) (x : ℕ) → ended s ≡ Ends x → (l : ℕ) × (s ≡ to x l)
+ended_to (Some u) x q = (u.lost, ap {B = Option Step} (λ (y : ℕ). to y u.lost) cc)
+ended_to None x q = absurd (let z : ◌≡◌ {A = ℕ} 0 1 = cc in omega arith)
 
 -- From more charge the step is possible too, and what it leads to is more by as much, up to the bound ..
-module _ (b : ℕ) (step : ℕ → Step) (energy : EnergyUnder b step) (e x l : ℕ) (to : step e ≡ To x l) where
-  pub energy-grows : (e' : ℕ) → e ≤ e' → (x' : ℕ) × (l' : ℕ) × (step e' ≡ To x' l') × (min (x + (e' - e)) b ≤ x') × (x ≤ b)
+module _ (b : ℕ) (step : ℕ → Option Step) (energy : EnergyUnder b step) (e x l : ℕ) (reaches : step e ≡ to x l) where
+  pub energy-grows : (e' : ℕ) → e ≤ e' → (x' : ℕ) × (l' : ℕ) × (step e' ≡ to x' l') × (min (x + (e' - e)) b ≤ x') × (x ≤ b)
   energy-grows e' h =
       let (f, is, same) = energy in
-      let (y, leads, cut) = bounded-to b (f e) x (sym (same e) ∙ ap {B = End} ended to) in
+      let (y, leads, cut) = bounded-to b (f e) x (sym (same e) ∙ ap {B = End} ended reaches) in
       let low = (is.defined e).0 (rw leads tt) in
       let (y', leads') = possible-ends (f e') ((is.defined e').1 (omega arith)) in
       let (l', to') = ended_to (step e') (min y' b) (same e' ∙ ap {B = End} (bounded b) leads') in
@@ -86,9 +87,9 @@ module _ (b : ℕ) (step : ℕ → Step) (energy : EnergyUnder b step) (e x l : 
       (min y' b, l', to', omega arith, omega arith)
 
   -- .. so it is monotone ..
-  pub energy-monotone : (e' : ℕ) → e ≤ e' → (x' : ℕ) × (l' : ℕ) × (step e' ≡ To x' l') × (x ≤ x')
+  pub energy-monotone : (e' : ℕ) → e ≤ e' → (x' : ℕ) × (l' : ℕ) × (step e' ≡ to x' l') × (x ≤ x')
   energy-monotone e' h = let (x', l', to', more, most) = energy-grows e' h in (x', l', to', omega arith)
 
   -- .. and one more unit gives at least one more unit below the bound
-  pub energy-unit : x < b → (x' : ℕ) × (l' : ℕ) × (step (suc e) ≡ To x' l') × (suc x ≤ x')
+  pub energy-unit : x < b → (x' : ℕ) × (l' : ℕ) × (step (suc e) ≡ to x' l') × (suc x ≤ x')
   energy-unit below = let (x', l', to', more, most) = energy-grows (suc e) (omega arith) in (x', l', to', omega arith)

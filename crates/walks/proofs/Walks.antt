@@ -1,4 +1,5 @@
 -- The walk of steps is the walk of the theory, on naturals: moves, charge, possible. Assumes nothing.
+use Rattle.std.specs.Prelude.{Option, Some, None}
 use mathlib.Core.Path.{◌≡◌, refl, sym, ap, ◌∙◌}
 use mathlib.Core.List.{List, [], ◌∷◌, ◌++◌, map, map-append, append-nil, append_assoc}
 use mathlib.Core.Logic.{◌↔◌}
@@ -8,36 +9,45 @@ use native.Mathlib.Omega.{arith}
 use native.Mathlib.Decide.{dec_le}
 use borrow.Author.Tests.{le-leb, lt-leb}
 use Rattle.walks.specs.declared.Step.{Step}
-use Rattle.walks.specs.declared.Step.TheVariants.{To, Impossible}
+use Rattle.walks.specs.BoundedStep.{to}
 use Rattle.walks.specs.BoundedStep.{Move, after, lost, possible_if, stepped}
 use Rattle.walks.specs.Walk.{End, Ends, Blocked, after_step, after_walk, walked, IsPossible, times}
 use Rattle.walks.specs.Moves.{charge, Possible}
 
 -- a move that is possible leads to the charge after it, and any other leads nowhere
-pub stepped-possible : (b : ℕ) (m : Move) (e : ℕ) → m.draw ≤ e → stepped b m e ≡ To (after b m e) (lost b m e)
+pub stepped-possible : (b : ℕ) (m : Move) (e : ℕ) → m.draw ≤ e → stepped b m e ≡ to (after b m e) (lost b m e)
 unfolding stepped
-stepped-possible b m e h = ap {B = Step} (λ t. possible_if t (To (after b m e) (lost b m e))) (le-leb m.draw e h)
+stepped-possible b m e h = ap {B = Option Step} (λ t. possible_if t (to (after b m e) (lost b m e))) (le-leb m.draw e h)
 
-pub stepped-impossible : (b : ℕ) (m : Move) (e : ℕ) → e < m.draw → stepped b m e ≡ Impossible
+pub stepped-impossible : (b : ℕ) (m : Move) (e : ℕ) → e < m.draw → stepped b m e ≡ None
 unfolding stepped
-stepped-impossible b m e h = ap {B = Step} (λ t. possible_if t (To (after b m e) (lost b m e))) (lt-leb m.draw e h)
+stepped-impossible b m e h = ap {B = Option Step} (λ t. possible_if t (to (after b m e) (lost b m e))) (lt-leb m.draw e h)
 
 -- document 02, Ask 4: "a move that draws 5 and then harvests 8 can't start with 3 in the battery", under any bound
-pub dip : (b : ℕ) → stepped b (record { draw = 5; gain = 8 }) 3 ≡ Impossible
+pub dip : (b : ℕ) → stepped b (record { draw = 5; gain = 8 }) 3 ≡ None
 dip b = stepped-impossible b (record { draw = 5; gain = 8 }) 3 (omega arith)
 
+-- what a step that is possible leads to, and what it loses
+abbrev charge_in : Option Step → ℕ
+charge_in (Some u) = u.charge
+charge_in None = 0
+
+abbrev lost_on : Option Step → ℕ
+lost_on (Some u) = u.lost
+lost_on None = 0
+
 -- a move leads to x and loses l exactly where it is possible, x is the charge after it, and l what it loses
-pub stepped-to : (b : ℕ) (m : Move) (e x l : ℕ) → (stepped b m e ≡ To x l) ↔ ((m.draw ≤ e) × (after b m e ≡ x) × (lost b m e ≡ l))
+pub stepped-to : (b : ℕ) (m : Move) (e x l : ℕ) → (stepped b m e ≡ to x l) ↔ ((m.draw ≤ e) × (after b m e ≡ x) × (lost b m e ≡ l))
 stepped-to b m e x l =
     elim (dec_le m.draw e) [
-      | yes h ↦ let q = stepped-possible b m e h in (λ p. (h, cc, cc), λ (i, j, k). q ∙ cc)
+      | yes h ↦ let q = stepped-possible b m e h in (λ p. (h, ap charge_in (sym q ∙ p), ap lost_on (sym q ∙ p)), λ (i, j, k). q ∙ cc)
       | no h ↦
           let q = stepped-impossible b m e (omega arith) in
           (λ p. absurd (let z : ◌≡◌ {A = ℕ} 0 1 = cc in omega arith), λ p. absurd (h p.0))
     ]
 
 -- .. and it leads nowhere only where the charge is below the draw
-pub stepped-off : (b : ℕ) (m : Move) (e : ℕ) → stepped b m e ≡ Impossible → e < m.draw
+pub stepped-off : (b : ℕ) (m : Move) (e : ℕ) → stepped b m e ≡ None → e < m.draw
 stepped-off b m e p =
     elim (dec_le m.draw e) [
       | yes h ↦ let q = stepped-possible b m e h in absurd (let z : ◌≡◌ {A = ℕ} 0 1 = cc in omega arith)
@@ -89,20 +99,20 @@ walked_to b ms e x q =
 
 -- a walk of one more move ends exactly where its first step is possible and the others end
 pub walked-cons : (b : ℕ) (m : Move) (ms : List Move) (e x : ℕ) → (walked b (m ∷ ms) e ≡ Ends x)
-    ↔ ((y : ℕ) × (l : ℕ) × (stepped b m e ≡ To y l) × (walked b ms y ≡ Ends x))
+    ↔ ((y : ℕ) × (l : ℕ) × (stepped b m e ≡ to y l) × (walked b ms y ≡ Ends x))
 unfolding walked
 walked-cons b m ms e x = go (stepped b m e)
   where
-    go : (s : Step) → (after_step s (walked b ms) ≡ Ends x) ↔ ((y : ℕ) × (l : ℕ) × (s ≡ To y l) × (walked b ms y ≡ Ends x))
-    go (To y l) = (λ q. (y, l, refl, q), λ (u, v, p, q). let i : y ≡ u = cc in rw i q)
-    go Impossible = (
+    go : (s : Option Step) → (after_step s (walked b ms) ≡ Ends x) ↔ ((y : ℕ) × (l : ℕ) × (s ≡ to y l) × (walked b ms y ≡ Ends x))
+    go (Some z) = (λ q. (z.charge, z.lost, refl, q), λ (u, v, p, q). let i : z.charge ≡ u = cc in rw i q)
+    go None = (
       λ q. absurd (let z : ◌≡◌ {A = ℕ} 0 1 = cc in omega arith),
       λ (u, v, p, q). absurd (let z : ◌≡◌ {A = ℕ} 0 1 = cc in omega arith),
     )
 
-after-step-assoc : (s : Step) (f g h : ℕ → End) → ((e : ℕ) → f e ≡ after_walk (g e) h) → after_step s f ≡ after_walk (after_step s g) h
-after-step-assoc (To e l) f g h k = k e
-after-step-assoc Impossible f g h k = refl
+after-step-assoc : (s : Option Step) (f g h : ℕ → End) → ((e : ℕ) → f e ≡ after_walk (g e) h) → after_step s f ≡ after_walk (after_step s g) h
+after-step-assoc (Some u) f g h k = k u.charge
+after-step-assoc None f g h k = refl
 
 -- a walk of two lists is the one, and then the other
 pub walked-append : (b : ℕ) (u v : List Move) (e : ℕ) → walked b (u ++ v) e ≡ after_walk (walked b u e) (walked b v)

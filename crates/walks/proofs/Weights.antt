@@ -1,4 +1,5 @@
 -- An old weight and its move. Document 02, Ask 4: "models without both parts must get the same verdicts as before". Assumes nothing.
+use Rattle.std.specs.Prelude.{Option}
 use mathlib.Core.Path.{◌≡◌, sym, ap, ◌∙◌}
 use mathlib.Core.Logic.{◌⊎◌, inl, inr, ⊎_elim}
 use Prim.Native.Nat.{ℕ, suc, zero-le, ◌+◌, ◌-◌, ◌≤◌, ◌<◌}
@@ -32,8 +33,8 @@ module _ (b : ℕ) (w : ℤ) (e : ℕ) where
   stepped-weight =
       let m = move_of_weight w in
       ⊎_elim
-      (λ (h, q). stepped-possible b m e h ∙ sym (ap {B = Step} (clipped b) q))
-      (λ (h, (x, q)). stepped-impossible b m e h ∙ sym (ap {B = Step} (clipped b) q))
+      (λ (h, q). stepped-possible b m e h ∙ sym (ap {B = Option Step} (clipped b) q))
+      (λ (h, (x, q)). stepped-impossible b m e h ∙ sym (ap {B = Option Step} (clipped b) q))
       (weight-sum w e)
 
   -- .. and its case is that of the sum

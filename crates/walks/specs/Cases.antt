@@ -1,9 +1,10 @@
 -- The bounded step written out as cases. Document 02, Ask 10: "named cases: too little charge, below the bound, exactly the bound, above it."
 -- Document 001, section 2: eᵢ₊₁ = min (b, eᵢ + wᵢ), "only up to the maximum bound b; increases above b are discarded", and the run is feasible where
 -- all are at least 0. Here e - draw + gain stands in place of eᵢ + wᵢ, and it is at least 0 where the charge is at least the draw.
+use Rattle.std.specs.Prelude.{Option, None}
 use Rattle.std.specs.Prelude.{◌≡◌, cond, ℕ, ◌+◌, ◌-◌, ◌≤◌, ◌<◌, leb, ltb, eqb, ℤ, pos, negsuc, ◌+ℤ◌}
 use Rattle.walks.specs.declared.Step.{Step}
-use Rattle.walks.specs.declared.Step.TheVariants.{To, Impossible}
+use Rattle.walks.specs.BoundedStep.{to}
 use Rattle.walks.specs.declared.StepCase.{StepCase}
 use Rattle.walks.specs.declared.StepCase.TheVariants.{TooLittle, Below, Exactly, Above}
 use Rattle.walks.specs.BoundedStep.{Move}
@@ -28,11 +29,11 @@ unfoldable pub step_case : ℕ → Move → ℕ → StepCase
 step_case b m e = cond (leb m.draw e) (bound_case b (e - m.draw + m.gain)) TooLittle
 
 -- the step in each case
-abbrev pub step_in : StepCase → ℕ → Move → ℕ → Step
-step_in TooLittle b m e = Impossible
-step_in Below b m e = To (e - m.draw + m.gain) 0
-step_in Exactly b m e = To b 0
-step_in Above b m e = To b (e - m.draw + m.gain - b)
+abbrev pub step_in : StepCase → ℕ → Move → ℕ → Option Step
+step_in TooLittle b m e = None
+step_in Below b m e = to (e - m.draw + m.gain) 0
+step_in Exactly b m e = to b 0
+step_in Above b m e = to b (e - m.draw + m.gain - b)
 
 -- the case of document 001's sum, which may be below 0
 abbrev pub sum_case : ℕ → ℤ → StepCase

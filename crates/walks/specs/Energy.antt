@@ -2,6 +2,7 @@
 -- an open interval ]l, ∞[ .. and such that for all x₁ ≤ x₂ for which f is defined, f(x₂) ≥ f(x₁) + x₂ − x₁", here over whole numbers, where ]l, ∞[ is
 -- [l + 1, ∞[. Document 02, Ask 4: "This is an energy function in the sense of document 004, with the bound added." The theorem step-energy says that
 -- each move's step is one with the bound added.
+use Rattle.std.specs.Prelude.{Option}
 use Rattle.std.specs.Prelude.{ℕ, ◌+◌, ◌-◌, ◌≤◌, min, ◌≡◌, ◌↔◌}
 use Rattle.walks.specs.declared.Step.{Step}
 use Rattle.walks.specs.Walk.{End, Ends, Blocked, after_step, IsPossible}
@@ -19,9 +20,9 @@ bounded b (Ends x) = Ends (min x b)
 bounded b Blocked = Blocked
 
 -- where a step leads, without what it lost
-abbrev pub ended : Step → End
+abbrev pub ended : Option Step → End
 ended s = after_step s Ends
 
 -- a step, by the charge that it is made from, is an energy function with the bound b added
-abbrev pub EnergyUnder : ℕ → (ℕ → Step) → Type 0
+abbrev pub EnergyUnder : ℕ → (ℕ → Option Step) → Type 0
 EnergyUnder b step = (f : ℕ → End) × EnergyFunction f × ((e : ℕ) → ended (step e) ≡ bounded b (f e))

@@ -1,9 +1,9 @@
 -- Walks of moves under a bound. Document 001, section 2: the accumulated weights of a run are e₁ = min (b, c) and eᵢ₊₁ = min (b, eᵢ + wᵢ),
 -- and the run is feasible where all are at least 0; with document 02, Ask 4, a draw and a gain stand in place of the weight, and the run is
 -- feasible where every step is possible. Here e₁ is c: refusal 6 keeps c at most b, and every law that needs it says so.
+use Rattle.std.specs.Prelude.{Option, Some, None}
 use Rattle.std.specs.Prelude.{ℕ, zero, suc, ◌≤◌, ◌≡◌, List, [], ◌∷◌, ◌++◌, ◌⊎◌}
 use Rattle.walks.specs.declared.Step.{Step}
-use Rattle.walks.specs.declared.Step.TheVariants.{To, Impossible}
 use Rattle.walks.specs.BoundedStep.{Move, stepped}
 
 -- how a walk ends: at a charge, or blocked by a step that is not possible
@@ -12,9 +12,9 @@ pub data End : Type 0 where
   Blocked : End
 
 -- what follows a step goes on from the charge that it leads to
-abbrev pub after_step : Step → (ℕ → End) → End
-after_step (To e l) f = f e
-after_step Impossible f = Blocked
+abbrev pub after_step : Option Step → (ℕ → End) → End
+after_step (Some u) f = f u.charge
+after_step None f = Blocked
 
 -- what follows a walk goes on from the charge at its end
 abbrev pub after_walk : End → (ℕ → End) → End

@@ -1,15 +1,15 @@
-// The bounded step: a draw taken from a charge, and a gain added under a bound. It takes plain numbers and answers an enum.
+// The bounded step: a draw taken from a charge, and a gain added under a bound. It takes plain numbers and answers an `Option`.
 #![tactic(auto)]
 
 ghost use Rattle.std.specs.Prelude.{◌≡◌, pos, ◌-ℤ◌};
 ghost use Rattle.walks.specs.BoundedStep.{stepped};
 ghost use Rattle.walks.specs.Cases.{step_case};
 
-// The charge that a step leads to, with what the bound cut off, or that it is not possible.
+// A step that is possible: the charge that it leads to, and what the bound cut off.
 #[derive(Clone, Copy)]
-pub enum Step {
-    To(u16, u32),
-    Impossible,
+pub struct Step {
+    pub charge: u16,
+    pub lost: u32,
 }
 
 // The cases of a step (document 02, Ask 10): the charge is less than the draw; or charge − draw + gain is below the bound, exactly the bound, or
@@ -53,21 +53,22 @@ pub fn step_case(charge: u16, draw: u16, gain: u16, bound: u16) -> StepCase
 // A step on an arc with this draw and this gain: possible only where the charge is at least the draw, and then to the smaller of
 // charge − draw + gain and the bound, with what the bound cut off. For all charges, draws, gains and bounds. Below the bound all of the charge is kept,
 // else as much as leads exactly to the bound, and then the change is added: so no branch hangs on the bound.
-pub fn bounded_step(charge: u16, draw: u16, gain: u16, bound: u16) -> Step
+pub fn bounded_step(charge: u16, draw: u16, gain: u16, bound: u16) -> Option<Step>
     ensures { result ≡ stepped bound (record { draw = draw; gain = gain }) charge }
 {
     let change = change_of(draw, gain);
     let room = (bound as i32) - change;
     let case = step_case(charge, draw, gain, bound);
     let kept = match case {
-        StepCase::TooLittle => {
-            return Step::Impossible;
-        }
+        StepCase::TooLittle => return None,
         StepCase::Below => charge as i32,
         StepCase::Exactly => room,
         StepCase::Above => room,
     };
     let reached = (kept + change) as u16;
     let lost = ((charge as i32) - kept) as u32;
-    Step::To(reached, lost)
+    Some(Step {
+        charge: reached,
+        lost,
+    })
 }

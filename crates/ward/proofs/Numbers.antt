@@ -1,5 +1,6 @@
 -- Which numbers a ward answers: of an unfit model 1, 3, 4 or 5, and of a wearer none of these. So the number tells whether verdicts were written.
 -- Assumes nothing.
+use Rattle.std.specs.Prelude.{Ok, Err}
 use mathlib.Core.Path.{◌≡◌, refl, sym, ap, ◌∙◌}
 use mathlib.Core.Bool.{Bool, true, false, not, ◌||◌}
 use mathlib.Core.List.{List}
@@ -13,9 +14,7 @@ use Rattle.limits.specs.Ceilings.{modes_most, colours_most, bound_most}
 use Rattle.refusals.specs.declared.Answer.{Answer}
 use Rattle.refusals.specs.declared.Refusal.{Refusal}
 use Rattle.refusals.specs.declared.Refusal.TheVariants.{ModeCount, StartMode, ArcLists, ColourCount, Levels}
-use Rattle.refusals.specs.declared.Verdict.{Verdict}
-use Rattle.refusals.specs.declared.Verdict.TheVariants.{Yes, Refused}
-use Rattle.refusals.specs.Refusals.{numbered, answer_of}
+use Rattle.refusals.specs.Refusals.{Verdict, numbered, answer_of}
 use Rattle.refusals.proofs.Verdicts.{clash}
 use Rattle.refusals.proofs.Numbers.{refusal-number}
 use Rattle.refusals.proofs.Each.{refuse-each, then-each, scan-each}
@@ -70,7 +69,7 @@ module _ (n k : ℕ) (l : Lists) where
       (scan-each unfit (arcs-scan n (2 ^ k) (arcs_of l)) (record { number = refl }) λ a i. record { number = refl }))))
 
   -- a wearer of a fit model: 2 and 6 are none of them either
-  wearer-passes : ward_fitness n k l ≡ Yes → (s x b c p q : ℕ) (w : List ℕ) → Passes other_number (judged n s k l x b c p q w)
+  wearer-passes : ward_fitness n k l ≡ Ok tt → (s x b c p q : ℕ) (w : List ℕ) → Passes other_number (judged n s k l x b c p q w)
   unfolding judged_levels levels_of
   wearer-passes fit s x b c p q w =
       let P = Passes other_number in
@@ -86,19 +85,19 @@ not-both false e f = clash (cc)
 -- "An unfit model met before any wearer (1, 3, 4, 5) ends the call"; "2 and 6 are verdicts": the number is one of the four exactly where the model is
 -- unfit, and so no verdict was written
 pub ward-number : {n k : ℕ} {l : Lists} {x p q : ℕ} {w : List ℕ} {ys zs : List Wearer} {r : Answer} → WardOf n k l x p q w ys zs r
-    → (unfit_number r.number ≡ true) ↔ ((z : Refusal) × (ward_fitness n k l ≡ Refused z))
+    → (unfit_number r.number ≡ true) ↔ ((z : Refusal) × (ward_fitness n k l ≡ Err z))
 ward-number {n} {k} {l} {x} {p} {q} {w} {ys} {zs} {r} h = (λ e. go (ward_fitness n k l) refl e, λ (z, unfit). back z unfit)
   where
-    go : (v : Verdict) → ward_fitness n k l ≡ v → unfit_number r.number ≡ true → (z : Refusal) × (ward_fitness n k l ≡ Refused z)
-    go (Refused z) unfit e = (z, unfit)
-    go Yes fit e =
+    go : (v : Verdict) → ward_fitness n k l ≡ v → unfit_number r.number ≡ true → (z : Refusal) × (ward_fitness n k l ≡ Err z)
+    go (Err z) unfit e = (z, unfit)
+    go (Ok _) fit e =
         let (i, there) = ward-place h fit (λ zero. not-both (unfit_number r.number) e (rw zero refl)) in
         let y = get_or ys r.detail no_wearer in
         let judging = judged_answer n y.start k l x y.b y.c p q w in
         let told : r.number ≡ judging.number = sym there ∙ ap (λ (u : Wearer). u.verdict) (ward-verdict h fit r.detail i) in
         absurd (not-both (unfit_number r.number) e (rw told (wearer-passes n k l fit y.start x y.b y.c p q w).number))
 
-    back : (z : Refusal) → ward_fitness n k l ≡ Refused z → unfit_number r.number ≡ true
+    back : (z : Refusal) → ward_fitness n k l ≡ Err z → unfit_number r.number ≡ true
     back z unfit =
         let other = ne_eqb (numbered z).number 0 (λ e. omega (arith, refusal-number z, e)) in
         rw (ap (λ (a : Answer). a.number) (ward-unfit h z unfit).0) (rw (unfit, other) at (unfit-pass n k l).number)

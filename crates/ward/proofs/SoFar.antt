@@ -1,22 +1,21 @@
 -- What the loop over a ward comes to: the answer so far after i wearers, and the answer and the wearers at the end. Assumes nothing.
+use Rattle.std.specs.Prelude.{Ok, Err}
+use Rattle.std.specs.Result.{is_err}
 use mathlib.Core.Path.{◌≡◌, refl, ap, ◌∙◌}
 use mathlib.Core.Bool.{Bool, true, false, cond}
 use mathlib.Core.List.{List, [], ◌∷◌, map}
-use Prim.Native.Nat.{ℕ, zero, suc, ◌+◌, ◌<◌, ◌≤◌}
+use Prim.Native.Nat.{ℕ, zero, suc, ◌+◌, ◌<◌}
 use native.Mathlib.Nat.{not-suc-le-zero, le_of_suc-le-suc}
 use native.Mathlib.Numerals.{add-one}
 use native.Mathlib.Omega.{arith}
 use lib.Dec.{eqb}
 use lib.ListN.{length, get_or, set}
 use Rattle.refusals.specs.declared.Answer.{Answer}
-use Rattle.refusals.specs.declared.Verdict.{Verdict}
-use Rattle.refusals.specs.declared.Verdict.TheVariants.{Yes, Refused}
-use Rattle.refusals.specs.Refusals.{answer}
+use Rattle.refusals.specs.Refusals.{Verdict, answer, answer_of}
+use Rattle.refusals.proofs.Verdicts.{clash}
 use Rattle.ward.specs.declared.Wearer.{Wearer}
-use Rattle.ward.specs.declared.Checked.{Checked}
-use Rattle.ward.specs.declared.JudgedWearer.{JudgedWearer}
 use Rattle.ward.specs.Ward.{with_verdict, first_other, answered_if, filled_if}
-use Rattle.ward.specs.Turns.{checked_of, after_verdict, judged_wearer}
+use Rattle.ward.specs.Turns.{after_verdict}
 use Rattle.ward.proofs.Upto.{upto, get_or-upto, set-upto, upto_all}
 
 -- what stands past the end of a list of wearers
@@ -71,34 +70,39 @@ module _ (f : Wearer → ℕ) (ys : List Wearer) where
   grown : (zs : List Wearer) (i : ℕ) → zs ≡ upto filled i ys → i < length ys → set zs i (filled (get_or zs i no_wearer)) ≡ upto filled (i + 1) ys
   grown zs i e l = rw (e, add-one) (set-upto filled i ys no_wearer l)
 
-  pub turn-filled : (zs : List Wearer) (r : Answer) (o : JudgedWearer) (i : ℕ) → zs ≡ upto filled i ys
-      → o ≡ judged_wearer f (get_or zs i no_wearer) r i → i < length ys → set zs i o.wearer ≡ upto filled (i + 1) ys
-  turn-filled zs r o i e j l = rw j (grown zs i e l)
+  pub turn-filled : (zs : List Wearer) (i v : ℕ) → zs ≡ upto filled i ys → v ≡ f (get_or zs i no_wearer) → i < length ys
+      → set zs i (with_verdict (get_or zs i no_wearer) v) ≡ upto filled (i + 1) ys
+  turn-filled zs i v e j l = rw j (grown zs i e l)
 
-  pub turn-answered : (zs : List Wearer) (r a : Answer) (o : JudgedWearer) (i : ℕ) → zs ≡ upto filled i ys → r ≡ so_far f a 0 ys i
-      → o ≡ judged_wearer f (get_or zs i no_wearer) r i → i < length ys → o.answer ≡ so_far f a 0 ys (i + 1)
-  turn-answered zs r a o i e q j l = rw (j, e, q, get_or-upto filled i ys no_wearer, add-one) (so-far-next f a ys i l)
+  pub turn-answered : (zs : List Wearer) (r s a : Answer) (i v : ℕ) → zs ≡ upto filled i ys → r ≡ so_far f a 0 ys i → v ≡ f (get_or zs i no_wearer)
+      → s ≡ after_verdict r v i → i < length ys → s ≡ so_far f a 0 ys (i + 1)
+  turn-answered zs r s a i v e q j t l = rw (t, j, e, q, get_or-upto filled i ys no_wearer, add-one) (so-far-next f a ys i l)
 
--- the wearers to be judged are wearers of the list
-pub count-within : (v : Verdict) (n : ℕ) → (checked_of v n).count ≤ n
-count-within Yes n = omega arith
-count-within (Refused r) n = omega arith
+-- how many of m wearers are judged, by what is said of the model
+abbrev pub judged_of : Verdict → ℕ → ℕ
+judged_of (Ok _) m = m
+judged_of (Err r) m = 0
 
 -- after the wearers to be judged: the answer, and the wearers
 pub ward-answered : (v : Verdict) (f : Wearer → ℕ) (ys : List Wearer)
-    → so_far f (checked_of v (length ys)).answer 0 ys (checked_of v (length ys)).count ≡ answered_if v f ys
-ward-answered Yes f ys = so-far-all f 0 ys
-ward-answered (Refused r) f ys = refl
+    → so_far f (answer_of v) 0 ys (judged_of v (length ys)) ≡ answered_if v f ys
+ward-answered (Ok _) f ys = so-far-all f 0 ys
+ward-answered (Err r) f ys = refl
 
 pub ward-filled : (v : Verdict) (f : Wearer → ℕ) (ys : List Wearer)
-    → upto (λ y. with_verdict y (f y)) (checked_of v (length ys)).count ys ≡ filled_if v f ys
-ward-filled Yes f ys = upto_all (λ y. with_verdict y (f y)) (length ys) ys (omega arith)
-ward-filled (Refused r) f ys = refl
+    → upto (λ y. with_verdict y (f y)) (judged_of v (length ys)) ys ≡ filled_if v f ys
+ward-filled (Ok _) f ys = upto_all (λ y. with_verdict y (f y)) (length ys) ys (omega arith)
+ward-filled (Err r) f ys = refl
 
--- the same of what is had where the loop ends
-module _ (v : Verdict) (f : Wearer → ℕ) (ys : List Wearer) (s : Checked) (e : s ≡ checked_of v (length ys)) (i : ℕ) (all : i ≡ s.count) where
-  pub answered-at : (r : Answer) → r ≡ so_far f s.answer 0 ys i → r ≡ answered_if v f ys
-  answered-at r q = rw (q, all, e) (ward-answered v f ys)
+-- where it is not refused all are
+pub judged-all : (v : Verdict) (m : ℕ) → is_err v ≡ false → judged_of v m ≡ m
+judged-all (Ok _) m e = refl
+judged-all (Err r) m e = clash (cc)
+
+-- the same of what is had where the call ends
+module _ (v : Verdict) (f : Wearer → ℕ) (ys : List Wearer) (i : ℕ) (all : judged_of v (length ys) ≡ i) where
+  pub answered-at : (r : Answer) → r ≡ so_far f (answer_of v) 0 ys i → r ≡ answered_if v f ys
+  answered-at r q = rw (q, ← all) (ward-answered v f ys)
 
   pub filled-at : (zs : List Wearer) → zs ≡ upto (λ y. with_verdict y (f y)) i ys → zs ≡ filled_if v f ys
-  filled-at zs q = rw (q, all, e) (ward-filled v f ys)
+  filled-at zs q = rw (q, ← all) (ward-filled v f ys)

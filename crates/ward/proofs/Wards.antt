@@ -1,5 +1,6 @@
 -- What a ward's call says: the model's unfitness, or every wearer's verdict, by judging and by the definition of a plan that is right for a wearer.
 -- Assumes nothing.
+use Rattle.std.specs.Prelude.{Ok, Err}
 use mathlib.Core.Path.{◌≡◌, refl, sym, ap, ◌∙◌}
 use mathlib.Core.Logic.{◌↔◌, ◌≢◌}
 use mathlib.Core.List.{List, [], ◌∷◌, map, map-map}
@@ -8,9 +9,7 @@ use native.Mathlib.Omega.{arith}
 use lib.ListN.{length, get_or, length-map}
 use Rattle.refusals.specs.declared.Answer.{Answer}
 use Rattle.refusals.specs.declared.Refusal.{Refusal}
-use Rattle.refusals.specs.declared.Verdict.{Verdict}
-use Rattle.refusals.specs.declared.Verdict.TheVariants.{Yes, Refused}
-use Rattle.refusals.specs.Refusals.{answer, numbered}
+use Rattle.refusals.specs.Refusals.{Verdict, answer, numbered}
 use Rattle.refusals.proofs.Numbers.{refusal-number}
 use Rattle.model.specs.Lists.{Lists, automaton_of}
 use Rattle.model.specs.Fitness.{EqualLists, Fit}
@@ -26,8 +25,8 @@ use Rattle.ward.proofs.Unfit.{ward-fitness-yes, fit-ward}
 
 -- the list is as long as it was
 pub filled-length : (v : Verdict) (f : Wearer → ℕ) (ys : List Wearer) → length (filled_if v f ys) ≡ length ys
-filled-length Yes f ys = length-map ys (λ y. with_verdict y (f y))
-filled-length (Refused r) f ys = refl
+filled-length (Ok _) f ys = length-map ys (λ y. with_verdict y (f y))
+filled-length (Err r) f ys = refl
 
 module _ (n k : ℕ) (l : Lists) (x p q : ℕ) (w : List ℕ) where
   -- the plan is right for the wearer y: feasible and accepted, with the wearer's start mode, bound and credit
@@ -52,19 +51,19 @@ module _ {n k : ℕ} {l : Lists} {x p q : ℕ} {w : List ℕ} {ys zs : List Wear
       (h.answered ∙ ap (λ (u : Verdict). answered_if u f ys) e, h.filled ∙ ap (λ (u : Verdict). filled_if u f ys) e)
 
   -- "An unfit model met before any wearer (1, 3, 4, 5) ends the call with its number and detail and no verdict written, even on an empty list"
-  pub ward-unfit : (z : Refusal) → ward_fitness n k l ≡ Refused z → (r ≡ numbered z) × (zs ≡ ys)
-  ward-unfit z = by-fitness (Refused z)
+  pub ward-unfit : (z : Refusal) → ward_fitness n k l ≡ Err z → (r ≡ numbered z) × (zs ≡ ys)
+  ward-unfit z = by-fitness (Err z)
 
   -- else the answer is that of the verdicts, and each is written
-  ward-fit : ward_fitness n k l ≡ Yes
+  ward-fit : ward_fitness n k l ≡ Ok tt
       → (r ≡ first_other (map (verdict_of n k l x p q w) ys) 0) × (zs ≡ map (λ y. with_verdict y (verdict_of n k l x p q w y)) ys)
-  ward-fit = by-fitness Yes
+  ward-fit = by-fitness (Ok tt)
 
   pub ward-length : length zs ≡ length ys
   ward-length = ap (λ (us : List Wearer). length us) h.filled ∙ filled-length (ward_fitness n k l) (verdict_of n k l x p q w) ys
 
   -- "fill every verdict with the number judging gives for that wearer, 0 for yes. Other fields keep their content."
-  pub ward-verdict : ward_fitness n k l ≡ Yes → (j : ℕ) → j < length ys
+  pub ward-verdict : ward_fitness n k l ≡ Ok tt → (j : ℕ) → j < length ys
       → let y = get_or ys j no_wearer in
       let v = (judged_answer n y.start k l x y.b y.c p q w).number in
       get_or zs j no_wearer ≡ record { start = y.start; c = y.c; b = y.b; verdict = v }
@@ -74,12 +73,12 @@ module _ {n k : ℕ} {l : Lists} {x p q : ℕ} {w : List ℕ} {ys zs : List Wear
       ∙ get_or-map-lt (λ y. with_verdict y (verdict_of n k l x p q w y)) ys j no_wearer no_wearer i
 
   -- a model that is not fit is refused by its number
-  number-fit : r.number ≡ 0 → ward_fitness n k l ≡ Yes
+  number-fit : r.number ≡ 0 → ward_fitness n k l ≡ Ok tt
   number-fit e = go (ward_fitness n k l) refl
     where
-      go : (v : Verdict) → ward_fitness n k l ≡ v → v ≡ Yes
-      go Yes fit = refl
-      go (Refused z) unfit = absurd (omega (arith, refusal-number z, ap (λ (a : Answer). a.number) (ward-unfit z unfit).0, e))
+      go : (v : Verdict) → ward_fitness n k l ≡ v → v ≡ Ok tt
+      go (Ok _) fit = refl
+      go (Err z) unfit = absurd (omega (arith, refusal-number z, ap (λ (a : Answer). a.number) (ward-unfit z unfit).0, e))
 
   -- number 0 is the yes alone, with detail 0
   pub ward-zero : r.number ≡ 0 → r ≡ answer 0 0
@@ -88,7 +87,7 @@ module _ {n k : ℕ} {l : Lists} {x p q : ℕ} {w : List ℕ} {ys zs : List Wear
       told ∙ first-zero (map (verdict_of n k l x p q w) ys) 0 (sym (ap (λ (a : Answer). a.number) told) ∙ e)
 
   -- where the model is fit: "the answer is yes exactly when all are yes, so an empty list is yes"
-  pub ward-all : ward_fitness n k l ≡ Yes → (r ≡ answer 0 0) ↔ ((j : ℕ) → j < length ys → RightFor n k l x p q w (get_or ys j no_wearer))
+  pub ward-all : ward_fitness n k l ≡ Ok tt → (r ≡ answer 0 0) ↔ ((j : ℕ) → j < length ys → RightFor n k l x p q w (get_or ys j no_wearer))
   ward-all fit =
       let f = verdict_of n k l x p q w in
       let told = (ward-fit fit).0 in
@@ -121,20 +120,20 @@ module _ {n k : ℕ} {l : Lists} {x p q : ℕ} {w : List ℕ} {ys zs : List Wear
   )
 
   -- the verdicts written are those that the answer is made of
-  verdicts-written : ward_fitness n k l ≡ Yes → map (λ (z : Wearer). z.verdict) zs ≡ map (verdict_of n k l x p q w) ys
+  verdicts-written : ward_fitness n k l ≡ Ok tt → map (λ (z : Wearer). z.verdict) zs ≡ map (verdict_of n k l x p q w) ys
   verdicts-written fit =
       ap (λ (us : List Wearer). map (λ (z : Wearer). z.verdict) us) (ward-fit fit).1
       ∙ map-map (λ (z : Wearer). z.verdict) (λ y. with_verdict y (verdict_of n k l x p q w y)) ys
 
   -- where the model is fit: "else the first other verdict, with its wearer's place, from 0, as detail", of the verdicts that the call leaves
-  pub ward-other : ward_fitness n k l ≡ Yes → (d v : ℕ) → v ≢ 0 → (r ≡ answer v d) ↔ FirstAt (map (λ (z : Wearer). z.verdict) zs) d v
+  pub ward-other : ward_fitness n k l ≡ Ok tt → (d v : ℕ) → v ≢ 0 → (r ≡ answer v d) ↔ FirstAt (map (λ (z : Wearer). z.verdict) zs) d v
   ward-other fit d v other =
       let told = (ward-fit fit).0 ∙ ap (λ (vs : List ℕ). first_other vs 0) (sym (verdicts-written fit)) in
       let first = first-other (map (λ (z : Wearer). z.verdict) zs) d v other in
       (λ e. first.0 (sym told ∙ e), λ z. told ∙ first.1 z)
 
   -- then the detail is the place of a wearer, and the number is its verdict
-  pub ward-place : ward_fitness n k l ≡ Yes → r.number ≢ 0 → (r.detail < length ys) × ((get_or zs r.detail no_wearer).verdict ≡ r.number)
+  pub ward-place : ward_fitness n k l ≡ Ok tt → r.number ≢ 0 → (r.detail < length ys) × ((get_or zs r.detail no_wearer).verdict ≡ r.number)
   ward-place fit other =
       let first = (ward-other fit r.detail r.number other).0 refl in
       let i : r.detail < length zs = omega (arith, first.within, length-map zs (λ (z : Wearer). z.verdict)) in
@@ -155,8 +154,8 @@ same-mapped g unread ys us same = sym (blank ys) ∙ ap (λ (ts : List Wearer). 
 
 -- the wearers with their verdicts are such a list
 filled-same : (v : Verdict) (f : Wearer → ℕ) (ys : List Wearer) → SameButVerdicts ys (filled_if v f ys)
-filled-same Yes f ys = sym (map-map (λ y. with_verdict y 0) (λ y. with_verdict y (f y)) ys)
-filled-same (Refused r) f ys = refl
+filled-same (Ok _) f ys = sym (map-map (λ y. with_verdict y 0) (λ y. with_verdict y (f y)) ys)
+filled-same (Err r) f ys = refl
 
 -- "Other fields keep their content.", whether the model is fit or not
 pub ward-kept : {n k : ℕ} {l : Lists} {x p q : ℕ} {w : List ℕ} {ys zs : List Wearer} {r : Answer} → WardOf n k l x p q w ys zs r
@@ -167,7 +166,7 @@ ward-kept {n} {k} {l} {x} {p} {q} {w} {ys} h = rw h.filled (filled-same (ward_fi
 module _ {n k : ℕ} {l : Lists} {x p q : ℕ} {w : List ℕ} {ys zs us vs : List Wearer} {r s : Answer}
     (h : WardOf n k l x p q w ys zs r) (i : WardOf n k l x p q w us vs s) where
   -- What verdict fields hold at entry is not looked at: the answers are the same, and where the model is fit so are the wearers that the calls leave
-  pub ward-same : SameButVerdicts ys us → (r ≡ s) × (ward_fitness n k l ≡ Yes → zs ≡ vs)
+  pub ward-same : SameButVerdicts ys us → (r ≡ s) × (ward_fitness n k l ≡ Ok tt → zs ≡ vs)
   ward-same same =
       let f = verdict_of n k l x p q w in
       let answers = same-mapped f (λ y. verdict-unread n k l x p q w y 0) ys us same in
@@ -178,8 +177,8 @@ module _ {n k : ℕ} {l : Lists} {x p q : ℕ} {w : List ℕ} {ys zs us vs : Lis
     where
       answered-same : (v : Verdict) → map (verdict_of n k l x p q w) ys ≡ map (verdict_of n k l x p q w) us
           → answered_if v (verdict_of n k l x p q w) ys ≡ answered_if v (verdict_of n k l x p q w) us
-      answered-same Yes e = ap (λ (ts : List ℕ). first_other ts 0) e
-      answered-same (Refused z) e = refl
+      answered-same (Ok _) e = ap (λ (ts : List ℕ). first_other ts 0) e
+      answered-same (Err z) e = refl
 
 -- a call on the wearers that a call left gives the same answer, and leaves them as they are
 pub ward-again : {n k : ℕ} {l : Lists} {x p q : ℕ} {w : List ℕ} {ys zs us : List Wearer} {r s : Answer}
@@ -188,6 +187,6 @@ ward-again {n} {k} {l} {zs = zs} {us = us} h i =
     let same = ward-same h i (ward-kept h) in
     (sym same.0, go (ward_fitness n k l) refl same.1)
   where
-    go : (v : Verdict) → ward_fitness n k l ≡ v → (ward_fitness n k l ≡ Yes → zs ≡ us) → us ≡ zs
-    go Yes fit kept = sym (kept fit)
-    go (Refused z) unfit kept = (ward-unfit i z unfit).1
+    go : (v : Verdict) → ward_fitness n k l ≡ v → (ward_fitness n k l ≡ Ok tt → zs ≡ us) → us ≡ zs
+    go (Ok _) fit kept = sym (kept fit)
+    go (Err z) unfit kept = (ward-unfit i z unfit).1

@@ -1,10 +1,8 @@
 -- One plan for a ward. Document 02, Ask 11: "Take a lent list of wearer records, each with start mode, c, b and a verdict field, and fill every
 -- verdict with the number judging gives for that wearer, 0 for yes." As in judging, x is the byte of barred colours, and w the plan's bytes.
-use Rattle.std.specs.Prelude.{ℕ, suc, ◌≡◌, cond, List, [], ◌∷◌, map, eqb}
+use Rattle.std.specs.Prelude.{ℕ, suc, ◌≡◌, cond, List, [], ◌∷◌, map, Ok, Err, eqb}
 use Rattle.refusals.specs.declared.Answer.{Answer}
-use Rattle.refusals.specs.declared.Verdict.{Verdict}
-use Rattle.refusals.specs.declared.Verdict.TheVariants.{Yes, Refused}
-use Rattle.refusals.specs.Refusals.{answer, numbered}
+use Rattle.refusals.specs.Refusals.{Verdict, answer, numbered}
 use Rattle.model.specs.Lists.{Lists}
 use Rattle.model.specs.Fitness.{fitness}
 use Rattle.judge.specs.Judged.{judged_answer}
@@ -31,13 +29,13 @@ first_other (v ∷ vs) i = cond (eqb v 0) (first_other vs (suc i)) (answer v i)
 
 -- by the fitness of the model: it "ends the call with its number and detail", or the verdicts f of the wearers are told
 abbrev pub answered_if : Verdict → (Wearer → ℕ) → List Wearer → Answer
-answered_if Yes f ys = first_other (map f ys) 0
-answered_if (Refused r) f ys = numbered r
+answered_if (Ok _) f ys = first_other (map f ys) 0
+answered_if (Err r) f ys = numbered r
 
 -- "and no verdict written", or each wearer is with its verdict
 abbrev pub filled_if : Verdict → (Wearer → ℕ) → List Wearer → List Wearer
-filled_if Yes f ys = map (λ y. with_verdict y (f y)) ys
-filled_if (Refused r) f ys = ys
+filled_if (Ok _) f ys = map (λ y. with_verdict y (f y)) ys
+filled_if (Err r) f ys = ys
 
 -- What a ward's call does. ys: the wearers at entry, zs: the wearers at exit, r: the answer.
 pub record WardOf (n k : ℕ) (l : Lists) (x p q : ℕ) (w : List ℕ) (ys zs : List Wearer) (r : Answer) : Type 0 where

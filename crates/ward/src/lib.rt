@@ -2,15 +2,15 @@
 #![tactic(auto)]
 
 ghost use Rattle.std.specs.Prelude.{◌≡◌};
-ghost use Rattle.model.specs.Lists.{lists};
+ghost use Rattle.model.specs.Lists.{lists_of};
 ghost use Rattle.ward.specs.Ward.{verdict_of, ward_fitness, WardOf};
-ghost use Rattle.ward.specs.Turns.{checked_of, after_verdict, judged_wearer};
+ghost use Rattle.ward.specs.Turns.{after_verdict};
 
-use judge::judge;
-use model::check_model;
-use refusals::{Answer, Verdict};
+use judge::{GivenPlan, judge};
+use model::{Given, Lists, check_model};
+use refusals::{Answer, Refusal};
 
-// A wearer: start mode, credit, bound, and the verdict, which is 0 for yes or the number of a refusal.
+// A wearer: start mode, credit, bound, and the verdict, which is 0 for yes or the number of a refusal: C has the same struct, and reads the number.
 #[repr(C)]
 #[derive(Clone, Copy)]
 pub struct Wearer {
@@ -20,52 +20,39 @@ pub struct Wearer {
     pub verdict: u8,
 }
 
-// Before any wearer: the answer, and how many wearers are to be judged.
-#[derive(Clone, Copy)]
-struct Checked {
-    pub answer: Answer,
-    pub count: usize,
-}
-
-// After a wearer: the wearer with its verdict, and the answer so far.
-#[derive(Clone, Copy)]
-struct JudgedWearer {
-    pub wearer: Wearer,
-    pub answer: Answer,
-}
-
-// The model of a ward with `count` wearers: yes so far, and all of them to be judged; or the first of 1, 3, 4 and 5 that applies, and none. Each
-// wearer has a start mode of its own: 0 stands for it here, which is below every n that 1 does not refuse, so that 2 is not answered.
-fn check_ward(
-    count: usize,
-    n: u32,
-    k: u32,
-    sources: &[u8],
-    targets: &[u8],
-    draws: &[u16],
-    gains: &[u16],
-    colours: &[u8],
-    actions: &[u8],
-) -> Checked
-    ensures { result ≡ checked_of (ward_fitness n k (lists sources.now targets.now draws.now gains.now colours.now actions.now)) count }
+// The model of a ward: yes, or the first of 1, 3, 4 and 5 that applies. Each wearer has a start mode of its own: 0 stands for it here, which is
+// below every n that 1 does not refuse, so that 2 is not answered.
+fn check_ward(n: u32, k: u32, lists: &Lists) -> Result<(), Refusal>
+    ensures { result ≡ ward_fitness n k (lists_of lists.now) }
 {
-    let fitted = check_model(n, 0, k, sources, targets, draws, gains, colours, actions);
-    let verdict = fitted.verdict;
-    let answer = verdict.answer();
-    match verdict {
-        Verdict::Yes => Checked { answer, count },
-        Verdict::Refused(_) => Checked { answer, count: 0 },
-    }
+    check_model(&Given {
+        n,
+        start: 0,
+        k,
+        lists: *lists,
+    })?;
+    Ok(())
 }
 
-// The answer so far after one more verdict: the first that is not yes, with its place.
+// The number that judging gives for a wearer, 0 for yes. A verdict is its number here: C reads the list, and first_other and WardOf speak of numbers.
+#[tactic(auto, unfolding(crate::specs::Ward::verdict_of))]
+fn judge_wearer(wearer: &Wearer, n: u32, k: u32, lists: &Lists, barred: u8, plan: &GivenPlan) -> u8
+    ensures { result ≡ verdict_of n k (lists_of lists.now) barred plan.now.p plan.now.q plan.now.arcs.now wearer.now }
+{
+    let given = Given {
+        n,
+        start: wearer.start,
+        k,
+        lists: *lists,
+    };
+    Answer::from(judge(&given, wearer.c, wearer.b, barred, plan)).number
+}
+
+// The answer so far after one more verdict, a number as in `judge_wearer`: the first that is not yes, with its place.
 fn after_verdict(answer: Answer, verdict: u8, place: usize) -> Answer
     ensures { result ≡ after_verdict answer verdict place }
 {
-    if answer.number != 0 {
-        return answer;
-    }
-    if verdict == 0 {
+    if answer.number != 0 || verdict == 0 {
         return answer;
     }
     Answer {
@@ -74,100 +61,28 @@ fn after_verdict(answer: Answer, verdict: u8, place: usize) -> Answer
     }
 }
 
-// One wearer judged, at its place in the ward.
-fn judge_wearer(
-    wearer: Wearer,
-    answer: Answer,
-    place: usize,
-    n: u32,
-    k: u32,
-    sources: &[u8],
-    targets: &[u8],
-    draws: &[u16],
-    gains: &[u16],
-    colours: &[u8],
-    actions: &[u8],
-    barred: u8,
-    p: u32,
-    q: u32,
-    plan: &[u8],
-) -> JudgedWearer
-    ensures { result ≡ judged_wearer (verdict_of n k (lists sources.now targets.now draws.now gains.now colours.now actions.now) barred p q plan.now) wearer answer place }
-{
-    let judged = judge(
-        n,
-        wearer.start,
-        k,
-        sources,
-        targets,
-        draws,
-        gains,
-        colours,
-        actions,
-        wearer.c,
-        wearer.b,
-        barred,
-        p,
-        q,
-        plan,
-    );
-    let told = judged.answer();
-    let verdict = told.number;
-    let after = after_verdict(answer, verdict, place);
-    let filled = Wearer {
-        start: wearer.start,
-        c: wearer.c,
-        b: wearer.b,
-        verdict,
-    };
-    JudgedWearer {
-        wearer: filled,
-        answer: after,
-    }
-}
-
 // One plan for a ward: each wearer's verdict is filled with the number that judging gives, and the answer is yes where all are yes, else the first
 // other verdict, with its place as detail; or the first of 1, 3, 4 and 5 that applies to the model, and the wearers as found. For all numbers,
-// lists, plans and wearers. The wearers stand first, so that all other arguments are handed on as they came.
+// lists, plans and wearers. n, k and the lists, and no Given: a ward has no start mode, each wearer has one.
 pub fn ward(
     wearers: &mut [Wearer],
     n: u32,
     k: u32,
-    sources: &[u8],
-    targets: &[u8],
-    draws: &[u16],
-    gains: &[u16],
-    colours: &[u8],
-    actions: &[u8],
+    lists: &Lists,
     barred: u8,
-    p: u32,
-    q: u32,
-    plan: &[u8],
+    plan: &GivenPlan,
 ) -> Answer
-    ensures { WardOf n k (lists sources.now targets.now draws.now gains.now colours.now actions.now) barred p q plan.now wearers.old wearers.new result }
+    ensures { WardOf n k (lists_of lists.now) barred plan.now.p plan.now.q plan.now.arcs.now wearers.old wearers.new result }
 {
-    let checked = check_ward(
-        wearers.len(),
-        n,
-        k,
-        sources,
-        targets,
-        draws,
-        gains,
-        colours,
-        actions,
-    );
-    let mut answer = checked.answer;
-    let count = checked.count;
-    let mut i = 0;
-    while i < count {
-        let judged = judge_wearer(
-            wearers[i], answer, i, n, k, sources, targets, draws, gains, colours, actions, barred,
-            p, q, plan,
-        );
-        wearers[i] = judged.wearer;
-        answer = judged.answer;
-        i += 1;
+    let checked = check_ward(n, k, lists);
+    let mut answer = Answer::from(checked);
+    if checked.is_err() {
+        return answer;
+    }
+    for (place, wearer) in wearers.iter_mut().enumerate() {
+        let verdict = judge_wearer(wearer, n, k, lists, barred, plan);
+        wearer.verdict = verdict;
+        answer = after_verdict(answer, verdict, place);
     }
     answer
 }

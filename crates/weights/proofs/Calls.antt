@@ -1,15 +1,17 @@
 -- Document 02, Ask 4: "models without both parts must get the same verdicts as before": judging, gauge, walk and search, on all inputs. Assumes
 -- nothing.
+use Rattle.std.specs.Prelude.{Option, Some, None, Ok, Err}
 use mathlib.Core.Path.{◌≡◌, refl, sym, ◌∙◌, subst}
 use mathlib.Core.List.{List, [], ◌∷◌}
 use mathlib.Core.Logic.{◌↔◌}
 use Prim.Native.Nat.{ℕ, suc, ◌+◌}
+use lib.Dec.{leb}
 use lib.ListN.{length}
 use Rattle.walks.specs.declared.Step.{Step}
-use Rattle.walks.specs.declared.Step.TheVariants.{To, Impossible}
 use Rattle.walks.specs.Weights.{weighed}
-use Rattle.refusals.specs.declared.Verdict.{Verdict}
-use Rattle.refusals.specs.Refusals.{and_then}
+use Rattle.refusals.specs.declared.Refusal.TheVariants.{NoSuchColour}
+use Rattle.refusals.specs.Refusals.{Verdict, refuse, and_then}
+use Rattle.model.specs.Automaton.{meets}
 use Rattle.model.specs.Lists.{Lists}
 use Rattle.model.specs.Plans.{Plan}
 use Rattle.switches.specs.PlansOn.{SomePlanOn}
@@ -17,9 +19,10 @@ use Rattle.judge.specs.Shape.{plan_of}
 use Rattle.judge.specs.Charges.{ran_on, ran, after_ran, second_round, rounds, charges}
 use Rattle.judge.specs.Judged.{serves_of, judged_plan, judged_levels, judged}
 use Rattle.gauge.specs.declared.Gauge.{Gauge}
-use Rattle.gauge.specs.Gauge.{started_of, moved_of, moved_matched, moved_levelled, stepped_of}
-use Rattle.planwalk.specs.Walked.{steps_of_plan, gauge_walk, walk_of}
-use Rattle.search.specs.declared.Searched.{Searched}
+use Rattle.gauge.specs.Gauge.{Gauged, started_of, moved_of, moved_matched, moved_levelled, stepped_of}
+use Rattle.planwalk.specs.declared.Walked.TheVariants.{Met}
+use Rattle.planwalk.specs.Walked.{steps_of_plan, met_or, walk_on, gauge_walk, walk_of}
+use Rattle.search.specs.Search.{Searched}
 use Rattle.search.specs.Search as search
 use Rattle.search.proofs.Searchable.{in-numbers}
 use Rattle.weights.specs.Models.{WeightLists, lists_of, model_by, OnePart, weight_at, fitness_by_weight, SomePlanOnByWeight}
@@ -34,10 +37,10 @@ module _ (n s k : ℕ) (l : WeightLists) where
   ran-same b [] i e f h same = same e
   ran-same b (a ∷ w) i e f h same = rw (step_same l n s k b a e) (on (weighed b (weight_at l a) e) (λ y. ran-same b w (suc i) y f h same))
     where
-      on : (t : Step) → ((y : ℕ) → after_ran (ran (model_by n s k l) b w (suc i) y) f ≡ by.ran_by_weight l b w (suc i) y h)
+      on : (t : Option Step) → ((y : ℕ) → after_ran (ran (model_by n s k l) b w (suc i) y) f ≡ by.ran_by_weight l b w (suc i) y h)
           → after_ran (ran_on t i (ran (model_by n s k l) b w (suc i))) f ≡ by.ran_on_by_weight t i (λ y. by.ran_by_weight l b w (suc i) y h)
-      on (To y u) r = r y
-      on Impossible r = refl
+      on (Some z) r = r z.charge
+      on None r = refl
 
   charges-same : (b c : ℕ) (p : Plan) → charges (model_by n s k l) b c p ≡ by.charges_by_weight l b c p
   unfolding charges rounds second_round by.charges_by_weight
@@ -64,16 +67,25 @@ module _ (n s k : ℕ) (l : WeightLists) where
   gauge-walk-same : (b j : ℕ) (w : List ℕ) (i : ℕ) (x : Gauge) → gauge_walk n s k (lists_of l) b j w i x ≡ by.gauge_walk_by_weight n s k l b j w i x
   unfolding gauge_walk by.gauge_walk_by_weight
   gauge-walk-same b j [] i x = refl
-  gauge-walk-same b j (a ∷ w) i x = rw (stepped_same b a x, gauge-walk-same b j w (suc i) (by.stepped_by_weight n s k l b a x).gauge) refl
+  gauge-walk-same b j (a ∷ w) i x = rw (stepped_same b a x) (go (by.stepped_by_weight n s k l b a x) (gauge-walk-same b j w (suc i)))
+    where
+      go : (y : Gauged) → ((u : Gauge) → gauge_walk n s k (lists_of l) b j w (suc i) u ≡ by.gauge_walk_by_weight n s k l b j w (suc i) u)
+          → walk_on y (λ u. met_or (meets (model_by n s k l) j a) (Ok (Met (suc i))) (gauge_walk n s k (lists_of l) b j w (suc i) u))
+          ≡ walk_on y (λ u. met_or (meets (model_by n s k l) j a) (Ok (Met (suc i))) (by.gauge_walk_by_weight n s k l b j w (suc i) u))
+      go (Ok u) same = rw (same u) refl
+      go (Err r) same = refl
 
   pub walk_same : (x b c p q : ℕ) (w : List ℕ) (j t : ℕ) → walk_of n s k (lists_of l) x b c p q w j t ≡ by.walk_by_weight n s k l x b c p q w j t
   unfolding walk_of by.walk_by_weight
   walk_same x b c p q w j t =
-      rw (
-        judged-same x b c p q w,
-        started-same b c,
-        gauge-walk-same b j (steps_of_plan (plan_of p w) t) 0 (by.started_by_weight n s k l b c).gauge,
-      ) refl
+      rw (judged-same x b c p q w, started-same b c) (go (by.started_by_weight n s k l b c))
+    where
+      go : (y : Gauged) → and_then (by.judged_by_weight n s k l x b c p q w)
+          (refuse (leb k j) NoSuchColour (walk_on y (gauge_walk n s k (lists_of l) b j (steps_of_plan (plan_of p w) t) 0)))
+          ≡ and_then (by.judged_by_weight n s k l x b c p q w)
+          (refuse (leb k j) NoSuchColour (walk_on y (by.gauge_walk_by_weight n s k l b j (steps_of_plan (plan_of p w) t) 0)))
+      go (Ok u) = rw (gauge-walk-same b j (steps_of_plan (plan_of p w) t) 0 u) refl
+      go (Err r) = refl
 
   -- search: 1 to 9 ..
   searchable-same : (b c words bytes : ℕ) → search.searchable n s k (lists_of l) b c words bytes ≡ and_then (fitness_by_weight n s k l) (search.levels_and_spaces n k b c words bytes)

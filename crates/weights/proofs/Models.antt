@@ -1,4 +1,5 @@
 -- Fitness, walks and plans of a model given by weights are those of its draws and gains. Assumes nothing.
+use Rattle.std.specs.Prelude.{Option, Some, None}
 use mathlib.Core.Path.{◌≡◌, refl, sym, ap, ◌∙◌, subst}
 use mathlib.Core.Bool.{Bool, true, false, not, ◌||◌}
 use mathlib.Core.List.{List, [], ◌∷◌, ◌++◌, map}
@@ -14,7 +15,6 @@ use lib.Seq.{get_or-take}
 use lib.Signed.{lt_z}
 use Rattle.limits.specs.Ceilings.{draw_most, gain_most}
 use Rattle.walks.specs.declared.Step.{Step}
-use Rattle.walks.specs.declared.Step.TheVariants.{To, Impossible}
 use Rattle.walks.specs.BoundedStep.{Move, stepped}
 use Rattle.walks.specs.Walk.{End, after_step, walked, IsPossible, times}
 use Rattle.walks.specs.Weights.{draw_of, gain_of, move_of_weight, weighed}
@@ -50,9 +50,9 @@ or-twice false true = refl
 or-twice false false = refl
 
 -- what follows a step may be given in another way
-after-step : (t : Step) (f h : ℕ → End) → ((y : ℕ) → f y ≡ h y) → after_step t f ≡ after_step t h
-after-step (To y u) f h same = same y
-after-step Impossible f h same = refl
+after-step : (t : Option Step) (f h : ℕ → End) → ((y : ℕ) → f y ≡ h y) → after_step t f ≡ after_step t h
+after-step (Some z) f h same = same z.charge
+after-step None f h same = refl
 
 -- a walk of arcs by their weights is the walk of these weights
 walked-weights : (l : WeightLists) (b : ℕ) (w : List ℕ) (e : ℕ) → walked_by_weight l b w e ≡ walked_weights b (map (weight_at l) w) e
@@ -109,7 +109,7 @@ module _ (l : WeightLists) where
 
     -- so a step on it is the step with its weight
     pub step_same : (b a e : ℕ) → stepped b (move_of (arc_at (model_by n s k l) a)) e ≡ weighed b (weight_at l a) e
-    step_same b a e = ap {B = Step} (λ m. stepped b m e) (move_same a) ∙ stepped-weight b (weight_at l a) e
+    step_same b a e = ap {B = Option Step} (λ m. stepped b m e) (move_same a) ∙ stepped-weight b (weight_at l a) e
 
     pub walked_same : (b : ℕ) (w : List ℕ) (e : ℕ) → walked_arcs (model_by n s k l) b w e ≡ walked_by_weight l b w e
     unfolding walked walked_by_weight

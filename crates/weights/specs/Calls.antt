@@ -1,15 +1,12 @@
 -- What judging, gauge, walk and search answer by weights. Each says what the definition of its own crate says, with the step by a weight in place of
 -- the step by draw and gain, and fitness by weights.
-use Rattle.std.specs.Prelude.{ℕ, suc, ◌+◌, ◌*◌, ◌≤◌, ◌≡◌, not, ◌&&◌, List, [], ◌∷◌, ◌↔◌, leb, ltb, eqb, length, take, drop, replicate}
+use Rattle.std.specs.Prelude.{ℕ, suc, ◌+◌, ◌*◌, ◌≤◌, ◌≡◌, not, ◌&&◌, List, [], ◌∷◌, ◌↔◌, Option, Some, None, Result, Ok, Err, leb, ltb, eqb, length, take, drop, replicate}
 use Rattle.limits.specs.Ceilings.{plan_most}
 use Rattle.walks.specs.declared.Step.{Step}
-use Rattle.walks.specs.declared.Step.TheVariants.{To, Impossible}
 use Rattle.walks.specs.Weights.{weighed}
 use Rattle.refusals.specs.declared.Refusal.{Refusal}
 use Rattle.refusals.specs.declared.Refusal.TheVariants.{ArcNumber, OtherMode, ImpossibleStep, FallingCycle, NoSuchColour, MixedGauge}
-use Rattle.refusals.specs.declared.Verdict.{Verdict}
-use Rattle.refusals.specs.declared.Verdict.TheVariants.{Yes, Refused}
-use Rattle.refusals.specs.Refusals.{refuse, and_then}
+use Rattle.refusals.specs.Refusals.{Verdict, refuse, and_then}
 use Rattle.model.specs.Automaton.{arc_at, meets}
 use Rattle.model.specs.Lists.{Lists}
 use Rattle.model.specs.Fitness.{levels_of}
@@ -18,20 +15,17 @@ use Rattle.judge.specs.Shape.{plan_of, shape}
 use Rattle.judge.specs.Colours.{accepted_of}
 use Rattle.judge.specs.Judged.{judged}
 use Rattle.gauge.specs.declared.Gauge.{Gauge}
-use Rattle.gauge.specs.declared.Gauged.{Gauged}
-use Rattle.gauge.specs.Gauge.{new_gauge, gauged, no_gauge, stop_at, started_of, landed, mixed_up, stepped_of}
+use Rattle.gauge.specs.Gauge.{Gauged, new_gauge, started_of, landed, mixed_up, stepped_of}
 use Rattle.planwalk.specs.declared.Walked.{Walked}
 use Rattle.planwalk.specs.declared.Walked.TheVariants as walk
-use Rattle.planwalk.specs.Walked.{steps_of_plan, met_or, walk_if, walk_on, walk_of}
-use Rattle.search.specs.declared.Searched.{Searched}
-use Rattle.search.specs.declared.Searched.TheVariants as outcome
-use Rattle.search.specs.Search.{levels_and_spaces, no_plan, SearchOf}
+use Rattle.planwalk.specs.Walked.{steps_of_plan, met_or, walk_on, walk_of}
+use Rattle.search.specs.Search.{Searched, planned, levels_and_spaces, no_plan, SearchOf}
 use Rattle.weights.specs.Models.{WeightLists, model_by, weight_at, fitness_by_weight, ServesOnByWeight, SomePlanOnByWeight}
 
 -- Judging. What follows step i goes on from the charge that it leads to; 15 where it is not possible
-abbrev pub ran_on_by_weight : Step → ℕ → (ℕ → Verdict) → Verdict
-ran_on_by_weight (To e l) i f = f e
-ran_on_by_weight Impossible i f = Refused (ImpossibleStep i)
+abbrev pub ran_on_by_weight : Option Step → ℕ → (ℕ → Verdict) → Verdict
+ran_on_by_weight (Some u) i f = f u.charge
+ran_on_by_weight None i f = Err (ImpossibleStep i)
 
 -- the arcs walked one after the other from charge e, the first step with the number i, and what follows from the charge at the end
 unfoldable pub ran_by_weight : WeightLists → ℕ → List ℕ → ℕ → ℕ → (ℕ → Verdict) → Verdict
@@ -46,7 +40,7 @@ charges_by_weight l b c p =
     ran_by_weight l b p.prefix 0 c λ e.
     ran_by_weight l b w m e λ x.
     ran_by_weight l b w (m + length w) x λ y.
-    refuse (ltb x e && ltb y x) FallingCycle Yes
+    refuse (ltb x e && ltb y x) FallingCycle (Ok tt)
 
 -- the verdict, for any numbers, lists and bytes
 unfoldable pub judged_by_weight : ℕ → ℕ → ℕ → WeightLists → ℕ → ℕ → ℕ → ℕ → ℕ → List ℕ → Verdict
@@ -59,30 +53,32 @@ judged_by_weight n s k l x b c p q w =
 
 -- The gauge: its start ..
 unfoldable pub started_by_weight : ℕ → ℕ → ℕ → WeightLists → ℕ → ℕ → Gauged
-started_by_weight n s k l b c = stop_at (and_then (fitness_by_weight n s k l) (levels_of b c)) no_gauge (gauged Yes (new_gauge (model_by n s k l) b c))
+started_by_weight n s k l b c = and_then (fitness_by_weight n s k l) (and_then (levels_of b c) (Ok (new_gauge (model_by n s k l) b c)))
 
 -- .. and a step on arc a: 1 to 6, 22, 12, 13, 15
 unfoldable pub stepped_by_weight : ℕ → ℕ → ℕ → WeightLists → ℕ → ℕ → Gauge → Gauged
 stepped_by_weight n s k l b a x =
     let g = model_by n s k l in
     let m = length g.arcs in
-    stop_at (fitness_by_weight n s k l) x
-    (stop_at (levels_of b x.charge) x
-    (stop_at (refuse (mixed_up n m b x) MixedGauge Yes) x
-    (stop_at (refuse (leb m a) (ArcNumber 0) (refuse (not (eqb (arc_at g a).source x.mode)) (OtherMode 0) Yes)) x
-    (landed x (arc_at g a).target (weighed b (weight_at l a) x.charge)))))
+    and_then (fitness_by_weight n s k l)
+    (and_then (levels_of b x.charge)
+    (refuse (mixed_up n m b x) MixedGauge
+    (refuse (leb m a) (ArcNumber 0)
+    (refuse (not (eqb (arc_at g a).source x.mode)) (OtherMode 0)
+    (landed x (arc_at g a).target (weighed b (weight_at l a) x.charge))))))
 
 -- The walk: the gauge stepped on the arcs of the list until colour j is met ..
-unfoldable pub gauge_walk_by_weight : ℕ → ℕ → ℕ → WeightLists → ℕ → ℕ → List ℕ → ℕ → Gauge → Walked
-gauge_walk_by_weight n s k l b j [] i x = walk.Spent i
+unfoldable pub gauge_walk_by_weight : ℕ → ℕ → ℕ → WeightLists → ℕ → ℕ → List ℕ → ℕ → Gauge → Result Walked Refusal
+gauge_walk_by_weight n s k l b j [] i x = Ok (walk.Spent i)
 gauge_walk_by_weight n s k l b j (a ∷ w) i x =
-    walk_on (stepped_by_weight n s k l b a x) λ y. met_or (meets (model_by n s k l) j a) (suc i) (gauge_walk_by_weight n s k l b j w (suc i) y)
+    walk_on (stepped_by_weight n s k l b a x) λ y. met_or (meets (model_by n s k l) j a) (Ok (walk.Met (suc i))) (gauge_walk_by_weight n s k l b j w (suc i) y)
 
 -- .. and the call
-unfoldable pub walk_by_weight : ℕ → ℕ → ℕ → WeightLists → ℕ → ℕ → ℕ → ℕ → ℕ → List ℕ → ℕ → ℕ → Walked
+unfoldable pub walk_by_weight : ℕ → ℕ → ℕ → WeightLists → ℕ → ℕ → ℕ → ℕ → ℕ → List ℕ → ℕ → ℕ → Result Walked Refusal
 walk_by_weight n s k l x b c p q w j t =
-    walk_if (and_then (judged_by_weight n s k l x b c p q w) (refuse (leb k j) NoSuchColour Yes))
-    (walk_on (started_by_weight n s k l b c) (gauge_walk_by_weight n s k l b j (steps_of_plan (plan_of p w) t) 0))
+    and_then (judged_by_weight n s k l x b c p q w)
+    (refuse (leb k j) NoSuchColour
+    (walk_on (started_by_weight n s k l b c) (gauge_walk_by_weight n s k l b j (steps_of_plan (plan_of p w) t) 0)))
 
 -- Search: what holds of the plan that is handed back ..
 pub record FoundByWeight (n s k : ℕ) (l : WeightLists) (x : ℕ) (on : List ℕ) (b c p q : ℕ) (plan plan' : List ℕ) : Type 0 where
@@ -96,7 +92,7 @@ pub record FoundByWeight (n s k : ℕ) (l : WeightLists) (x : ℕ) (on : List �
 -- .. 10, with the buffer untouched, or such a plan in it ..
 pub data AnsweredByWeight (n s k : ℕ) (l : WeightLists) (x : ℕ) (on : List ℕ) (b c : ℕ) (plan plan' : List ℕ) : Searched → Type 0 where
   none : plan' ≡ plan → AnsweredByWeight n s k l x on b c plan plan' no_plan
-  found : {p q : ℕ} → FoundByWeight n s k l x on b c p q plan plan' → AnsweredByWeight n s k l x on b c plan plan' (outcome.Plan p q)
+  found : {p q : ℕ} → FoundByWeight n s k l x on b c p q plan plan' → AnsweredByWeight n s k l x on b c plan plan' (planned p q)
 
 -- .. demand 3 ..
 pub record DecidedByWeight (n s k : ℕ) (l : WeightLists) (x : ℕ) (on : List ℕ) (b c : ℕ)
@@ -108,8 +104,8 @@ pub record DecidedByWeight (n s k : ℕ) (l : WeightLists) (x : ℕ) (on : List 
 -- .. over all inputs, v being what 1 to 9 say ..
 pub record SearchIfByWeight (v : Verdict) (n s k : ℕ) (l : WeightLists) (x : ℕ) (on : List ℕ) (b c : ℕ)
     (work plan work' plan' : List ℕ) (r : Searched) : Type 0 where
-  pub refused : (y : Refusal) → v ≡ Refused y → (r ≡ outcome.Refused y) × (work' ≡ work) × (plan' ≡ plan)
-  pub decided : v ≡ Yes → DecidedByWeight n s k l x on b c work plan work' plan' r
+  pub refused : (y : Refusal) → v ≡ Err y → (r ≡ Err y) × (work' ≡ work) × (plan' ≡ plan)
+  pub decided : v ≡ Ok tt → DecidedByWeight n s k l x on b c work plan work' plan' r
 
 -- .. and the call
 abbrev pub SearchByWeight : ℕ → ℕ → ℕ → WeightLists → ℕ → List ℕ → ℕ → ℕ → List ℕ → List ℕ → List ℕ → List ℕ → Searched → Type 0

@@ -1,15 +1,13 @@
 -- Models with one weight for each arc. Document 01, "The model and the charge": "a weight from −10,000 to 10,000"; document 02, Ask 4: "An old
 -- weight w means draw −w, gain 0 where w is negative, else draw 0, gain w; models without both parts must get the same verdicts as before".
 -- Arcs that are off (Ask 9) are withdrawn from plans by weights as from any.
-use Rattle.std.specs.Prelude.{ℕ, zero, suc, ◌^◌, Bool, not, ◌||◌, ◌≡◌, List, [], ◌∷◌, ◌++◌, ◌⊎◌, leb, ltb, eqb, ℤ, pos, neg_ℤ, length, get_or, take}
+use Rattle.std.specs.Prelude.{ℕ, zero, suc, ◌^◌, Bool, not, ◌||◌, ◌≡◌, List, [], ◌∷◌, ◌++◌, ◌⊎◌, Ok, leb, ltb, eqb, ℤ, pos, neg_ℤ, length, get_or, take}
 use Rattle.std.specs.Int.Signed.{lt_z}
 use Rattle.limits.specs.Ceilings.{modes_most, arcs_most, colours_most, action_most}
 use Rattle.walks.specs.Walk.{End, Ends, after_step, IsPossible, times}
 use Rattle.walks.specs.Weights.{weighed}
 use Rattle.refusals.specs.declared.Refusal.TheVariants.{ModeCount, StartMode, ArcLists, ColourCount, UnfitArc}
-use Rattle.refusals.specs.declared.Verdict.{Verdict}
-use Rattle.refusals.specs.declared.Verdict.TheVariants.{Yes}
-use Rattle.refusals.specs.Refusals.{refuse, and_then}
+use Rattle.refusals.specs.Refusals.{Verdict, refuse, and_then}
 use Rattle.model.specs.Automaton.{Automaton}
 use Rattle.model.specs.Lists.{Lists, weighted, automaton_of}
 use Rattle.model.specs.Plans.{Plan, IsPlan, Accepted}
@@ -59,7 +57,7 @@ header_by_weight n s k l =
     (refuse
     (unfit_lists_by_weight (length l.sources) (length l.targets) (length l.weights) (length l.colours) (length l.actions)) ArcLists
     (refuse (ltb colours_most k) ColourCount
-    Yes)))
+    (Ok tt))))
 
 -- "an arc's source or target not below n, weight outside its range, or a colour bit at or above k", or an action above 15; power is 2 ^ k
 abbrev pub unfit_arc_by_weight : ℕ → ℕ → WeightLists → ℕ → Bool
@@ -70,7 +68,7 @@ unfit_arc_by_weight n power l a =
 
 -- 5, with the lowest such arc, of m arcs from a on
 unfoldable pub arcs_by_weight : ℕ → ℕ → WeightLists → ℕ → ℕ → Verdict
-arcs_by_weight n power l zero a = Yes
+arcs_by_weight n power l zero a = Ok tt
 arcs_by_weight n power l (suc m) a = refuse (unfit_arc_by_weight n power l a) (UnfitArc a) (arcs_by_weight n power l m (suc a))
 
 -- 1 to 5

@@ -5,25 +5,35 @@ use mathlib.Core.Bool.{true}
 use mathlib.Core.List.{List}
 use Prim.Native.Nat.{ℕ}
 use lib.ListN.{replicate}
+use Rattle.std.proofs.lemmas.Result.{err_from_is_err_and}
 use Rattle.model.specs.Automaton.{Automaton}
-use Rattle.model.specs.Lists.{lists}
+use Rattle.model.specs.Lists.{lists_of}
 use Rattle.switches.specs.PlansOn.{SomePlanOn}
-use Rattle.decide.proofs.Decidable.{told-yes, told-held, told-answerable}
-use Rattle.decide.proofs.Claims.{decision-answered}
+use Rattle.decide.proofs.Decidable.{told-refused, told-yes, told-held, told-answerable}
+use Rattle.decide.proofs.Claims.{decision-refused, decision-answered}
 use Rattle.decide.proofs.decide.Goals as goal
 
 pub decide_model-some-requires : goal.decide_model-some-requires
 decide_model-some-requires c =
     let a = c.args in
-    told-answerable a.n a.start a.k (lists c.args.sources.now c.args.targets.now c.args.draws.now c.args.gains.now c.args.colours.now c.args.actions.now) a.b a.c _ c.check_decide-checked.ensures c.in-Yes.is
+    let g = a.given.now in
+    told-answerable g.n g.start g.k (lists_of g.lists) a.b a.c _ c.in_ok-model.ensures
 
-pub returns-in-Yes : goal.returns-in-Yes
-returns-in-Yes c =
+pub returns-in_err-model : goal.returns-in_err-model
+returns-in_err-model c =
+    let a = c.args in
+    let g = a.given.now in
+    let p = err_from_is_err_and c.from_residual.result c.from_residual.ensures.1 in
+    rw (p.1, p.2) (decision-refused (told-refused g.n g.start g.k (lists_of g.lists) a.b a.c _ c.in_err-model.ensures))
+
+pub returns : goal.returns
+returns c =
     let y = c.decide_model-some in
     let a = c.args in
-    let l = (lists c.args.sources.now c.args.targets.now c.args.draws.now c.args.gains.now c.args.colours.now c.args.actions.now) in
-    let held = told-held a.n a.start a.k l a.b a.c _ c.check_decide-checked.ensures c.in-Yes.is in
-    let told = told-yes a.n a.start a.k l a.b a.c _ c.check_decide-checked.ensures c.in-Yes.is in
-    let plans = subst (λ (g : Automaton). (y.result ≡ true) ↔ SomePlanOn g a.barred a.on a.b a.c) held y.ensures in
-    let cleared = c.clear.ensures ∙ ap {B = List ℕ} (λ (x : ℕ). replicate x 0) y.auto.work in
+    let g = a.given.now in
+    let l = lists_of g.lists in
+    let held = told-held g.n g.start g.k l a.b a.c _ c.in_ok-model.ensures in
+    let told = told-yes g.n g.start g.k l a.b a.c _ c.in_ok-model.ensures in
+    let plans = subst (λ (h : Automaton). (y.result ≡ true) ↔ SomePlanOn h a.barred a.on a.b a.c) held y.ensures in
+    let cleared = c.fill.ensures.after (λ z h. h) ∙ ap {B = List ℕ} (λ (x : ℕ). replicate x 0) y.auto.work in
     decision-answered y.result c.answer.ensures told plans cleared

@@ -5,11 +5,10 @@ use Rattle.decide.proofs.decide_model.Goals as goal
 pub find_kept-requires : goal.find_kept-requires
 find_kept-requires c =
     let a = c.args in
-    answerable-decidable a.barred a.on c.requires c.group-groups.ensures c.count_required-required.ensures _
-    (part-lent a.work.now c.requires)
+    rw (c.from-modes.ensures, c.from-start.ensures) (answerable-decidable a.barred a.on c.requires c.group-groups.ensures (cc) _ (part-lent a.work.now c.requires))
 
 pub returns : goal.returns
 returns c =
     let a = c.args in
-    answered a.barred a.on c.requires c.group-groups.ensures c.count_required-required.ensures _
-    (part-lent a.work.now c.requires) c.find_kept.ensures
+    answered a.barred a.on c.requires c.group-groups.ensures (cc) _ (part-lent a.work.now c.requires)
+    (rw (c.from-modes.ensures, c.from-start.ensures) at c.find_kept.ensures)

@@ -10,5 +10,5 @@ returns-then-some_unmet c =
     let a = c.args in
     let arcs = c.first_place-arcs.ensures in
     let some = c.some_unmet.ensures c.if-some_unmet.true in
-    unmet-none-kept a.rows.now a.places.now a.question _ (subst (λ (m : ℕ). SomeUnmet a.rows.now m a.question.duties) arcs some) _
-    c.clear.ensures
+    unmet-none-kept a.groups.now.rows a.groups.now.places a.question _ (subst (λ (m : ℕ). SomeUnmet a.groups.now.rows m a.question.duties) arcs some) _
+    (c.fill.ensures.after (λ y e. e))

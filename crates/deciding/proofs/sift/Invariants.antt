@@ -1,12 +1,5 @@
-use Prim.Native.Nat.{◌-◌}
-use lib.ListN.{length}
 use Rattle.deciding.proofs.Sifts.{SiftedTo}
 use Rattle.deciding.proofs.sift.Given as goal
 
 abbrev pub invariant-loop-v : goal.invariant-loop-v
-invariant-loop-v l =
-    SiftedTo l.initial.set l.last l.set l.v l.changed l.some
-
-abbrev pub decreases-loop-v : goal.decreases-loop-v
-decreases-loop-v l =
-    length l.initial.set - l.v
+invariant-loop-v l = SiftedTo l.initial.set l.last l.set l.v l.changed l.some

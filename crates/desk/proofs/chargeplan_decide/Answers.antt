@@ -3,4 +3,4 @@ use Rattle.packing.proofs.Sizes.{decide-fields}
 use Rattle.desk.proofs.chargeplan_decide.Goals as goal
 
 pub pack_alone-requires : goal.pack_alone-requires
-pack_alone-requires c = rw c.answer.ensures (decide-fields _ _ _ _ _ _ _ _ c.decide-verdict.ensures)
+pack_alone-requires c = rw c.from.ensures (decide-fields _ _ _ _ _ _ _ _ c.decide-decided.ensures)

@@ -2,5 +2,5 @@
 use Rattle.packing.proofs.Sizes.{start-fields}
 use Rattle.desk.proofs.chargeplan_gauge_start.Goals as goal
 
-pub pack_alone-answer-requires : goal.pack_alone-answer-requires
-pack_alone-answer-requires c = rw (c.answer.ensures, c.start-gauged.ensures.gauged) (start-fields _ _ _ _ _ _)
+pub pack_started-requires : goal.pack_started-requires
+pack_started-requires c = rw c.start.ensures.gauged (start-fields _ _ _ _ _ _)

@@ -3,4 +3,4 @@ use Rattle.packing.proofs.Sizes.{search-fields}
 use Rattle.desk.proofs.chargeplan_search.Goals as goal
 
 pub pack-requires : goal.pack-requires
-pack-requires c = rw c.answer-told.ensures (search-fields _ _ _ _ _ _ _ _ c.search-searched.ensures)
+pack-requires c = rw c.from-told.ensures (search-fields _ _ _ _ _ _ _ _ c.search-searched.ensures)

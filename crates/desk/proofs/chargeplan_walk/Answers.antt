@@ -5,5 +5,5 @@ use Rattle.desk.proofs.chargeplan_walk.Goals as goal
 
 pub pack-requires : goal.pack-requires
 pack-requires c =
-    rw (bit-met c.answer-told.result.met, c.answer-told.ensures, c.walk-walked.ensures.walked)
+    rw (c.from.ensures, c.from-2.ensures, bit-met c.from-told.result.met, c.from-told.ensures, c.walk.ensures.walked)
     (walk-fields _ _ _ _ _ _ _ _ _ _ _ _ (omega (arith, c.ranges.allowance)))

@@ -1,16 +1,11 @@
-use mathlib.Core.Path.{◌≡◌}
-use Prim.Native.Nat.{◌-◌, ◌≤◌}
-use lib.ListN.{length, drop}
-use Rattle.fields.specs.Fields.{lines_of, LineAt}
+use Rattle.std.proofs.Common.{◌≡◌, ◌+◌, length}
+use lib.ListN.{drop}
+use Rattle.fields.specs.Fields.{lines_of, pieces_left}
 use Rattle.dimacs.specs.Text.{arcs_wrong}
 use Rattle.dimacs.proofs.arcs_wrong.Given as goal
 
-abbrev pub invariant-loop-at : goal.invariant-loop-at
-invariant-loop-at l =
-    (l.line ≤ l.at)
-    × (l.i ≤ l.line)
-    × LineAt l.text l.at l.line
-    × (arcs_wrong l.n l.m l.before 0 (drop l.before (lines_of l.text)) ≡ arcs_wrong l.n l.m l.line l.i (drop l.line (lines_of l.text)))
-
-abbrev pub decreases-loop-at : goal.decreases-loop-at
-decreases-loop-at l = length l.text - l.at
+abbrev pub invariant-loop-line : goal.invariant-loop-line
+invariant-loop-line l =
+    let left = pieces_left l.line-iterator in
+    let all = drop l.place.line (lines_of l.text) in
+    (l.i + length left ≡ length all) × (arcs_wrong l.n l.m l.place.line 0 all ≡ arcs_wrong l.n l.m (l.place.line + l.i) l.i left)

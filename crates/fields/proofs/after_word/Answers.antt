@@ -1,29 +1,13 @@
--- `fields::after_word` meets its contract. Assumes nothing.
-use mathlib.Core.Path.{sym, ◌∙◌}
-use Prim.Native.Nat.{◌-◌}
-use native.Mathlib.Omega.{arith}
-use lib.ListN.{length-drop, length, drop}
-use lib.Seq.{take_all}
-use Rattle.fields.proofs.Heads.{after-done, after-short, after_same, after-other}
+-- `fields::after_word` meets its contract: what `strip_prefix` leaves. Assumes nothing.
+use Rattle.std.proofs.lemmas.Bool.Decides.{Decides-eqb}
+use Rattle.std.proofs.lemmas.Slice.Eq.{strip_prefix_is}
+use Rattle.std.proofs.Common.{ap, ◌∙◌, rules}
+use Rattle.fields.proofs.Heads.{word-stripped}
 use Rattle.fields.proofs.after_word.Goals as goal
-
-pub returns-then-i-s : goal.returns-then-i-s
-returns-then-i-s c =
-    let a = c.args in
-    sym (c.loop-i.invariant.2 ∙ after-short a.word.now a.s.now c.loop-i.i (omega arith) (omega arith))
-
-pub returns-then-s-i : goal.returns-then-s-i
-returns-then-s-i c =
-    let a = c.args in
-    sym (c.loop-i.invariant.2 ∙ after-other a.word.now a.s.now c.loop-i.i (omega arith) (omega arith) c.if-s-i.true)
-
-pub loop-i-preserved : goal.loop-i-preserved
-loop-i-preserved c =
-    let a = c.args in
-    (omega arith, omega arith, c.loop-i.invariant.2 ∙ after_same a.word.now a.s.now c.loop-i.i (omega arith) (omega arith) c.if-s-i.false)
 
 pub returns : goal.returns
 returns c =
-    let a = c.args in
-    take_all (length a.s.now - c.loop-i.i) (drop c.loop-i.i a.s.now) (simp length-drop (omega arith))
-    ∙ sym (c.loop-i.invariant.2 ∙ after-done a.word.now a.s.now c.loop-i.i (omega arith))
+    let s = c.args.s.now in
+    let w = c.args.word.now in
+    ap (λ x. x.now) c.unwrap_or.ensures
+    ∙ word-stripped w s c.strip_prefix.result _ (search rules) (strip_prefix_is Decides-eqb s w c.strip_prefix.result c.strip_prefix.ensures.cases)

@@ -1,21 +1,17 @@
--- `fields::digit_count` meets its contract. Assumes nothing.
-use mathlib.Core.Path.{sym, ◌∙◌}
-use native.Mathlib.Omega.{arith}
-use borrow.Author.Tests.{not-true, not-false}
-use Rattle.fields.proofs.Heads.{digits-end, digits_more, digits-stop}
+-- `fields::digit_count` meets its contract: the first byte that is no digit. Assumes nothing.
+use Rattle.std.proofs.Common.{rules, tests, arith}
+use Rattle.std.proofs.lemmas.Iterator.{YieldsList-from_slice}
+use Rattle.std.proofs.lemmas.Iterator.Search.{position_from_yields_List}
+use Rattle.std.specs.Prelude.{not}
+use Rattle.fields.specs.Fields.{is_digit}
+use Rattle.fields.proofs.Heads.{digits-first}
+use Rattle.fields.proofs.Numbers.{digits_le}
 use Rattle.fields.proofs.digit_count.Goals as goal
 
-pub returns-then-not-is_digit : goal.returns-then-not-is_digit
-returns-then-not-is_digit c =
-    let a = c.args in
-    omega (arith, digits-stop a.s.now c.loop-i.i (omega arith) (sym c.is_digit.ensures ∙ not-true _ c.if-not-is_digit.true-raw))
-
-pub loop-i-preserved : goal.loop-i-preserved
-loop-i-preserved c =
-    let a = c.args in
-    (omega arith, omega (arith, digits_more a.s.now c.loop-i.i (omega arith) (sym c.is_digit.ensures ∙ not-false _ c.if-not-is_digit.false-raw)))
-
 pub returns : goal.returns
+unfolding is_digit
 returns c =
-    let a = c.args in
-    omega (arith, digits-end a.s.now c.loop-i.i (omega arith))
+    let s = c.args.s.now in
+    let found = position_from_yields_List (λ x. not (is_digit x)) _ _ c.position.result c.position.ensures.ran
+    (YieldsList-from_slice s c.iter.ensures.rest) (λ x b q k. search (rules, tests)) in
+    grind (arith, digits-first s, digits_le s, found, c.unwrap_or.ensures)

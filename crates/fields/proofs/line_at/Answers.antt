@@ -1,10 +1,9 @@
--- `fields::line_at` meets its contract. Assumes nothing.
-use native.Mathlib.Omega.{arith}
-use native.Mathlib.Numerals.{add-one}
+-- `fields::line_at` meets its contract: a line later at every turn. Assumes nothing.
+use Rattle.std.proofs.Common.{add-one}
 use Rattle.fields.proofs.Places.{line_step}
 use Rattle.fields.proofs.line_at.Goals as goal
 
-pub loop-t-preserved : goal.loop-t-preserved
-loop-t-preserved c =
+pub loop-preserved : goal.loop-preserved
+loop-preserved c =
     let s = c.args.text.now in
-    (omega arith, rw (add-one c.loop-t.t) (line_step s c.loop-t.at c.loop-t.t c.piece_end-at.result c.loop-t.invariant.1 c.piece_end-at.ensures))
+    rw (add-one c.loop.counter) (line_step s c.loop.at c.loop.counter c.piece_end-at.result c.loop.invariant c.piece_end-at.ensures)

@@ -1,42 +1,47 @@
--- `fields::number_of` meets its contract. Assumes nothing.
-use mathlib.Core.Path.{sym, ap, ◌∙◌}
-use mathlib.Core.Bool.{Bool}
-use Prim.Native.Nat.{◌-◌}
-use native.Mathlib.Omega.{arith}
-use lib.ListN.{get_or}
-use borrow.Author.Tests.{not-true, not-false}
+-- `fields::number_of` meets its contract: the digits so far have the value v. Assumes nothing.
+use Rattle.std.proofs.Common.{◌≡◌, true, take, arith, rules, tests, ◌∙◌}
+use Rattle.std.proofs.lemmas.List.{length-take-le}
 use Rattle.fields.specs.Fields.{digit_count, is_plain}
-use Rattle.fields.proofs.Numbers.{number-none, number-some, digit-bounds, plain-bounds, digits_le, digits_are, value-turn, value-done, below_power, below-most}
+use Rattle.fields.proofs.Numbers.{number-some, plain-bounds, digits_le, taken-digit, value-turn, value-done, below_power, below-most}
 use Rattle.fields.proofs.number_of.Goals as goal
 
-pub returns-then-not-is_plain : goal.returns-then-not-is_plain
-returns-then-not-is_plain c = number-none _ (sym (c.is_plain.ensures ∙ ap {B = Bool} is_plain c.digit_count-count.ensures) ∙ not-true _ c.if-not-is_plain.true-raw)
+pub slice_bounds-x-items-end : goal.slice_bounds-x-items-end
+slice_bounds-x-items-end c =
+    let few = digits_le c.args.s.now in
+    omega (arith, length-take-le c.digit_count-count.result c.args.s.now (omega (arith, few, c.digit_count-count.ensures)))
 
-pub bounds-s-i : goal.bounds-s-i
-bounds-s-i c =
-    omega (arith, digits_le c.args.s.now)
-
-pub with_digit-v-requires : goal.with_digit-v-requires
-with_digit-v-requires c =
+pub overflow_mul-v : goal.overflow_mul-v
+overflow_mul-v c =
     let s = c.args.s.now in
-    let (l, m) = plain-bounds (digit_count s) (sym (c.is_plain.ensures ∙ ap {B = Bool} is_plain c.digit_count-count.ensures) ∙ not-false _ c.if-not-is_plain.false-raw) in
-    let d = c.loop-i in
-    (below-most d.i d.v (omega arith) d.invariant.1, digits_are s d.i (omega arith))
+    let l = c.loop-x in
+    let yes : is_plain (digit_count s) ≡ true = search (rules, tests) in
+    let (less, low, high) = taken-digit s _ l.x-index c.digit_count-count.ensures c.loop-x-test.true in
+    omega (arith, below-most l.x-index l.v (omega (arith, plain-bounds (digit_count s) yes)) l.invariant.0)
 
-pub loop-i-preserved : goal.loop-i-preserved
-loop-i-preserved c =
-    let d = c.loop-i in
+pub overflow_sub-x : goal.overflow_sub-x
+overflow_sub-x c = (taken-digit c.args.s.now _ c.loop-x.x-index c.digit_count-count.ensures c.loop-x-test.true).1
+
+pub overflow_add-v : goal.overflow_add-v
+overflow_add-v c =
     let s = c.args.s.now in
-    let x = get_or s d.i 0 in
-    let (l, m) = digit-bounds x (digits_are s d.i (omega arith)) in
-    let told = c.with_digit-v.ensures in (
-      omega arith,
-      omega (arith, below_power d.i d.v (x - 48) d.invariant.1 (omega arith)),
-      d.invariant.2 ∙ value-turn c.digit_count-count.result d.i d.v s (omega arith) (omega (arith, digits_le s)) ∙ rw told,
+    let l = c.loop-x in
+    let yes : is_plain (digit_count s) ≡ true = search (rules, tests) in
+    let (less, low, high) = taken-digit s _ l.x-index c.digit_count-count.ensures c.loop-x-test.true in
+    omega (arith, below-most l.x-index l.v (omega (arith, plain-bounds (digit_count s) yes)) l.invariant.0)
+
+pub loop-x-preserved : goal.loop-x-preserved
+loop-x-preserved c =
+    let s = c.args.s.now in
+    let l = c.loop-x in
+    let ds = take c.digit_count-count.result s in
+    let (less, low, high) = taken-digit s _ l.x-index c.digit_count-count.ensures c.loop-x-test.true in (
+      rw c.from.ensures (below_power l.x-index l.v _ l.invariant.0 (omega arith)),
+      l.invariant.1 ∙ value-turn ds l.x-index l.v c.loop-x-test.true ∙ rw c.from.ensures,
     )
 
 pub returns : goal.returns
 returns c =
     let s = c.args.s.now in
-    number-some s c.digit_count-count.result c.loop-i.v (sym (c.is_plain.ensures ∙ ap {B = Bool} is_plain c.digit_count-count.ensures) ∙ not-false _ c.if-not-is_plain.false-raw) c.digit_count-count.ensures
-    (c.loop-i.invariant.2 ∙ value-done c.digit_count-count.result c.loop-i.i c.loop-i.v s (omega arith) (omega (arith, digits_le s)))
+    let yes : is_plain (digit_count s) ≡ true = search (rules, tests) in
+    number-some s _ c.loop-x.v yes c.digit_count-count.ensures
+    (c.loop-x.invariant.1 ∙ value-done _ c.loop-x.x-index c.loop-x.v c.loop-x-test.false)

@@ -1,19 +1,18 @@
--- `fields::piece_end` meets its contract: the piece is as long as from each place on the way. Assumes nothing.
-use native.Mathlib.Omega.{arith}
-use Rattle.fields.proofs.Heads.{piece-end, piece-here, piece-later}
+-- `fields::piece_end` meets its contract: past the text there is no piece. Assumes nothing.
+use Rattle.std.proofs.Common.{◌-◌, drop, length, length-drop, arith, ap}
+use Rattle.std.proofs.lemmas.List.{take_all}
+use Rattle.fields.specs.Fields.{piece_length}
+use Rattle.fields.proofs.Heads.{piece-end}
+use Rattle.fields.proofs.Pieces.{piece-most}
 use Rattle.fields.proofs.piece_end.Goals as goal
 
-pub returns-then-s-i : goal.returns-then-s-i
-returns-then-s-i c =
-    let a = c.args in
-    omega (arith, piece-here a.b a.s.now c.loop-i.i (omega arith) c.if-s-i.true)
+pub returns-then-at-s : goal.returns-then-at-s
+returns-then-at-s c = omega (arith, piece-end c.args.b c.args.s.now c.args.at (omega arith))
 
-pub loop-i-preserved : goal.loop-i-preserved
-loop-i-preserved c =
+pub overflow_add-result : goal.overflow_add-result
+overflow_add-result c =
     let a = c.args in
-    omega (arith, piece-later a.b a.s.now c.loop-i.i (omega arith) c.if-s-i.false)
-
-pub returns : goal.returns
-returns c =
-    let a = c.args in
-    omega (arith, piece-end a.b a.s.now c.loop-i.i (omega arith))
+    let s = drop a.at a.s.now in
+    let size = length-drop a.at a.s.now in
+    let all = take_all (length a.s.now - a.at) s (omega (arith, size)) in
+    omega (arith, size, piece-most a.b s, ap (piece_length a.b) all, c.piece_length.ensures)

@@ -1,10 +1,7 @@
-use Prim.Native.Nat.{◌-◌}
-use lib.ListN.{length}
+use Rattle.fields.specs.Fields.{pieces_left}
 use Rattle.hoa.proofs.Bodies.{Walked}
 use Rattle.hoa.proofs.body_wrong.Given as goal
 
-abbrev pub invariant-loop-at : goal.invariant-loop-at
-invariant-loop-at l = Walked l.body l.n l.k l.at l.j l.blocks
-
-abbrev pub decreases-loop-at : goal.decreases-loop-at
-decreases-loop-at l = length l.body - l.at
+abbrev pub invariant-loop-line : goal.invariant-loop-line
+invariant-loop-line l =
+    goal.iterator-loop-line.can_next l.lines × goal.iterator-loop-line.is_finite l.lines × Walked l.body l.n l.k l.j l.blocks (pieces_left l.lines)

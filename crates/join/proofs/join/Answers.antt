@@ -1,44 +1,70 @@
--- `join::join` meets its contract: the verdicts on knee and habit, and what is made of them. Assumes nothing.
-use Rattle.model.specs.Lists.{lists}
-use Rattle.join.specs.Joining.{given}
-use Rattle.join.proofs.Answers.{joined-answers}
-use Rattle.join.proofs.Verdicts.{both_hold}
+-- `join::join` meets its contract: the first check that refuses, or the joined model. Assumes nothing.
+use mathlib.Core.Path.{sym, ◌∙◌}
+use native.Mathlib.Omega.{arith}
+use Rattle.std.proofs.lemmas.Result.{err_from_is_err_and}
+use Rattle.model.proofs.Held.{told-yes, told-refused}
+use Rattle.filling.specs.Filling.{lists_lent, room_in}
+use Rattle.filling.proofs.Lent.{same-lent}
+use Rattle.join.specs.Joining.{given_of}
+use Rattle.join.proofs.Verdicts.{both-hold, size-left, may-write}
+use Rattle.join.proofs.Answers.{refused-join, accepted-join}
+use Rattle.join.proofs.ListsJoined.{join-knee, join-habit}
 use Rattle.join.proofs.join.Goals as goal
 
-pub join_fitted-requires : goal.join_fitted-requires
-join_fitted-requires c =
-    let knee = given c.args.n1 c.args.start1 c.args.k1
-    (lists c.args.sources1.now c.args.targets1.now c.args.draws1.now c.args.gains1.now c.args.colours1.now c.args.actions1.now) in
-    let habit = given c.args.n2 c.args.start2 c.args.k2
-    (lists c.args.sources2.now c.args.targets2.now c.args.draws2.now c.args.gains2.now c.args.colours2.now c.args.actions2.now) in
-    both_hold knee habit c.check_model-knee.result c.check_model-habit.result c.check_model-knee.ensures c.check_model-habit.ensures
+pub returns-in_err-g : goal.returns-in_err-g
+returns-in_err-g c =
+    let x = given_of c.args.knee.now in
+    let y = given_of c.args.habit.now in
+    let l = lists_lent c.args.lists.now in
+    let p = err_from_is_err_and c.from_residual.result c.from_residual.ensures.1 in
+    let no = join-knee x y (room_in l) _ (told-refused x.modes x.start x.colours x.arcs _ c.in_err-g.ensures) in
+    let (reading, answer, lists) = refused-join x y l _ no in
+    rw (p.1, p.2) (record { reading = reading; answer = answer; lists = lists; same_lists = same-lent c.args.lists.now })
 
-pub returns-clause-reading : goal.returns-clause-reading
-returns-clause-reading c =
-    let knee = given c.args.n1 c.args.start1 c.args.k1
-    (lists c.args.sources1.now c.args.targets1.now c.args.draws1.now c.args.gains1.now c.args.colours1.now c.args.actions1.now) in
-    let habit = given c.args.n2 c.args.start2 c.args.k2
-    (lists c.args.sources2.now c.args.targets2.now c.args.draws2.now c.args.gains2.now c.args.colours2.now c.args.actions2.now) in
-    let old = lists c.args.sources.now c.args.targets.now c.args.draws.now c.args.gains.now c.args.colours.now c.args.actions.now in
-    (joined-answers knee habit c.check_model-knee.result c.check_model-habit.result c.check_model-knee.ensures c.check_model-habit.ensures old _ _
-    c.join_fitted.ensures.reading c.join_fitted.ensures.lists).0
+pub returns-in_err-h : goal.returns-in_err-h
+returns-in_err-h c =
+    let x = given_of c.args.knee.now in
+    let y = given_of c.args.habit.now in
+    let l = lists_lent c.args.lists.now in
+    let p = err_from_is_err_and c.from_residual-in_err-h.result c.from_residual-in_err-h.ensures.1 in
+    let no = join-habit x y (room_in l) _ (told-yes x.modes x.start x.colours x.arcs _ c.in_ok-g.ensures)
+    (told-refused y.modes y.start y.colours y.arcs _ c.in_err-h.ensures) in
+    let (reading, answer, lists) = refused-join x y l _ no in
+    rw (p.1, p.2) (record { reading = reading; answer = answer; lists = lists; same_lists = same-lent c.args.lists.now })
 
-pub returns-clause-answer : goal.returns-clause-answer
-returns-clause-answer c =
-    let knee = given c.args.n1 c.args.start1 c.args.k1
-    (lists c.args.sources1.now c.args.targets1.now c.args.draws1.now c.args.gains1.now c.args.colours1.now c.args.actions1.now) in
-    let habit = given c.args.n2 c.args.start2 c.args.k2
-    (lists c.args.sources2.now c.args.targets2.now c.args.draws2.now c.args.gains2.now c.args.colours2.now c.args.actions2.now) in
-    let old = lists c.args.sources.now c.args.targets.now c.args.draws.now c.args.gains.now c.args.colours.now c.args.actions.now in
-    (joined-answers knee habit c.check_model-knee.result c.check_model-habit.result c.check_model-knee.ensures c.check_model-habit.ensures old _ _
-    c.join_fitted.ensures.reading c.join_fitted.ensures.lists).1.0
+pub invariant_of-both : goal.invariant_of-both
+invariant_of-both c =
+    let (knee, habit) = both-hold (given_of c.args.knee.now) (given_of c.args.habit.now) c.in_ok-g.g c.in_ok-h.h c.in_ok-g.ensures c.in_ok-h.ensures in
+    record { knee_fit = knee; habit_fit = habit }
 
-pub returns-clause-lists : goal.returns-clause-lists
-returns-clause-lists c =
-    let knee = given c.args.n1 c.args.start1 c.args.k1
-    (lists c.args.sources1.now c.args.targets1.now c.args.draws1.now c.args.gains1.now c.args.colours1.now c.args.actions1.now) in
-    let habit = given c.args.n2 c.args.start2 c.args.k2
-    (lists c.args.sources2.now c.args.targets2.now c.args.draws2.now c.args.gains2.now c.args.colours2.now c.args.actions2.now) in
-    let old = lists c.args.sources.now c.args.targets.now c.args.draws.now c.args.gains.now c.args.colours.now c.args.actions.now in
-    (joined-answers knee habit c.check_model-knee.result c.check_model-habit.result c.check_model-knee.ensures c.check_model-habit.ensures old _ _
-    c.join_fitted.ensures.reading c.join_fitted.ensures.lists).1.1
+pub returns-in_err-check_size : goal.returns-in_err-check_size
+returns-in_err-check_size c =
+    let x = given_of c.args.knee.now in
+    let y = given_of c.args.habit.now in
+    let l = lists_lent c.args.lists.now in
+    let p = err_from_is_err_and c.from_residual-in_err-check_size.result c.from_residual-in_err-check_size.ensures.1 in
+    let no = size-left x y c.in_ok-g.g c.in_ok-h.h c.in_ok-g.ensures c.in_ok-h.ensures (room_in l)
+    ∙ sym (rw c.room-room.ensures at c.in_err-check_size.ensures) in
+    let (reading, answer, lists) = refused-join x y l _ no in
+    rw (p.1, p.2) (record { reading = reading; answer = answer; lists = lists; same_lists = same-lent c.args.lists.now })
+
+pub write_all-count-requires : goal.write_all-count-requires
+write_all-count-requires c =
+    may-write (given_of c.args.knee.now) (given_of c.args.habit.now) c.in_ok-g.g c.in_ok-h.h c.in_ok-g.ensures c.in_ok-h.ensures c.room-room.result
+    (sym c.in_ok-check_size.ensures)
+
+pub numbers-requires-clause-few : goal.numbers-requires-clause-few
+numbers-requires-clause-few c =
+    let fit = may-write (given_of c.args.knee.now) (given_of c.args.habit.now) c.in_ok-g.g c.in_ok-h.h c.in_ok-g.ensures c.in_ok-h.ensures
+    c.room-room.result (sym c.in_ok-check_size.ensures) in
+    omega (arith, fit.few, c.write_all-count.ensures.all.place)
+
+pub returns : goal.returns
+returns c =
+    let x = given_of c.args.knee.now in
+    let y = given_of c.args.habit.now in
+    let l = lists_lent c.args.lists.now in
+    let (reading, answer, lists) = accepted-join x y l c.in_ok-g.g c.in_ok-h.h c.in_ok-g.ensures c.in_ok-h.ensures
+    (sym (rw c.room-room.ensures at c.in_ok-check_size.ensures)) c.numbers.result c.write_all-count.result (lists_lent c.write_all-count.new.lists)
+    c.numbers.ensures c.write_all-count.ensures.all in
+    record { reading = reading; answer = answer; lists = lists; same_lists = c.write_all-count.ensures.same_lists }

@@ -1,7 +1,6 @@
 -- `join::join_colours` meets its contract. Assumes nothing.
-use native.Mathlib.Omega.{arith}
 use Rattle.join.proofs.Colours.{colours-or}
 use Rattle.join.proofs.join_colours.Goals as goal
 
 pub returns : goal.returns
-returns c = colours-or c.args.knee c.args.habit c.args.k c.requires (omega arith)
+returns c = colours-or c.args.knee c.args.habit c.args.k c.requires

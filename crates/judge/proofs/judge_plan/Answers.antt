@@ -1,21 +1,22 @@
--- `judge::judge_plan` meets its contract: the refusal of the shape, else 15, 16, 24 and 17. Assumes nothing.
-use mathlib.Core.Path.{sym, ◌∙◌}
-use Rattle.refusals.proofs.Verdicts.{and-then-on, and-then-stop}
-use Rattle.judge.specs.Judged.{judged_plan}
-use Rattle.judge.proofs.Arcs.{shape-arcs}
+-- `judge::judge_plan` meets its contract: where 11 to 14 do not apply the numbers are arcs of the model. Assumes nothing.
+use mathlib.Core.Path.{sym}
+use native.Mathlib.Omega.{arith}
+use Rattle.judge.proofs.Arcs.{shape-arcs, arcs-take, arcs-drop}
 use Rattle.judge.proofs.judge_plan.Goals as goal
 
-pub check_serves-requires : goal.check_serves-requires
-check_serves-requires c =
-    let a = c.args in
-    let (arcs, part, short) = shape-arcs a.model c.requires a.p a.q a.plan.now (sym c.check_shape-shape.ensures ∙ c.in-Yes.is) in
-    (c.requires, arcs, part, short)
+pub split_at-requires : goal.split_at-requires
+split_at-requires c =
+    let plan = c.args.plan.now in
+    (shape-arcs c.args.model.now c.requires plan.p plan.q plan.arcs.now (sym c.in_ok-check_shape.ensures)).1
 
-pub returns-in-Yes : goal.returns-in-Yes
-unfolding judged_plan
-returns-in-Yes c =
-    c.check_serves.ensures ∙ and-then-on _ _ (sym c.check_shape-shape.ensures ∙ c.in-Yes.is)
-
-pub returns-in-Refused : goal.returns-in-Refused
-unfolding judged_plan
-returns-in-Refused c = and-then-stop _ _ _ (sym c.check_shape-shape.ensures ∙ c.in-Refused.is)
+pub invariant_of-shaped : goal.invariant_of-shaped
+invariant_of-shaped c =
+    let g = c.args.model.now in
+    let plan = c.args.plan.now in
+    let (arcs, part, short) = shape-arcs g c.requires plan.p plan.q plan.arcs.now (sym c.in_ok-check_shape.ensures) in
+    record {
+      fit = c.requires;
+      leads = rw c.split_at.ensures.front (arcs-take g plan.arcs.now arcs plan.p part);
+      turns = rw c.split_at.ensures.back (arcs-drop g plan.arcs.now arcs plan.p);
+      short = omega (arith, c.split_at.ensures.front_len, c.split_at.ensures.back_len);
+    }

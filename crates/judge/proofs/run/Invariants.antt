@@ -1,13 +1,9 @@
 use mathlib.Core.Path.{◌≡◌}
-use Prim.Native.Nat.{◌+◌, ◌-◌, ◌≤◌}
-use lib.ListN.{length, drop}
+use Prim.Native.Nat.{◌+◌}
+use lib.ListN.{drop}
 use Rattle.model.specs.Lists.{held}
 use Rattle.judge.specs.Charges.{ran}
 use Rattle.judge.proofs.run.Given as goal
 
 abbrev pub invariant-loop-i : goal.invariant-loop-i
-invariant-loop-i l =
-    (l.i ≤ length l.arcs) × (ran (held l.model) l.bound l.arcs l.step l.charge ≡ ran (held l.model) l.bound (drop l.i l.arcs) (l.step + l.i) l.reached)
-
-abbrev pub decreases-loop-i : goal.decreases-loop-i
-decreases-loop-i l = length l.arcs - l.i
+invariant-loop-i l = ran (held l.model) l.bound l.arcs l.step l.charge ≡ ran (held l.model) l.bound (drop l.i l.arcs) (l.step + l.i) l.reached

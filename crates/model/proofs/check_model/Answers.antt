@@ -1,27 +1,28 @@
 -- `model::check_model` meets its contract: the verdict on 1 to 4 decides who answers. Assumes nothing.
 use mathlib.Core.Path.{sym, ap, ◌∙◌}
-use Rattle.refusals.specs.declared.Verdict.{Verdict}
-use Rattle.model.specs.Lists.{lists}
+use Rattle.std.proofs.lemmas.Result.{err_from_is_err_and}
+use Rattle.refusals.specs.Refusals.{Verdict}
+use Rattle.model.specs.Lists.{lists_of}
 use Rattle.model.specs.Fitness.{header}
 use Rattle.model.proofs.Fitness.{header-yes, fitted-through, fitted-stopped}
 use Rattle.model.proofs.check_model.Goals as goal
 
 pub check_arcs-requires : goal.check_arcs-requires
 check_arcs-requires c =
-    let a = c.args in
-    (header-yes a.n a.start a.k (lists c.args.sources.now c.args.targets.now c.args.draws.now c.args.gains.now c.args.colours.now c.args.actions.now)).0
-    (sym (c.check_header-header.ensures ∙ ap {B = Verdict} (header c.args.n c.args.start c.args.k) c.unfit_lists-unfit.ensures) ∙ c.in-Yes.is)
+    let g = c.args.given.now in
+    (header-yes g.n g.start g.k (lists_of g.lists)).0
+    (sym (c.in_ok-check_header.ensures ∙ ap {B = Verdict} (header g.n g.start g.k) c.unfit_lists-unfit.ensures))
 
-pub returns-in-Yes : goal.returns-in-Yes
-returns-in-Yes c =
-    let a = c.args in
+pub returns-in_err-check_header : goal.returns-in_err-check_header
+returns-in_err-check_header c =
+    let g = c.args.given.now in
+    let p = err_from_is_err_and c.from_residual.result c.from_residual.ensures.1 in
+    rw (p.1, p.2) (fitted-stopped g.n g.start g.k (lists_of g.lists) _
+    (sym (c.in_err-check_header.ensures ∙ ap {B = Verdict} (header g.n g.start g.k) c.unfit_lists-unfit.ensures)))
+
+pub returns : goal.returns
+returns c =
+    let g = c.args.given.now in
     c.check_arcs.ensures
-    ∙ fitted-through a.n a.start a.k (lists c.args.sources.now c.args.targets.now c.args.draws.now c.args.gains.now c.args.colours.now c.args.actions.now)
-    (sym (c.check_header-header.ensures ∙ ap {B = Verdict} (header c.args.n c.args.start c.args.k) c.unfit_lists-unfit.ensures) ∙ c.in-Yes.is)
-
-pub returns-in-Refused : goal.returns-in-Refused
-returns-in-Refused c =
-    let a = c.args in
-    c.refused.ensures
-    ∙ fitted-stopped a.n a.start a.k (lists c.args.sources.now c.args.targets.now c.args.draws.now c.args.gains.now c.args.colours.now c.args.actions.now) _
-    (sym (c.check_header-header.ensures ∙ ap {B = Verdict} (header c.args.n c.args.start c.args.k) c.unfit_lists-unfit.ensures) ∙ c.in-Refused.is)
+    ∙ fitted-through g.n g.start g.k (lists_of g.lists)
+    (sym (c.in_ok-check_header.ensures ∙ ap {B = Verdict} (header g.n g.start g.k) c.unfit_lists-unfit.ensures))

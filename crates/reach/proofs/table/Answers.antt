@@ -4,10 +4,10 @@ use Rattle.reach.proofs.Peaks.{findable, words-low, words-table}
 use Rattle.reach.proofs.table.Goals as goal
 
 pub find_peaks-requires : goal.find_peaks-requires
-find_peaks-requires c = findable c.args.on c.requires c.group-groups.ensures (omega arith)
+find_peaks-requires c = rw (c.from-modes.ensures, c.from-start.ensures) (findable c.args.on c.requires c.group-groups.ensures)
 
 pub charges_of-requires : goal.charges_of-requires
-charges_of-requires c = words-low c.args.on c.requires c.group-groups.ensures c.find_peaks.ensures
+charges_of-requires c = rw c.from-modes.ensures (words-low c.args.on c.requires c.group-groups.ensures (rw (c.from-modes.ensures, c.from-start.ensures) at c.find_peaks.ensures))
 
 pub returns : goal.returns
-returns c = words-table c.args.on c.requires c.group-groups.ensures c.find_peaks.ensures c.charges_of.ensures
+returns c = words-table c.args.on c.requires c.group-groups.ensures (rw (c.from-modes.ensures, c.from-start.ensures) at c.find_peaks.ensures) (rw c.from-modes.ensures at c.charges_of.ensures)

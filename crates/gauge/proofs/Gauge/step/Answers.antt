@@ -1,30 +1,33 @@
--- `Gauge::step` meets its contract: the refusal of fitness, else what 6 and the step say. Assumes nothing.
-use mathlib.Core.Path.{◌∙◌}
-use Rattle.model.specs.Lists.{lists}
+-- `Gauge::step` meets its contract: the refusals of fitness and of 6 are the step's, the bound fits 16 bits, and the model is held. Assumes nothing.
+use mathlib.Core.Path.{sym}
+use native.Mathlib.Omega.{arith}
+use Rattle.std.proofs.lemmas.Result.{err_from_is_err_and}
+use Rattle.model.specs.Lists.{lists_of}
+use Rattle.model.proofs.Fitness.{levels-yes}
 use Rattle.model.proofs.Held.{told-holds}
-use Rattle.gauge.proofs.Gauges.{gauged-number, step-fit, step-unfit}
+use Rattle.gauge.proofs.Gauges.{step_unfit, step_levels}
 use Rattle.gauge.proofs.Gauge.step.Goals as goal
 
-pub step_levelled-requires : goal.step_levelled-requires
-step_levelled-requires c =
-    let a = c.args in
-    let l = (lists c.args.sources.now c.args.targets.now c.args.draws.now c.args.gains.now c.args.colours.now c.args.actions.now) in
-    told-holds a.n a.start a.k l _ c.check_model-fitted.ensures c.in-Yes.is
+pub returns-in_err-model-clause-gauged : goal.returns-in_err-model-clause-gauged
+returns-in_err-model-clause-gauged c =
+    let g = c.args.given.now in
+    let p = err_from_is_err_and c.from_residual.result c.from_residual.ensures.1 in
+    rw (p.1, p.2) (sym (step_unfit g.n g.start g.k (lists_of g.lists) c.args.b c.args.arc c.args.self _ c.in_err-model.ensures))
 
-pub returns-in-Yes : goal.returns-in-Yes
-returns-in-Yes c =
-    let a = c.args in
-    let l = (lists c.args.sources.now c.args.targets.now c.args.draws.now c.args.gains.now c.args.colours.now c.args.actions.now) in
-    let e = gauged-number
-    (c.step_levelled.ensures
-    ∙ step-fit a.n a.start a.k l _ c.check_model-fitted.ensures a.b a.arc a.self c.in-Yes.is) in
-    record { gauged = e.0; answer = e.1 }
+pub returns-in_err-check_levels-clause-gauged : goal.returns-in_err-check_levels-clause-gauged
+returns-in_err-check_levels-clause-gauged c =
+    let g = c.args.given.now in
+    let p = err_from_is_err_and c.from_residual-in_err-check_levels.result c.from_residual-in_err-check_levels.ensures.1 in
+    rw (p.1, p.2)
+    (sym (step_levels g.n g.start g.k (lists_of g.lists) c.args.b c.args.arc c.args.self _ _ c.in_ok-model.ensures
+    (rw c.from.ensures at c.in_err-check_levels.ensures)))
 
-pub returns-in-Refused : goal.returns-in-Refused
-returns-in-Refused c =
-    let a = c.args in
-    let l = (lists c.args.sources.now c.args.targets.now c.args.draws.now c.args.gains.now c.args.colours.now c.args.actions.now) in
-    let e = gauged-number
-    (c.refused.ensures
-    ∙ step-unfit a.n a.start a.k l _ c.check_model-fitted.ensures a.b a.arc a.self _ c.in-Refused.is) in
-    record { gauged = e.0; answer = e.1 }
+pub overflow_cast-b : goal.overflow_cast-b
+overflow_cast-b c =
+    let h = (levels-yes c.args.b c.from.result).0 (sym c.in_ok-check_levels.ensures) in
+    omega arith
+
+pub step_matched-requires : goal.step_matched-requires
+step_matched-requires c =
+    let g = c.args.given.now in
+    told-holds g.n g.start g.k (lists_of g.lists) _ c.in_ok-model.ensures

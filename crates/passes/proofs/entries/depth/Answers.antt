@@ -1,27 +1,29 @@
 -- `entries::depth` meets its contract: the chain from j and the steps so far make the chain from i. Assumes nothing.
-use mathlib.Core.Path.{◌≡◌, subst}
-use Prim.Native.Nat.{◌+◌, ◌<◌}
+use mathlib.Core.Path.{◌≡◌, subst, ap, ◌∙◌}
+use Prim.Native.Nat.{ℕ, ◌+◌}
 use native.Mathlib.Omega.{arith}
+use Rattle.passes.specs.declared.entries.EntryWords.{EntryWords}
 use Rattle.passes.specs.Queue.{parent_at}
 use Rattle.passes.specs.Trace.{Chain, root}
 use Rattle.passes.proofs.Traces.{chain_more}
 use Rattle.passes.proofs.entries.depth.Goals as goal
-use Rattle.passes.proofs.entries.depth.Goals.{After-parent_of-j}
 
-falls : (c : After-parent_of-j)
-    → let l = c in
-    parent_at l.args.work.now l.loop-j.j < l.loop-j.j
-falls c =
-    c.requires.back c.loop-j.j c.loop-j-test.true (omega (arith, c.loop-j.invariant.0))
+pub loop-j-smaller : goal.loop-j-smaller
+loop-j-smaller c =
+    let f = c.requires.back c.loop-j.j c.loop-j-test.true (omega (arith, c.loop-j.invariant.0)) in
+    let e = ap {B = ℕ} (λ (x : EntryWords). x.parent) c.words_of.ensures in
+    omega (arith, f, e)
 
 pub loop-j-preserved : goal.loop-j-preserved
 loop-j-preserved c =
     let l = c.loop-j in
-    let f = falls c in (
-      omega (arith, c.parent_of-j.ensures),
+    let f = c.requires.back l.j c.loop-j-test.true (omega (arith, l.invariant.0)) in
+    let parent : c.from-j.result ≡ parent_at c.args.work.now l.j =
+    c.from-j.ensures ∙ ap {B = ℕ} (λ (x : EntryWords). x.parent) c.words_of.ensures in (
+      omega (arith, f, parent),
       λ k h. subst (λ n. Chain c.args.work.now c.args.i n) (omega arith)
           (l.invariant.1 (k + 1)
-          (chain_more c.loop-j-test.true (subst (λ n. Chain c.args.work.now n k) c.parent_of-j.ensures h))),
+          (chain_more c.loop-j-test.true (subst (λ n. Chain c.args.work.now n k) parent h))),
     )
 
 pub returns : goal.returns

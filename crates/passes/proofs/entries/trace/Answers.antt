@@ -1,24 +1,33 @@
 -- `entries::trace` meets its contract: the arcs from an entry on are written, from the last to the first. Assumes nothing.
+use mathlib.Core.Path.{ap, ◌∙◌}
+use Prim.Native.Nat.{ℕ}
 use native.Mathlib.Omega.{arith}
+use Rattle.passes.specs.declared.entries.EntryWords.{EntryWords}
 use Rattle.passes.proofs.Traces.{chain-le, tracing-none, tracing-more, tracing-all, tracing-some}
 use Rattle.passes.proofs.entries.trace.Goals as goal
 
-pub loop-entry-init : goal.loop-entry-init
-loop-entry-init c = tracing-none _ _ _ _ c.depth-steps.ensures
+pub loop-at-init : goal.loop-at-init
+loop-at-init c = tracing-none _ _ _ _ c.depth-steps.ensures
+
+pub words_of-words-requires : goal.words_of-words-requires
+words_of-words-requires c =
+    let l = c.loop-at in
+    let space = c.requires.0.space in
+    omega (arith, space, l.invariant.inside)
 
 pub bounds-plan-at : goal.bounds-plan-at
 bounds-plan-at c =
-    let l = c.loop-entry in
-    let some = tracing-some l.invariant c.loop-entry-test.true in
+    let l = c.loop-at in
     let few = chain-le c.requires.0 c.depth-steps.ensures (omega arith) in
-    omega (arith, some, few, l.invariant.within, l.invariant.size, c.requires.1)
+    omega (arith, few, l.invariant.within, l.invariant.size, c.requires.1)
 
-pub loop-entry-preserved : goal.loop-entry-preserved
-loop-entry-preserved c =
+pub loop-at-preserved : goal.loop-at-preserved
+loop-at-preserved c =
     let few = chain-le c.requires.0 c.depth-steps.ensures (omega arith) in
-    tracing-more _ _ c.requires.0 (omega (arith, few, c.requires.1)) c.loop-entry.invariant c.loop-entry-test.true c.arc_of.ensures
-    c.parent_of-entry.ensures
+    tracing-more _ _ c.requires.0 (omega (arith, few, c.requires.1)) c.loop-at.invariant (tracing-some c.loop-at.invariant (omega arith))
+    (ap {B = ℕ} (λ (x : EntryWords). x.arc) c.words_of-words.ensures)
+    (c.from-entry.ensures ∙ ap {B = ℕ} (λ (x : EntryWords). x.parent) c.words_of-words.ensures)
 
 pub returns : goal.returns
 returns c =
-    tracing-all c.requires.0 c.depth-steps.ensures c.loop-entry.invariant c.loop-entry-test.false
+    tracing-all c.requires.0 c.depth-steps.ensures c.loop-at.invariant (omega arith)

@@ -20,13 +20,13 @@ pub overflow_mul-result : goal.overflow_mul-result
 overflow_mul-result c =
     let a = c.args in
     let h = c.requires in
-    omega (arith, after_small a.modes a.last a.word a.level h.0 h.1 h.2 _ c.next_level-level.ensures)
+    omega (arith, after_small a.modes a.last a.colours a.level h.0 h.1 h.2 _ c.next_level-level.ensures)
 
 pub overflow_add-result : goal.overflow_add-result
 overflow_add-result c =
     let a = c.args in
     let h = c.requires in
-    omega (arith, after_small a.modes a.last a.word a.level h.0 h.1 h.2 _ c.next_level-level.ensures)
+    omega (arith, after_small a.modes a.last a.colours a.level h.0 h.1 h.2 _ c.next_level-level.ensures)
 
 pub returns : goal.returns
 unfolding node

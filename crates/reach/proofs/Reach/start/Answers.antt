@@ -1,20 +1,24 @@
 -- `Reach::start` meets its contract. Assumes nothing.
-use mathlib.Core.Path.{ap, ◌∙◌}
-use Rattle.refusals.specs.Refusals.{and_then}
-use Rattle.model.specs.Lists.{lists}
-use Rattle.reach.proofs.Calls.{tabled, fresh-told}
+use Rattle.std.proofs.lemmas.Result.{err_from_is_err_and}
+use Rattle.model.specs.Lists.{lists_of}
+use Rattle.reach.proofs.Calls.{tabled, start-refused, start-yes}
 use Rattle.reach.proofs.Reach.start.Goals as goal
 
-pub fresh-requires : goal.fresh-requires
-fresh-requires c =
+pub returns-in_err-model : goal.returns-in_err-model
+returns-in_err-model c =
     let a = c.args in
-    let l = lists a.sources.now a.targets.now a.draws.now a.gains.now a.colours.now a.actions.now in
-    tabled a.n a.start a.k l a.b a.c c.check_model-fitted.ensures
-    (c.and_then-verdict.ensures ∙ ap (and_then c.check_model-fitted.result.verdict) c.check_levels-levels.ensures)
+    let g = a.given.now in
+    let p = err_from_is_err_and c.from_residual.result c.from_residual.ensures.1 in
+    rw (p.1, p.2) (start-refused g.n g.start g.k (lists_of g.lists) a.b a.c _ c.in_err-model.ensures)
+
+pub table-charges-requires : goal.table-charges-requires
+table-charges-requires c =
+    let a = c.args in
+    let g = a.given.now in
+    tabled g.n g.start g.k (lists_of g.lists) a.b a.c _ c.in_ok-model.ensures
 
 pub returns : goal.returns
 returns c =
     let a = c.args in
-    let l = lists a.sources.now a.targets.now a.draws.now a.gains.now a.colours.now a.actions.now in
-    fresh-told a.n a.start a.k l a.b a.c c.check_model-fitted.ensures
-    (c.and_then-verdict.ensures ∙ ap (and_then c.check_model-fitted.result.verdict) c.check_levels-levels.ensures) c.fresh.ensures
+    let g = a.given.now in
+    start-yes g.n g.start g.k (lists_of g.lists) a.b a.c _ c.in_ok-model.ensures c.table-charges.ensures

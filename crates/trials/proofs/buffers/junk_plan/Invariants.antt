@@ -1,9 +1,0 @@
--- `buffers::junk_plan` is safe and ends: the list keeps its length. Assumes nothing.
-use Rattle.std.proofs.Common.{◌-◌, ◌≡◌, length}
-use Rattle.trials.proofs.buffers.junk_plan.Given as goal
-
-abbrev pub invariant-loop-i : goal.invariant-loop-i
-invariant-loop-i l = length l.plan ≡ length l.initial.plan
-
-abbrev pub decreases-loop-i : goal.decreases-loop-i
-decreases-loop-i l = length l.initial.plan - l.i
