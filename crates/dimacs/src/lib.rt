@@ -173,12 +173,15 @@ fn weight_ends(field: &[u8]) -> bool
     fields::is_only(fields::after_number(unsigned_of(field)), Bytes::FEED)
 }
 
-// Whether a line is an `a` line.
+// Whether a line is an `a` line. What `from_on`, `to_on` and `weight_field` look for is read in one pass here, since every line of the arcs is tried.
 #[tactic(auto, unfolding(crate::specs::Lines::is_arc))]
 fn is_arc(line: &[u8], n: u32) -> bool
     ensures { result ≡ is_arc n line.now }
 {
-    is_mode(n, from_on(line)) && is_mode(n, to_on(line)) && weight_ends(weight_field(line))
+    let from = fields::after_word(line, b"a ");
+    let to = fields::after_word(fields::after_number(from), b" ");
+    let weight = fields::after_word(fields::after_number(to), b" ");
+    is_mode(n, fields::number_of(from)) && is_mode(n, fields::number_of(to)) && weight_ends(weight)
 }
 
 // The place after the comments that a text begins with.

@@ -112,13 +112,15 @@ fn is_braces(s: &[u8], k: u32) -> bool
     closes(s) || are_colours(s, k)
 }
 
-// Whether a line is an edge's line.
+// Whether a line is an edge's line. What `target_of` and `inside_of` look for is read in one pass here, since every line of a body is tried.
 #[tactic(auto, unfolding(crate::specs::Lines::is_edge))]
 fn is_edge(line: &[u8], n: u32, k: u32) -> bool
     ensures { result ≡ is_edge n k line.now }
 {
-    let tail = fields::tail_after(line, b"[t] ");
-    target_of(line) < n && (fields::is_only(tail, Bytes::FEED) || is_braces(inside_of(line), k))
+    let rest = fields::after_word(line, b"[t] ");
+    let tail = fields::after_number(rest);
+    fields::number_of(rest) < n
+        && (fields::is_only(tail, Bytes::FEED) || is_braces(fields::after_word(tail, b" {"), k))
 }
 
 // The number of colours on an `Acceptance:` line.
@@ -250,8 +252,11 @@ fn is_new_block(body: &[u8], count: usize, blocks: Blocks, line: &[u8], n: u32) 
     requires { Knows blocks (take count (lines_of body.now)) }
     ensures { result ≡ is_new_block n (take count (lines_of body.now)) line.now }
 {
+    if !is_state(line) {
+        return false;
+    }
     let mode = state_of(line);
-    if !is_state(line) || mode >= n {
+    if mode >= n {
         return false;
     }
     if mode < Limits::MODES {
