@@ -108,9 +108,9 @@
  * THE CALLS. First the calls over a struct chargeplan_model, which have the model in one argument. They are inline functions over the
  * library's own entries, which come after them and take each list with a length of its own.
  *
- * COST. Stack, with the arguments on it: up to 12,800 bytes for judging, 22,200 for search, 21,200 for the decision, 23,700 for the least
- * credit and for the least bound, 200 for starting a gauge, 4,400 for a step of one, 14,900 for the walk, 600 for reading, 8,800 for the
- * join, 12,900 for the ward, however many wearers there are. Every call but reading and the ward reads the six lists of a model once; the
+ * COST. Stack, with the arguments on it: up to 8,800 bytes for judging, 22,200 for search, 21,200 for the decision, 21,600 for the least
+ * credit and for the least bound, 200 for starting a gauge and for a step of one, 10,900 for the walk, 600 for reading, 5,000 for the
+ * join, 8,900 for the ward, however many wearers there are. Every call but reading and the ward reads the six lists of a model once; the
  * ward reads them once for the call, and once more for each wearer. Judging then looks at 2 * p + 4 * q places of the plan at most, at q
  * more where barred is not 0, and the walk at p + q more, or at as many as the allowance for a barred colour that is not met. Search
  * decides first, as the decision does, and where there is no plan that is all; else its passes try arcs at most m * (b + 1) * (k + 2)
@@ -119,7 +119,7 @@
  * 255 arcs. The least credit and the least bound make at most 14 decisions each. The time of reading grows in proportion to the texts,
  * where the model is fit. The join looks at each pair of arcs twice, 65,025 pairs at most, in some 80 us. The ward takes as long as judging
  * for each wearer does: with 255 arcs and a plan of 64 some 1 us each, 0.7 of them for the lists. The time of a fresh reach, and of a
- * switching that changes a switch, does not grow with b: 4 to 11 us with 64 modes and 255 arcs, on 25,100 bytes of stack. docs/C-API.md
+ * switching that changes a switch, does not grow with b: 4 to 11 us with 64 modes and 255 arcs, on 24,800 bytes of stack. docs/C-API.md
  * says how this was counted and measured; the times are those of the library as an older toolchain built it.
  */
 #ifndef CHARGEPLAN_H

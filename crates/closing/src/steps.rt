@@ -8,7 +8,6 @@ ghost use Rattle.closing.specs.Stratum.{charge_most, stratum_of, leaving, leaves
 ghost use Rattle.closing.specs.Loops.{Moves, Steps};
 
 use crate::{Level, Stage};
-use model::has_bit;
 
 // Whether an arc with these required colours leaves the level.
 #[tactic(auto, unfolding(crate::specs::Stratum::leaves_by))]
@@ -16,7 +15,7 @@ fn leaves_by(level: Level, colours: u16) -> bool
     requires { level.last ≤ colours_most }
     ensures { result ≡ leaves_by level colours }
 {
-    level.every || level.level < level.last && has_bit(u64::from(colours), level.level)
+    level.every || level.level < level.last && (colours >> level.level) % 2 == 1
 }
 
 // Where an arc leads from a charge: whether it leaves the level, the mode and the charge.

@@ -3,7 +3,7 @@
 #![tactic(auto)]
 
 ghost use Rattle.std.specs.Prelude.{◌≡◌, set};
-ghost use Rattle.filling.specs.Filling.{lists_lent, SameLent, room_in, put, numbers_in};
+ghost use Rattle.filling.specs.Filling.{lists_lent, SameLent, room_of, room_in, put, numbers_in};
 
 use model::Arc;
 use refusals::Refusal;
@@ -22,6 +22,23 @@ pub fn numbers_in(told: Result<Numbers, Refusal>) -> Numbers
     ensures { result ≡ numbers_in told }
 {
     told.unwrap_or_default()
+}
+
+// How many arcs six lists of these lengths take: the length of the shortest.
+pub fn room(
+    sources: usize,
+    targets: usize,
+    draws: usize,
+    gains: usize,
+    colours: usize,
+    actions: usize,
+) -> usize
+    ensures { result ≡ room_of sources targets draws gains colours actions }
+{
+    let ends = sources.min(targets);
+    let parts = draws.min(gains);
+    let bytes = colours.min(actions);
+    ends.min(parts.min(bytes))
 }
 
 // A value written at place i of a list. Where the list has no such place, nothing is written.
@@ -49,10 +66,14 @@ impl LentLists<'_> {
     pub fn room(&self) -> usize
         ensures { result ≡ room_in (lists_lent self.now) }
     {
-        let ends = self.sources.len().min(self.targets.len());
-        let parts = self.draws.len().min(self.gains.len());
-        let bytes = self.colours.len().min(self.actions.len());
-        ends.min(parts.min(bytes))
+        room(
+            self.sources.len(),
+            self.targets.len(),
+            self.draws.len(),
+            self.gains.len(),
+            self.colours.len(),
+            self.actions.len(),
+        )
     }
 
     // An arc written at place i of each list.

@@ -1,24 +1,27 @@
--- What starting and stepping a gauge hand back, row by row: of a model, and by what check_model and check_levels answer. Assumes nothing.
-use Rattle.std.specs.Prelude.{None, Ok, Err}
+-- What starting and stepping a gauge hand back, row by row: of a model, of the lists of one, and by what check_fitness and check_levels answer.
+-- Assumes nothing.
+use Rattle.std.specs.Prelude.{Option, None, Ok, Err}
 use mathlib.Core.Path.{◌≡◌, refl, sym, ap, ◌∙◌}
-use mathlib.Core.Bool.{Bool, false, not, ◌||◌}
+use mathlib.Core.Bool.{Bool, true, false, not, ◌||◌}
 use mathlib.Core.Logic.{◌≢◌, ◌↔◌}
 use Prim.Native.Nat.{ℕ, ◌+◌, ◌≤◌, ◌<◌}
+use native.Mathlib.Omega.{arith}
 use lib.Dec.{eqb}
 use lib.ListN.{length}
 use borrow.Author.Tests.{le-leb, lt-leb, le-ltb, lt-ltb, eq-eqb, ne_eqb}
 use Rattle.limits.specs.Ceilings.{spill_most}
+use Rattle.walks.specs.declared.Step.{Step}
 use Rattle.walks.specs.BoundedStep.{to, stepped}
 use Rattle.refusals.specs.declared.Refusal.{Refusal}
 use Rattle.refusals.specs.declared.Refusal.TheVariants.{ArcNumber, OtherMode, ImpossibleStep, MixedGauge}
 use Rattle.refusals.specs.Refusals.{Verdict, refuse, and_then}
 use Rattle.refusals.proofs.Verdicts.{refuse-yes}
 use Rattle.refusals.proofs.Tests.{or_no, differ-no}
-use Rattle.model.specs.declared.Model.{Model}
+use Rattle.model.specs.declared.Arc.{Arc}
 use Rattle.model.specs.Automaton.{Automaton, arc_at, move_of}
-use Rattle.model.specs.Lists.{Lists, automaton_of, held}
-use Rattle.model.specs.Fitness.{fitted_of, levels_of}
-use Rattle.model.proofs.Held.{told-yes, told-refused, told-holds, told-held}
+use Rattle.model.specs.Lists.{Lists, arc_of, automaton_of}
+use Rattle.model.specs.Fitness.{fitness, levels_of}
+use Rattle.model.proofs.Arcs.{arcs-length, arcs-here}
 use Rattle.gauge.specs.declared.Gauge.{Gauge}
 use Rattle.gauge.specs.Gauge.{Gauged, gauge, gauge_or, moved_to, landed, started_of, moved_of, Matches, mixed_up, moved_matched, moved_levelled, stepped_of}
 
@@ -88,39 +91,62 @@ module _ (g : Automaton) (b a : ℕ) (x : Gauge) where
   unfolding moved_levelled
   levelled-by v e = ap {B = Gauged} (λ (v : Verdict). and_then v (moved_matched g b a x)) e
 
--- what a caller of check_model and check_levels answers: the refusal of the first that refuses, ..
+-- the same of the model of lists, of which the code reads the number and the one arc
+module _ (n s k : ℕ) (l : Lists) (b a : ℕ) (x : Gauge) where
+  abbrev g : Automaton
+  g = automaton_of n s k l
+
+  many : length g.arcs ≡ length l.sources
+  many = arcs-length l (length l.sources) 0
+
+  -- 22 applies
+  pub lists_mixed : mixed_up n (length l.sources) b x ≡ true → moved_matched g b a x ≡ Err MixedGauge
+  lists_mixed e = matched-by g b a x true (ap {B = Bool} (λ (m : ℕ). mixed_up n m b x) many ∙ e)
+
+  -- it does not
+  pub lists_matched : mixed_up n (length l.sources) b x ≡ false → moved_matched g b a x ≡ moved_of g b a x
+  lists_matched e = matched-by g b a x false (ap {B = Bool} (λ (m : ℕ). mixed_up n m b x) many ∙ e)
+
+  -- 12 applies
+  pub lists_number : length l.sources ≤ a → moved_of g b a x ≡ Err (ArcNumber 0)
+  lists_number h = moved-number g b a x (omega (arith, many))
+
+  module _ (y : Arc) (e : y ≡ arc_of l a) (h : a < length l.sources) where
+    here : arc_at g a ≡ y
+    here = arcs-here l (length l.sources) a h ∙ sym e
+
+    -- 12 does not apply to the arc y, and 13 does
+    pub lists_mode : y.source ≢ x.mode → moved_of g b a x ≡ Err (OtherMode 0)
+    lists_mode q = moved-mode g b a x (omega (arith, many)) (rw here q)
+
+    -- neither does: the bounded step, which answers f, decides
+    pub lists_lands : (f : Option Step) → f ≡ stepped b (move_of y) x.charge → y.source ≡ x.mode → moved_of g b a x ≡ landed x y.target f
+    lists_lands f p q = moved-lands g b a x (omega (arith, many)) (rw here q) ∙ rw (here, p) refl
+
+-- what a caller of check_fitness and check_levels answers: the refusal of the first that refuses, ..
 module _ (n s k : ℕ) (l : Lists) where
-  pub start_unfit : (b c : ℕ) (r : Refusal) → Err r ≡ fitted_of n s k l → started_of n s k l b c ≡ Err r
+  pub start_unfit : (b c : ℕ) (r : Refusal) → Err r ≡ fitness n s k l → started_of n s k l b c ≡ Err r
   unfolding started_of
-  start_unfit b c r told = rw (told-refused n s k l r told) refl
+  start_unfit b c r unfit = rw (sym unfit) refl
 
-  pub step_unfit : (b a : ℕ) (x : Gauge) (r : Refusal) → Err r ≡ fitted_of n s k l → stepped_of n s k l b a x ≡ Err r
+  pub step_unfit : (b a : ℕ) (x : Gauge) (r : Refusal) → Err r ≡ fitness n s k l → stepped_of n s k l b a x ≡ Err r
   unfolding stepped_of
-  step_unfit b a x r told = rw (told-refused n s k l r told) refl
+  step_unfit b a x r unfit = rw (sym unfit) refl
 
-  pub start_levels : (b c : ℕ) (g : Model) (r : Refusal) → Ok g ≡ fitted_of n s k l → Err r ≡ levels_of b c → started_of n s k l b c ≡ Err r
+  pub start_levels : (b c : ℕ) (r : Refusal) → Ok tt ≡ fitness n s k l → Err r ≡ levels_of b c → started_of n s k l b c ≡ Err r
   unfolding started_of
-  start_levels b c g r told e = rw (told-yes n s k l g told, sym e) refl
+  start_levels b c r fit e = rw (sym fit, sym e) refl
 
-  pub step_levels : (b a : ℕ) (x : Gauge) (g : Model) (r : Refusal) → Ok g ≡ fitted_of n s k l → Err r ≡ levels_of b x.charge → stepped_of n s k l b a x ≡ Err r
+  pub step_levels : (b a : ℕ) (x : Gauge) (r : Refusal) → Ok tt ≡ fitness n s k l → Err r ≡ levels_of b x.charge → stepped_of n s k l b a x ≡ Err r
   unfolding stepped_of
-  step_levels b a x g r told e = rw (told-yes n s k l g told, levelled-by (automaton_of n s k l) b a x (Err r) (sym e)) refl
+  step_levels b a x r fit e = rw (sym fit, levelled-by (automaton_of n s k l) b a x (Err r) (sym e)) refl
 
   -- .. or the new gauge, and 22 and what follows it
-  pub start_fit : (b c : ℕ) (g : Model) → Ok g ≡ fitted_of n s k l → Ok tt ≡ levels_of b c
-      → started_of n s k l b c ≡ Ok (gauge g.start c 0 g.modes g.count b)
+  pub start_fit : (b c : ℕ) → Ok tt ≡ fitness n s k l → Ok tt ≡ levels_of b c → started_of n s k l b c ≡ Ok (gauge s c 0 n (length l.sources) b)
   unfolding started_of
-  start_fit b c g told e =
-      let same = told-held n s k l g told in
-      let start : g.start ≡ s = ap {B = ℕ} (λ (g : Automaton). g.start) same in
-      let modes : g.modes ≡ n = ap {B = ℕ} (λ (g : Automaton). g.modes) same in
-      let count : g.count ≡ length (automaton_of n s k l).arcs =
-      sym (told-holds n s k l g told).count ∙ ap {B = ℕ} (λ (g : Automaton). length g.arcs) same
-      in
-      rw (told-yes n s k l g told, start, modes, count, sym e) refl
+  start_fit b c fit e = rw (sym fit, sym e, arcs-length l (length l.sources) 0) refl
 
-  pub step_fit : (b a : ℕ) (x : Gauge) (g : Model) → Ok g ≡ fitted_of n s k l → Ok tt ≡ levels_of b x.charge
-      → stepped_of n s k l b a x ≡ moved_matched (held g) b a x
+  pub step_fit : (b a : ℕ) (x : Gauge) → Ok tt ≡ fitness n s k l → Ok tt ≡ levels_of b x.charge
+      → stepped_of n s k l b a x ≡ moved_matched (automaton_of n s k l) b a x
   unfolding stepped_of
-  step_fit b a x g told e =
-      rw (told-yes n s k l g told, levelled-by (automaton_of n s k l) b a x (Ok tt) (sym e), told-held n s k l g told) refl
+  step_fit b a x fit e = rw (sym fit, levelled-by (automaton_of n s k l) b a x (Ok tt) (sym e)) refl

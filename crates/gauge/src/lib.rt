@@ -3,11 +3,11 @@
 
 ghost use Rattle.std.specs.Prelude.{◌≡◌, OnErr};
 ghost use Rattle.refusals.specs.Refusals.{verdict_of, answer_of};
-ghost use Rattle.model.specs.Lists.{lists_of, held};
-ghost use Rattle.model.specs.Fitness.{Holds};
+ghost use Rattle.model.specs.Lists.{lists_of, automaton_of};
+ghost use Rattle.model.specs.Fitness.{Header};
 ghost use Rattle.gauge.specs.Gauge.{no_gauge, gauge_or, started_of, started_answer, landed, moved_of, mixed_up, moved_matched, stepped_of, stepped_answer};
 
-use model::{Given, Model, check_levels, check_model};
+use model::{Given, check_fitness, check_levels};
 use refusals::Refusal;
 use walks::{Step, bounded_step};
 
@@ -53,17 +53,14 @@ impl Gauge {
         })
     }
 
-    // A step on an arc of the model: 12, 13 and 15, or the gauge moved on. `Holds model` stands in clauses: Model has no invariant, since crate
-    // groups reads models that are not fit; a struct around the model alone would be opened at once.
-    #[tactic(auto, unfolding(crate::specs::Gauge::moved_of))]
-    fn step_on(self, model: &Model, b: u16, arc: u32) -> Result<Gauge, Refusal>
-        requires { Holds model.now }
-        ensures { result ≡ moved_of (held model.now) b arc self }
+    // A step on an arc of the lists, which 1 to 4 let through: 12, 13 and 15, or the gauge moved on. It reads the one arc, and makes no `Model`, which
+    // is 2 KB of stack.
+    #[tactic(auto, using(crate::proofs::Gauges::lists_number, crate::proofs::Gauges::lists_mode, crate::proofs::Gauges::lists_lands))]
+    fn step_on(self, given: &Given, b: u16, arc: u32) -> Result<Gauge, Refusal>
+        requires { Header given.now.n given.now.start given.now.k (lists_of given.now.lists) }
+        ensures { result ≡ moved_of (automaton_of given.now.n given.now.start given.now.k (lists_of given.now.lists)) b arc self }
     {
-        if arc >= u32::from(model.count) {
-            return Err(Refusal::ArcNumber(0));
-        }
-        let taken = model.arcs[arc as usize];
+        let taken = given.lists.arc(arc as usize).ok_or(Refusal::ArcNumber(0))?;
         if taken.source != self.mode {
             return Err(Refusal::OtherMode(0));
         }
@@ -81,15 +78,15 @@ impl Gauge {
     }
 
     // Refusal 22, and the step, where 6 does not apply.
-    #[tactic(auto, unfolding(crate::specs::Gauge::moved_matched))]
-    fn step_matched(self, model: &Model, b: u16, arc: u32) -> Result<Gauge, Refusal>
-        requires { Holds model.now }
-        ensures { result ≡ moved_matched (held model.now) b arc self }
+    #[tactic(auto, using(crate::proofs::Gauges::lists_mixed, crate::proofs::Gauges::lists_matched))]
+    fn step_matched(self, given: &Given, b: u16, arc: u32) -> Result<Gauge, Refusal>
+        requires { Header given.now.n given.now.start given.now.k (lists_of given.now.lists) }
+        ensures { result ≡ moved_matched (automaton_of given.now.n given.now.start given.now.k (lists_of given.now.lists)) b arc self }
     {
-        if self.mixed_up(model.modes, model.count, b) {
+        if self.mixed_up(given.n as u8, given.lists.sources.len() as u8, b) {
             return Err(Refusal::MixedGauge);
         }
-        self.step_on(model, b, arc)
+        self.step_on(given, b, arc)
     }
 
     // A new gauge with the start mode and the credit c, which carries n, the number of arcs and b; or the first of 1 to 6 that applies. For all
@@ -100,14 +97,14 @@ impl Gauge {
         ensures refused { OnErr result (gauge_or no_gauge result ≡ no_gauge) }
         ensures answer { answer_of (verdict_of result) ≡ started_answer given.now.n given.now.start given.now.k (lists_of given.now.lists) b c }
     {
-        let model = check_model(given)?;
+        check_fitness(given)?;
         check_levels(c, b)?;
         Ok(Gauge {
-            mode: model.start,
+            mode: given.start as u8,
             charge: c as u16,
             spill: 0,
-            modes: model.modes,
-            arcs: model.count,
+            modes: given.n as u8,
+            arcs: given.lists.sources.len() as u8,
             bound: b as u16,
         })
     }
@@ -120,8 +117,9 @@ impl Gauge {
         ensures refused { OnErr result (gauge_or self result ≡ self) }
         ensures answer { answer_of (verdict_of result) ≡ stepped_answer given.now.n given.now.start given.now.k (lists_of given.now.lists) b arc self }
     {
-        let model = &check_model(given)?;
-        check_levels(u32::from(self.charge), b)?;
-        self.step_matched(model, b as u16, arc)
+        let charge = u32::from(self.charge);
+        check_fitness(given)?;
+        check_levels(charge, b)?;
+        self.step_matched(given, b as u16, arc)
     }
 }

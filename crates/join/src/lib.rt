@@ -13,7 +13,7 @@ ghost use Rattle.join.specs.Within.{joined_held, counted, ColoursFit, Below, Row
 
 use filling::{LentLists, Numbers};
 use limits::Limits;
-use model::{Arc, Given, Model, check_model};
+use model::{Arc, Given, Model, check_model_into};
 use refusals::Refusal;
 
 // The arcs of a model.
@@ -192,8 +192,10 @@ pub fn join(knee: &Given, habit: &Given, lists: &mut LentLists) -> Result<Number
     ensures lists { lists_lent lists.new ≡ lists_joined (given_of knee.now) (given_of habit.now) (lists_lent lists.old) }
     ensures same_lists { SameLent lists.old lists.new }
 {
-    let g = check_model(knee)?;
-    let h = check_model(habit)?;
+    let mut g = Model::blank();
+    check_model_into(knee, &mut g)?;
+    let mut h = Model::blank();
+    check_model_into(habit, &mut h)?;
     let both = Both {
         knee: &g,
         habit: &h,

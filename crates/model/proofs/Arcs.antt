@@ -106,39 +106,56 @@ module _ (l : Lists) where
     unfolding arcs_verdict
     verdict-none m i h = let e : m - i ≡ 0 = omega arith in rw e refl
 
--- the state of the one pass at arc i: i arcs are copied, and the verdict is that on the others
-pub record Copying (n power : ℕ) (l : Lists) (arcs : List Arc) (i : ℕ) : Type 0 where
+-- the state of a pass at arc i: i arcs are fit, and the verdict is that on the others
+pub record Checking (n power : ℕ) (l : Lists) (i : ℕ) : Type 0 where
   pub within : i ≤ length l.sources
-  pub filled : Filled l i arcs
   pub verdict : arcs_fitness n power l ≡ arcs_verdict n power (arcs_from l (length l.sources - i) i) i
 
+-- the state of the pass that copies: the i arcs are in the array too
+pub record Copying (n power : ℕ) (l : Lists) (arcs : List Arc) (i : ℕ) : Type 0 where
+  pub checked : Checking n power l i
+  pub filled : Filled l i arcs
+
 module _ (n power : ℕ) (l : Lists) where
-  pub copying-none : Copying n power l (replicate arcs_most no_arc) 0
-  copying-none =
+  pub checking-none : Checking n power l 0
+  checking-none =
       let e : length l.sources - 0 ≡ length l.sources = omega arith in
-      record { within = omega arith; filled = filled_none l; verdict = rw e refl }
+      record { within = omega arith; verdict = rw e refl }
+
+  module _ (i : ℕ) (state : Checking n power l i) where
+    -- an arc that is fit lets the pass go on
+    pub checking-more : (x : Arc) → i < length l.sources → x ≡ arc_of l i → unfit_arc n power x ≡ false → Checking n power l (i + 1)
+    checking-more x h e fit =
+        record { within = omega arith; verdict = state.verdict ∙ verdict-more l n power (length l.sources) i h ∙ rw (sym e, fit) refl }
+
+    -- the first that is unfit is the verdict
+    pub checking-unfit : (x : Arc) → i < length l.sources → x ≡ arc_of l i → unfit_arc n power x ≡ true → arcs_fitness n power l ≡ Err (UnfitArc i)
+    checking-unfit x h e unfit = state.verdict ∙ verdict-more l n power (length l.sources) i h ∙ rw (sym e, unfit) refl
+
+    -- past the last arc the verdict is yes
+    pub checking-done : length l.sources ≤ i → arcs_fitness n power l ≡ Ok tt
+    checking-done h = state.verdict ∙ verdict-none l n power (length l.sources) i h
+
+  pub copying-none : Copying n power l (replicate arcs_most no_arc) 0
+  copying-none = record { checked = checking-none; filled = filled_none l }
 
   module _ (arcs : List Arc) (i : ℕ) (state : Copying n power l arcs i) where
     -- an arc that is fit is copied
     pub copying-more : (x : Arc) → i < length l.sources → length l.sources ≤ arcs_most → x ≡ arc_of l i → unfit_arc n power x ≡ false
         → Copying n power l (set arcs i x) (i + 1)
     copying-more x h few e fit =
-        record {
-          within = omega arith;
-          filled = filled_more l i arcs x (omega arith) e state.filled;
-          verdict = state.verdict ∙ verdict-more l n power (length l.sources) i h ∙ rw (sym e, fit) refl;
-        }
+        record { checked = checking-more i state.checked x h e fit; filled = filled_more l i arcs x (omega arith) e state.filled }
 
     -- the first that is unfit is the verdict
     pub copying-unfit : (x : Arc) → i < length l.sources → x ≡ arc_of l i → unfit_arc n power x ≡ true
         → arcs_fitness n power l ≡ Err (UnfitArc i)
-    copying-unfit x h e unfit = state.verdict ∙ verdict-more l n power (length l.sources) i h ∙ rw (sym e, unfit) refl
+    copying-unfit = checking-unfit i state.checked
 
     -- past the last arc the verdict is yes, and the array has every arc
     pub copying-done : length l.sources ≤ i → EqualLists l → (arcs_fitness n power l ≡ Ok tt) × (arcs ≡ arcs_from l arcs_most 0)
     copying-done h equal =
-        let e : i ≡ length l.sources = omega (arith, state.within) in
-        (state.verdict ∙ verdict-none l n power (length l.sources) i h, filled-all l arcs equal (rw e at state.filled))
+        let e : i ≡ length l.sources = omega (arith, state.checked.within) in
+        (checking-done i state.checked h, filled-all l arcs equal (rw e at state.filled))
 
 -- what the pass hands back is what the definition says
 module _ (n s k power : ℕ) (l : Lists) (two-to-k : power ≡ 2 ^ k) where

@@ -42,6 +42,10 @@ colours-below x k = (to, from)
     from : ((j : ℕ) → k ≤ j → bit x j ≡ false) → x < 2 ^ k
     from f = cleared x k x (omega (arith, below-pow x, pow_mono {i = x} {j = k + x} (omega arith))) f
 
+-- a word of 64 bits has none above them
+pub word_bits : (w i : ℕ) → w < 2 ^ 64 → 64 ≤ i → bit w i ≡ false
+word_bits w i h = (colours-below w 64).0 h i
+
 -- the byte 0 has no bit
 pub bit-zero : (j : ℕ) → bit 0 j ≡ false
 bit-zero j = (colours-below 0 0).0 (omega arith) j (omega arith)

@@ -142,6 +142,11 @@ pub arcs-first : (n power : ℕ) (l : List Arc) (d : ℕ) → (arcs_verdict n po
     ↔ FirstOf (λ j. unfit_arc n power (get_or l j no_arc)) (length l) d
 arcs-first n power l = scan-first _ UnfitArc (length l) (λ k. arcs_verdict n power (drop k l) k) (arcs-scan n power l)
 
+-- where the verdict is yes, none of 1 to 4 applies
+pub fitness-header : (n s k : ℕ) (l : Lists) → fitness n s k l ≡ Ok tt → Header n s k l
+unfolding fitness
+fitness-header n s k l e = (header-yes n s k l).0 ((and-then-yes (header_of n s k l) (arcs_fitness n (2 ^ k) l)).0 e).0
+
 -- the verdict is yes exactly for six equal lists and a fit model
 pub fitness-yes : (n s k : ℕ) (l : Lists) → (fitness n s k l ≡ Ok tt) ↔ (EqualLists l × Fit (automaton_of n s k l))
 unfolding fitness
@@ -149,7 +154,7 @@ fitness-yes n s k l =
     let arcs = arcs_of l in
     let both = and-then-yes (header_of n s k l) (arcs_fitness n (2 ^ k) l) in (
       λ e.
-          let h = (header-yes n s k l).0 (both.0 e).0 in
+          let h = fitness-header n s k l e in
           let f = (arcs-yes n (2 ^ k) arcs).0 (both.0 e).1 in (
             h.equal,
             record {
@@ -196,15 +201,23 @@ pub levels-yes : (b c : ℕ) → (levels_of b c ≡ Ok tt) ↔ ((b ≤ bound_mos
 unfolding levels_of
 levels-yes b c = levels-within-yes bound_most b c
 
--- what is handed back, by the verdict on 1 to 4
+-- by the verdict on 1 to 4: what fitness is, and what is handed back
 module _ (n s k : ℕ) (l : Lists) where
+  pub fitness-through : header_of n s k l ≡ Ok tt → fitness n s k l ≡ arcs_fitness n (2 ^ k) l
+  unfolding fitness
+  fitness-through e = rw e refl
+
+  pub fitness-stopped : (r : Refusal) → header_of n s k l ≡ Err r → fitness n s k l ≡ Err r
+  unfolding fitness
+  fitness-stopped r e = rw e refl
+
   pub fitted-through : header_of n s k l ≡ Ok tt → fitted_arcs n s k l ≡ fitted_of n s k l
-  unfolding fitted_of fitness
-  fitted-through e = rw e refl
+  unfolding fitted_of
+  fitted-through e = rw (fitness-through e) refl
 
   pub fitted-stopped : (r : Refusal) → header_of n s k l ≡ Err r → Err r ≡ fitted_of n s k l
-  unfolding fitted_of fitness
-  fitted-stopped r e = rw e refl
+  unfolding fitted_of
+  fitted-stopped r e = rw (fitness-stopped r e) refl
 
 -- What a caller of check_model learns: its verdict is fitness, ..
 pub fitted-verdict : (n s k : ℕ) (l : Lists) → verdict_of (fitted_of n s k l) ≡ fitness n s k l

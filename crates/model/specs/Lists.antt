@@ -1,12 +1,12 @@
 -- The model of six lent lists, and the model as the code holds it. Document 01: "Arcs come as four lent lists of equal length"; document 02,
 -- Ask 4: "a draw and a gain .. in two lent lists that replace the weights'"; Ask 5: "Give every arc an action byte .. in one more lent list".
-use Rattle.std.specs.Prelude.{ℕ, zero, suc, List, [], ◌∷◌, map, ℤ, length, get_or, take}
+use Rattle.std.specs.Prelude.{ℕ, zero, suc, List, [], ◌∷◌, map, ℤ, length, get_or, take, replicate}
 use Rattle.limits.specs.Ceilings.{arcs_most}
 use Rattle.walks.specs.Weights.{draw_of, gain_of}
 use Rattle.model.specs.declared.Arc.{Arc}
 use Rattle.model.specs.declared.Model.{Model}
 use Rattle.model.specs.declared.Lists as lent
-use Rattle.model.specs.Automaton.{Automaton}
+use Rattle.model.specs.Automaton.{Automaton, no_arc}
 
 pub record Lists : Type 0 where
   pub sources : List ℕ
@@ -56,6 +56,10 @@ automaton_of n s k l = record { modes = n; start = s; colours = k; arcs = arcs_o
 -- the same as the code holds it: all places of the array are there, and those past the last arc are blank
 abbrev pub model_of : ℕ → ℕ → ℕ → Lists → Model
 model_of n s k l = record { modes = n; start = s; colours = k; count = length l.sources; arcs = arcs_from l arcs_most 0 }
+
+-- what a model is written into
+abbrev pub blank_model : Model
+blank_model = record { modes = 0; start = 0; colours = 0; count = 0; arcs = replicate arcs_most no_arc }
 
 -- the model that the code's value stands for
 abbrev pub held : Model → Automaton

@@ -1,11 +1,12 @@
 // The model as one value, and the checks that every call begins with: fitness (1 to 5) and levels (6).
 #![tactic(auto)]
 
-ghost use Rattle.std.specs.Prelude.{◌≡◌, ◌≤◌, ◌<◌, ◌^◌, length};
+ghost use Rattle.std.specs.Prelude.{◌≡◌, ◌≤◌, ◌<◌, ◌^◌, length, Ok, None, IfSome};
 ghost use Rattle.limits.specs.Ceilings.{colours_most};
+ghost use Rattle.refusals.specs.Refusals.{and_then};
 ghost use Rattle.model.specs.Automaton.{bit};
-ghost use Rattle.model.specs.Lists.{lists_of, arc_of};
-ghost use Rattle.model.specs.Fitness.{unfit_lists, header, unfit_arc, EqualLists, Header, fitted_arcs, fitted_of, levels_within, levels_of};
+ghost use Rattle.model.specs.Lists.{lists_of, arc_of, blank_model};
+ghost use Rattle.model.specs.Fitness.{unfit_lists, header, unfit_arc, EqualLists, Header, arcs_fitness, fitness, fitted_arcs, fitted_of, levels_within, levels_of};
 
 use limits::Limits;
 use refusals::Refusal;
@@ -42,6 +43,21 @@ pub struct Model {
     pub arcs: [Arc; Limits::ARCS],
 }
 
+impl Model {
+    // A model with no mode and no arc, which is not fit: what a model is written into.
+    pub fn blank() -> Model
+        ensures { result ≡ blank_model }
+    {
+        Model {
+            modes: 0,
+            start: 0,
+            colours: 0,
+            count: 0,
+            arcs: [NO_ARC; Limits::ARCS],
+        }
+    }
+}
+
 // The six lists of a model's arcs, as C lends them: an arc stands at one place of each. Nothing is known of their lengths.
 #[derive(Clone, Copy)]
 pub struct Lists<'a> {
@@ -64,12 +80,29 @@ pub struct Given<'a> {
     pub lists: Lists<'a>,
 }
 
-// Whether a word has bit i.
+impl Lists<'_> {
+    // The arc with this number, if there is one: for lists that are equally long, where it is below their length.
+    pub fn arc(&self, a: usize) -> Option<Arc>
+        ensures some { IfSome result (λ x. (a < length self.now.sources.now) × (x ≡ arc_of (lists_of self.now) a)) }
+        ensures none { EqualLists (lists_of self.now) → result ≡ None → length self.now.sources.now ≤ a }
+    {
+        Some(Arc {
+            source: *self.sources.get(a)?,
+            target: *self.targets.get(a)?,
+            draw: *self.draws.get(a)?,
+            gain: *self.gains.get(a)?,
+            colours: *self.colours.get(a)?,
+            action: *self.actions.get(a)?,
+        })
+    }
+}
+
+// Whether a word has bit i: above the 64 bits it has none.
+#[tactic(auto, using(crate::proofs::Bits::word_bits))]
 pub fn has_bit(word: u64, i: usize) -> bool
-    requires { i < 64 }
     ensures { result ≡ bit word i }
 {
-    (word >> i) % 2 == 1
+    i < 64 && (word >> i) % 2 == 1
 }
 
 // Refusal 3, from the lengths of the six lists.
@@ -165,36 +198,70 @@ fn arc_at(lists: &Lists, i: usize) -> Arc
     }
 }
 
-// Refusal 5, and the model, from numbers and lists that 1 to 4 let through: one pass that checks each arc and copies it.
-fn check_arcs(given: &Given) -> Result<Model, Refusal>
+// Refusal 5, from numbers and lists that 1 to 4 let through, and the model, written into the lent one: one pass that checks each arc and copies it.
+fn check_arcs(given: &Given, model: &mut Model) -> Result<(), Refusal>
     requires { Header given.now.n given.now.start given.now.k (lists_of given.now.lists) }
-    ensures { result ≡ fitted_arcs given.now.n given.now.start given.now.k (lists_of given.now.lists) }
+    ensures { and_then result (Ok model.new) ≡ fitted_arcs given.now.n given.now.start given.now.k (lists_of given.now.lists) }
 {
     let lists = given.lists;
     let count = lists.sources.len();
     let power = two_to(given.k);
-    let mut arcs = [NO_ARC; Limits::ARCS];
+    *model = Model {
+        modes: given.n as u8,
+        start: given.start as u8,
+        colours: given.k as u8,
+        count: count as u8,
+        arcs: [NO_ARC; Limits::ARCS],
+    };
     for i in 0..count {
         let arc = arc_at(&lists, i);
         if unfit_arc(arc, given.n, power) {
             return Err(Refusal::UnfitArc(i as u32));
         }
-        arcs[i] = arc;
+        model.arcs[i] = arc;
     }
-    Ok(Model {
-        modes: given.n as u8,
-        start: given.start as u8,
-        colours: given.k as u8,
-        count: count as u8,
-        arcs,
-    })
+    Ok(())
 }
 
-// Fitness of a model: the first of 1 to 5 that applies, or the model. For all numbers and lists.
-pub fn check_model(given: &Given) -> Result<Model, Refusal>
-    ensures { result ≡ fitted_of given.now.n given.now.start given.now.k (lists_of given.now.lists) }
+// Refusal 5 alone, from numbers and lists that 1 to 4 let through: one pass that checks each arc and keeps none.
+fn check_each_arc(given: &Given) -> Result<(), Refusal>
+    requires { Header given.now.n given.now.start given.now.k (lists_of given.now.lists) }
+    ensures { result ≡ arcs_fitness given.now.n (2 ^ given.now.k) (lists_of given.now.lists) }
+{
+    let power = two_to(given.k);
+    for i in 0..given.lists.sources.len() {
+        let arc = arc_at(&given.lists, i);
+        if unfit_arc(arc, given.n, power) {
+            return Err(Refusal::UnfitArc(i as u32));
+        }
+    }
+    Ok(())
+}
+
+// Fitness alone, for callers that go on with the lists: a `Model` takes 2 KB of stack, and as much again wherever it is handed on. The first of 1 to 5
+// that applies. For all numbers and lists.
+pub fn check_fitness(given: &Given) -> Result<(), Refusal>
+    ensures { result ≡ fitness given.now.n given.now.start given.now.k (lists_of given.now.lists) }
+{
+    check_header(given.n, given.start, given.k, unfit_lists(&given.lists))?;
+    check_each_arc(given)
+}
+
+// Fitness of a model: the first of 1 to 5 that applies, or the model, written into the lent one. For callers that hold two: of a `Result` with a model `?`
+// makes a copy of 2 KB. What stands in the lent one before does not matter, and after a refusal nothing is said of it. For all numbers and lists.
+pub fn check_model_into(given: &Given, model: &mut Model) -> Result<(), Refusal>
+    ensures { and_then result (Ok model.new) ≡ fitted_of given.now.n given.now.start given.now.k (lists_of given.now.lists) }
 {
     let unfit = unfit_lists(&given.lists);
     check_header(given.n, given.start, given.k, unfit)?;
-    check_arcs(given)
+    check_arcs(given, model)
+}
+
+// The same by value: the first of 1 to 5 that applies, or the model. For all numbers and lists.
+pub fn check_model(given: &Given) -> Result<Model, Refusal>
+    ensures { result ≡ fitted_of given.now.n given.now.start given.now.k (lists_of given.now.lists) }
+{
+    let mut model = Model::blank();
+    check_model_into(given, &mut model)?;
+    Ok(model)
 }

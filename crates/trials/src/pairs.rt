@@ -1,8 +1,12 @@
 // Pairs of a mode and a charge, as numbers from 0 on, and the pair that an arc leads to from another.
+ghost use Rattle.std.specs.Prelude.{◌≤◌, IfSome};
+
 use crate::models::Arc;
 
 // The charge that a draw and a gain lead to, cut off at the bound; none where the charge is less than the draw.
-fn charge_after(charge: u32, draw: u16, gain: u16, bound: u32) -> Option<u32> {
+fn charge_after(charge: u32, draw: u16, gain: u16, bound: u32) -> Option<u32>
+    ensures { IfSome result (λ after. after ≤ bound) }
+{
     let rest = charge.checked_sub(u32::from(draw))?;
     Some(rest.saturating_add(u32::from(gain)).min(bound))
 }

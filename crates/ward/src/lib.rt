@@ -7,7 +7,7 @@ ghost use Rattle.ward.specs.Ward.{verdict_of, ward_fitness, WardOf};
 ghost use Rattle.ward.specs.Turns.{after_verdict};
 
 use judge::{GivenPlan, judge};
-use model::{Given, Lists, check_model};
+use model::{Given, Lists, check_fitness};
 use refusals::{Answer, Refusal};
 
 // A wearer: start mode, credit, bound, and the verdict, which is 0 for yes or the number of a refusal: C has the same struct, and reads the number.
@@ -22,16 +22,16 @@ pub struct Wearer {
 
 // The model of a ward: yes, or the first of 1, 3, 4 and 5 that applies. Each wearer has a start mode of its own: 0 stands for it here, which is
 // below every n that 1 does not refuse, so that 2 is not answered.
+#[tactic(auto, unfolding(crate::specs::Ward::ward_fitness))]
 fn check_ward(n: u32, k: u32, lists: &Lists) -> Result<(), Refusal>
     ensures { result ≡ ward_fitness n k (lists_of lists.now) }
 {
-    check_model(&Given {
+    check_fitness(&Given {
         n,
         start: 0,
         k,
         lists: *lists,
-    })?;
-    Ok(())
+    })
 }
 
 // The number that judging gives for a wearer, 0 for yes. A verdict is its number here: C reads the list, and first_other and WardOf speak of numbers.

@@ -1,11 +1,11 @@
--- `model::check_model` meets its contract: the verdict on 1 to 4 decides who answers. Assumes nothing.
+-- `model::check_model_into` meets its contract: the verdict on 1 to 4 decides who answers. Assumes nothing.
 use mathlib.Core.Path.{sym, ap, ◌∙◌}
 use Rattle.std.proofs.lemmas.Result.{err_from_is_err_and}
 use Rattle.refusals.specs.Refusals.{Verdict}
 use Rattle.model.specs.Lists.{lists_of}
 use Rattle.model.specs.Fitness.{header}
 use Rattle.model.proofs.Fitness.{header-yes, fitted-through, fitted-stopped}
-use Rattle.model.proofs.check_model.Goals as goal
+use Rattle.model.proofs.check_model_into.Goals as goal
 
 pub check_arcs-requires : goal.check_arcs-requires
 check_arcs-requires c =
